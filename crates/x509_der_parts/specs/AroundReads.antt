@@ -1,0 +1,84 @@
+-- Reading an element by way of its content.
+use Rattle.std.proofs.Common.{◌≡◌, ℕ, ◌+◌, ◌*◌, ◌≤◌, List, [], ◌++◌, length, refl, sym, ap, subst, ⊎_elim, ◌∙◌, arith, append-nil, length-append}
+use Rattle.std.proofs.lemmas.List.{append_cancel_left, length-map}
+use Rattle.x509_der_parts.specs.Element.{element, header}
+use Rattle.x509_der_parts.specs.ElementFacts.{element_one, element_length, header_long}
+use Rattle.x509_der_parts.specs.Tally.{Tally, inside, moved}
+use Rattle.x509_der_parts.specs.TallyFacts.{inside_headers}
+use Rattle.x509_der_parts.specs.Shape.{Shape, Lawful}
+use Rattle.x509_der_parts.specs.Around.{OwesInside, around}
+use Rattle.x509_der_parts.specs.Reading.{Cursor, Ready, Moved, Accepts, Refuses, Entered, Leaves}
+use Rattle.x509_der_parts.specs.Moving.{ready_after, moved_inside}
+use Rattle.x509_der_parts.specs.declared.errors.ReadError.{ReadError}
+use Rattle.x509_der_parts.specs.declared.errors.ReadError.TheVariants.{OutOfMemory}
+
+module _ {V : Type 0} (t : ℕ) (s : Shape V) (l : Lawful s) where
+  around_cost : (c : List ℕ) (v : V) (y : Tally) → s.spelled v c y → (2 * (inside (header c) y).headers ≤ length (element t c)) × (length ((inside (header c) y).marks) ≤ (inside (header c) y).headers)
+  unfolding inside
+  around_cost c v y a = (omega (arith, l.cost v c y a, element_length t c, header_long c), omega (arith, l.few v c y a, length-map y.marks (moved (header c))))
+
+  inner_least : (old inner : Cursor) (after : List ℕ) (i : ℕ) → Entered t old inner after → (k : OwesInside t s old.rest i) → s.least inner.rest k.inner
+  inner_least old inner after i n k =
+      let P : List ℕ → Type 0 = λ x. s.least x k.inner in
+      subst P (sym (element_one t t inner.rest k.content after k.after (sym n.bytes ∙ k.bytes)).content) k.least
+
+  pub around_accepts : (old inner end new : Cursor) (after : List ℕ) (v : V) → Ready old → Entered t old inner after → Accepts s inner end v → end.rest ≡ [] → Leaves end new after → Accepts (around t s) old new v
+  around_accepts old inner end new after v r n a done f =
+      let m = moved_inside t old inner end new after a.bytes a.tally n a.moved done f in
+      let cost = around_cost a.bytes v a.tally a.spelled in
+      let c : inner.rest ≡ a.bytes = a.moved.rest ∙ ap (λ x. a.bytes ++ x) done ∙ append-nil a.bytes in
+      record {
+        bytes = element t a.bytes;
+        tally = inside (header a.bytes) a.tally;
+        spelled = record { content = a.bytes; part = a.tally; spelled = a.spelled; bytes = refl; tally = refl };
+        moved = m;
+        ready = ready_after old new (element t a.bytes) (inside (header a.bytes) a.tally) r m cost.0 cost.1;
+        owes = λ i j. ⊎_elim (λ k. omega (arith, k, inside_headers (header a.bytes) a.tally)) (λ k. let h2 = a.owes k.inner (inner_least old inner after i n k) in omega (arith, h2, k.sum, inside_headers (header a.bytes) a.tally)) j;
+        only = λ w p q z b e g.
+            let k1 = element_one t t a.bytes b.content new.rest q (sym m.rest ∙ e ∙ ap (λ x. x ++ q) b.bytes) in
+            let kc = k1.content in
+            let o = a.only w b.content [] b.part b.spelled (c ∙ kc ∙ sym (append-nil b.content)) tt in
+            let bb = b.bytes in
+            let bt = b.tally in
+            let ot = o.tally in
+            let ob = o.bytes in
+            record { value = o.value; bytes = bb ∙ ap (element t) ob; tally = bt ∙ ap (λ x. inside (header x) b.part) ob ∙ ap (inside (header a.bytes)) ot };
+      }
+
+  -- no element with the tag stands there
+  pub around_wrong : (old new : Cursor) (e : ReadError) → (e ≡ OutOfMemory → ⊥) → new.headers ≡ old.headers + 1 → ((c q : List ℕ) → old.rest ≡ element t c ++ q → ⊥) → Refuses (around t s) old new e
+  around_wrong old new e m h n = record {
+    spares = λ f p. m;
+    grows = omega arith;
+    bound = omega arith;
+    owes = λ m i j. ⊎_elim (λ k. omega (arith, k)) (λ k. absurd (n k.content k.after k.bytes)) j;
+    none = λ m w p q z b g f. n b.content q (g ∙ ap (λ x. x ++ q) b.bytes);
+  }
+
+  -- its content is refused
+  pub around_refuses : (old inner end new : Cursor) (after : List ℕ) (e : ReadError) → Entered t old inner after → Refuses s inner end e → new.headers ≡ end.headers → Refuses (around t s) old new e
+  around_refuses old inner end new after e n a h = record {
+    spares = λ f p. a.spares f (n.places ∙ p);
+    grows = omega (arith, a.grows, n.headers);
+    bound = omega (arith, a.bound, n.headers, ap length n.bytes, length-append (element t inner.rest) after, element_length t inner.rest, header_long inner.rest);
+    owes = λ m i j. ⊎_elim (λ k. omega (arith, k, a.grows, n.headers)) (λ k. let h2 = a.owes m k.inner (inner_least old inner after i n k) in omega (arith, h2, k.sum, n.headers)) j;
+    none = λ m w p q z b g f.
+        let k1 = element_one t t inner.rest b.content after q (sym n.bytes ∙ g ∙ ap (λ x. x ++ q) b.bytes) in
+        a.none m w b.content [] b.part b.spelled (k1.content ∙ sym (append-nil b.content)) tt;
+  }
+
+  -- bytes are left over in its content
+  pub around_left_over : (old inner end new : Cursor) (after : List ℕ) (v : V) (e : ReadError) → (e ≡ OutOfMemory → ⊥) → Entered t old inner after → Accepts s inner end v → (end.rest ≡ [] → ⊥) → new.headers ≡ end.headers → Refuses (around t s) old new e
+  around_left_over old inner end new after v e nm n a more h =
+      let m = a.moved in
+      record {
+        spares = λ f p. nm;
+        grows = omega (arith, m.headers, n.headers);
+        bound = omega (arith, m.headers, n.headers, l.cost v a.bytes a.tally a.spelled, ap length m.rest, length-append a.bytes end.rest, ap length n.bytes, length-append (element t inner.rest) after, element_length t inner.rest, header_long inner.rest);
+        owes = λ x i j. ⊎_elim (λ k. omega (arith, k, m.headers, n.headers)) (λ k. let h2 = a.owes k.inner (inner_least old inner after i n k) in omega (arith, h2, k.sum, m.headers, n.headers)) j;
+        none = λ x w p q z b g f.
+            let k1 = element_one t t inner.rest b.content after q (sym n.bytes ∙ g ∙ ap (λ x. x ++ q) b.bytes) in
+            let o = a.only w b.content [] b.part b.spelled (k1.content ∙ sym (append-nil b.content)) tt in
+            let e1 : a.bytes ++ end.rest ≡ a.bytes ++ [] = sym m.rest ∙ k1.content ∙ o.bytes ∙ sym (append-nil a.bytes) in
+            more (append_cancel_left a.bytes end.rest [] e1);
+      }

@@ -1,0 +1,51 @@
+-- What the calls on whole values give.
+use Rattle.std.specs.Prelude.{◌≡◌, ◌↔◌, ℕ, ◌+◌, ◌*◌, ◌≤◌, ◌<◌, ◌^◌, List, [], ◌++◌, length, drop, sum, Result, Ok, Err}
+use Rattle.x509_der_parts.specs.Placing.{Placing}
+use Rattle.x509_der_parts.specs.Tally.{Tally, Mark, counts_of}
+use Rattle.x509_der_parts.specs.Shape.{Shape}
+use Rattle.x509_der_parts.specs.declared.errors.ReadError.{ReadError}
+use Rattle.x509_der_parts.specs.declared.errors.ReadError.TheVariants.{OutOfMemory}
+use Rattle.x509_der_parts.specs.declared.errors.SliceError.{SliceError}
+use Rattle.x509_der_parts.specs.declared.errors.SliceError.TheVariants as slice
+
+-- the whole string is spelled with the value, and it is the value's strict spelling exactly where no deviation stands in it
+pub record IsWhole {V : Type 0} (s : Shape V) (string : List ℕ) (v : V) (y : Tally) : Type 0 where
+  pub spelled : s.spelled v string y
+  pub strict : (string ≡ s.strict v) ↔ (y.marks ≡ [])
+
+-- a refusal for anything but memory: the string is spelled with no value
+abbrev pub NoWhole : {V : Type 0} → Shape V → List ℕ → ReadError → Type 0
+NoWhole s string e = (e ≡ OutOfMemory → ⊥) → (v : _) (y : Tally) → s.spelled v string y → ⊥
+
+-- the value that the whole string is spelled with, and every other string refused
+abbrev pub WholeRead : {V : Type 0} → Shape V → List ℕ → Result V ReadError → Type 0
+WholeRead s string (Ok v) = (y : Tally) × IsWhole s string v y
+WholeRead s string (Err e) = NoWhole s string e
+
+-- the same, with the ten counts
+pub record Counted {V : Type 0} (s : Shape V) (string : List ℕ) (v : V) (counts : List ℕ) : Type 0 where
+  pub tally : Tally
+  pub whole : IsWhole s string v tally
+  pub counted : counts ≡ counts_of tally.marks
+
+abbrev pub CountedRead : {V : Type 0} → Shape V → List ℕ → Result (V × List ℕ) ReadError → Type 0
+CountedRead s string (Ok r) = Counted s string r.0 r.1
+CountedRead s string (Err e) = NoWhole s string e
+
+-- on accepted input the number is that of the headers of the spelling, at least the total of deviations; on refused input it is at least what is owed
+abbrev pub MeteredRead : {V : Type 0} → Shape V → List ℕ → Result (V × List ℕ) ReadError → ℕ → Type 0
+MeteredRead s string (Ok r) headers = ((y : Tally) → s.spelled r.0 string y → headers ≡ y.headers) × (sum r.1 ≤ headers)
+MeteredRead s string (Err e) headers = (e ≡ OutOfMemory → ⊥) → (n : ℕ) → s.least string n → n ≤ headers
+
+-- the value, and where the marks of its spelling stand: within the input, by start and then by kind
+pub record Located {V : Type 0} (s : Shape V) (string : List ℕ) (v : V) (places : List Mark) : Type 0 where
+  pub tally : Tally
+  pub whole : IsWhole s string v tally
+  pub marks : places ≡ tally.marks
+  pub placing : Placing (length string) places
+
+-- the slice's front is filled with the string; or nothing is written, since the length passes usize or the slice is shorter
+abbrev pub FitsSlice : List ℕ → List ℕ → List ℕ → Result ℕ SliceError → Type 0
+FitsSlice string old new (Ok n) = (n ≡ length string) × (new ≡ string ++ drop (length string) old)
+FitsSlice string old new (Err slice.TooLong) = (new ≡ old) × (2 ^ 64 ≤ length string)
+FitsSlice string old new (Err slice.TooShort) = (new ≡ old) × (length string < 2 ^ 64) × (length old < length string)

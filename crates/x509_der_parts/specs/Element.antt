@@ -1,0 +1,28 @@
+-- Elements: one tag byte, length digits, content (X.690, 8.1 and 10.1).
+use Rattle.std.specs.Prelude.{ℕ, zero, suc, ◌+◌, ◌/◌, ◌*◌, ◌%◌, ◌==◌, nat_lt, if◌then◌else◌, List, [], ◌∷◌, ◌++◌, length}
+
+-- the digits of n in base 256, the highest first, in front of tail; fuel is at least n
+abbrev pub base256 : ℕ → ℕ → List ℕ → List ℕ
+base256 zero n tail = tail
+base256 (suc fuel) n tail = if n == 0 then tail else base256 fuel (n / 256) (n % 256 ∷ tail)
+
+-- the length digits for a content of n bytes: n itself below 128, else 128 and the number of digits, and then the digits, of which the first is not zero (X.690, 8.1.3.4, 8.1.3.5 and 10.1)
+unfoldable pub digits : ℕ → List ℕ
+digits n = if nat_lt n 128 then n ∷ [] else (128 + length (base256 n n [])) ∷ base256 n n []
+
+-- tag, length digits, content (X.690, 8.1.1)
+unfoldable pub element : ℕ → List ℕ → List ℕ
+element t c = t ∷ (digits (length c) ++ c)
+
+-- how many bytes stand before an element's content
+unfoldable pub header : List ℕ → ℕ
+header c = length (digits (length c)) + 1
+
+-- how long an element around n bytes is
+abbrev pub element_size : ℕ → ℕ
+element_size n = 1 + (length (digits n) + n)
+
+-- the number that digits in base 256 spell behind a number
+abbrev pub value_from : ℕ → List ℕ → ℕ
+value_from n [] = n
+value_from n (d ∷ ds) = value_from (n * 256 + d) ds

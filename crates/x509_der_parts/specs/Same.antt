@@ -1,0 +1,27 @@
+-- Tests that decide whether two values are the same.
+use Rattle.std.specs.Prelude.{◌≡◌, Bool, true, false, ◌&&◌, Option, Some, None}
+use Rattle.std.specs.Bool.{Decides}
+use Rattle.std.specs.Option.{option_eq}
+use Rattle.std.proofs.Common.{refl, ap, sym}
+use Rattle.std.proofs.lemmas.Bool.Decides.{Decides-like}
+use mathlib.Core.Bool.{true≢false}
+
+-- two tests together decide two facts together
+pub and_decides : {P Q : Type 0} (s t : Bool) → Decides s P → Decides t Q → Decides (s && t) (P × Q)
+and_decides true t d e = (λ h. (d.0 refl, e.0 h), λ p. e.1 p.1)
+and_decides false t d e = (λ h. absurd (true≢false (sym h)), λ p. d.1 p.0)
+
+abbrev is_there : {K : Type 0} → Option K → Bool
+is_there None = false
+is_there (Some z) = true
+
+abbrev there_or : {K : Type 0} → K → Option K → K
+there_or x None = x
+there_or x (Some z) = z
+
+-- a test of values decides the same of values that may be absent
+pub options_decide : {K : Type 0} {E : K → K → Bool} → ((x y : K) → Decides (E x y) (x ≡ y)) → (x y : Option K) → Decides (option_eq E x y) (x ≡ y)
+options_decide d None None = (λ h. refl, λ e. refl)
+options_decide d None (Some y) = (λ h. absurd (true≢false (sym h)), λ e. absurd (true≢false (sym (ap is_there e))))
+options_decide d (Some x) None = (λ h. absurd (true≢false (sym h)), λ e. absurd (true≢false (ap is_there e)))
+options_decide {E = E} d (Some x) (Some y) = Decides-like (E x y) (λ e. ap (λ z. Some z) e) (λ e. ap (there_or x) e) (d x y)

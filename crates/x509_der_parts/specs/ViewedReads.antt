@@ -1,0 +1,72 @@
+-- Reading a type by way of a plain shape, with deviations over the whole.
+use Rattle.std.proofs.Common.{◌≡◌, ℕ, ◌+◌, ◌≤◌, ◌<◌, List, [], ◌++◌, length, sum, refl, sym, ap, ◌∙◌, arith, length-append, Option, Some, None}
+use Rattle.x509_der_parts.specs.Tally.{Tally, marked}
+use Rattle.x509_der_parts.specs.TallyFacts.{marked_headers, marked_length}
+use Rattle.x509_der_parts.specs.Counting.{tallied_sum}
+use Rattle.x509_der_parts.specs.declared.deviation.Deviation.{Deviation}
+use Rattle.x509_der_parts.specs.Shape.{Shape, Lawful}
+use Rattle.x509_der_parts.specs.Viewed.{viewed, IsView, some_one}
+use Rattle.x509_der_parts.specs.Reading.{Cursor, Ready, Accepts, Refuses, NotMarked}
+use Rattle.x509_der_parts.specs.Moving.{Booked, moved_marked, ready_after, still_none}
+use Rattle.x509_der_parts.specs.declared.errors.ReadError.{ReadError}
+use Rattle.x509_der_parts.specs.declared.errors.ReadError.TheVariants.{OutOfMemory}
+
+module _ {B V : Type 0} (of : B → Option (V × List Deviation)) (back : V → B) (valid : V → Type 0) (readable : V → Type 0) (s : Shape B) (l : Lawful s) (h : IsView of back valid readable s) where
+  pub viewed_accepts : (old mid new : Cursor) (b : B) (v : V) (ks : List Deviation) → Ready old → Accepts s old mid b → of b ≡ Some (v, ks) → Booked old mid new ks → Accepts (viewed of back valid readable s) old new v
+  viewed_accepts old mid new b v ks r a m k =
+      let y = marked ks (length a.bytes) a.tally in
+      let mh = marked_headers ks (length a.bytes) a.tally y refl in
+      let ml = marked_length ks (length a.bytes) a.tally y refl in
+      let n = moved_marked old mid new a.bytes a.tally ks a.moved k in
+      record {
+        bytes = a.bytes;
+        tally = y;
+        spelled = record { base = b; kinds = ks; part = a.tally; spelled = a.spelled; means = m; tally = refl };
+        moved = n;
+        ready = ready_after old new a.bytes y r n (omega (arith, l.cost b a.bytes a.tally a.spelled, mh)) (omega (arith, h.few b v ks a.bytes a.tally m a.spelled, mh, ml));
+        owes = λ n z. omega (arith, a.owes n z, mh);
+        only = λ w p q z i e g.
+            let o = a.only i.base p q i.part i.spelled e g in
+            let ob = o.bytes in
+            let ot = o.tally in
+            let n = some_one w v i.kinds ks (sym i.means ∙ ap of o.value ∙ m) in
+            let nk = n.1 in
+            let it = i.tally in
+            record { value = n.0; bytes = ob; tally = cc };
+      }
+
+  pub viewed_refuses : (old new : Cursor) (e : ReadError) → Refuses s old new e → Refuses (viewed of back valid readable s) old new e
+  viewed_refuses old new e a = record { spares = a.spares; grows = a.grows; bound = a.bound; owes = a.owes; none = λ m w p q z i. a.none m i.base p q i.part i.spelled }
+
+  -- the plain value means nothing
+  pub viewed_meaningless : (old mid new : Cursor) (b : B) (e : ReadError) → (e ≡ OutOfMemory → ⊥) → Accepts s old mid b → of b ≡ None → new.headers ≡ mid.headers → Refuses (viewed of back valid readable s) old new e
+  viewed_meaningless old mid new b e nm a m k =
+      let am = a.moved in
+      record {
+        spares = λ f p. nm;
+        grows = omega (arith, k, am.headers);
+        bound = omega (arith, k, am.headers, l.cost b a.bytes a.tally a.spelled, ap length am.rest, length-append a.bytes mid.rest);
+        owes = λ x n z. omega (arith, a.owes n z, k, am.headers);
+        none = λ n w p q z i g f.
+            let o = a.only i.base p q i.part i.spelled g f in
+            let c : Some (w, i.kinds) ≡ None = sym i.means ∙ ap of o.value ∙ m in
+            cc;
+      }
+
+  -- no memory for the place of a mark
+  pub viewed_memory : (old mid new : Cursor) (b : B) (e : ReadError) → Accepts s old mid b → NotMarked mid new e → Refuses (viewed of back valid readable s) old new e
+  viewed_memory old mid new b e a m =
+      let am = a.moved in
+      record {
+        spares = λ f p x. m.carries (still_none old mid a.bytes a.tally am p);
+        grows = omega (arith, m.headers, am.headers);
+        bound = omega (arith, m.headers, am.headers, l.cost b a.bytes a.tally a.spelled, ap length am.rest, length-append a.bytes mid.rest);
+        owes = λ x. absurd (x m.memory);
+        none = λ x. absurd (x m.memory);
+      }
+
+  -- there is room in the counts for a mark over the whole
+  pub mark_room : (old mid : Cursor) (b : B) (v : V) (ks : List Deviation) → Ready old → Accepts s old mid b → of b ≡ Some (v, ks) → 1 ≤ length ks → sum mid.counts < mid.headers
+  mark_room old mid b v ks r a m n =
+      let am = a.moved in
+      omega (arith, r.booked, am.headers, ap sum am.counts, tallied_sum old.counts a.tally.marks, h.few b v ks a.bytes a.tally m a.spelled)

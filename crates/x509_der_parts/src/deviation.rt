@@ -1,0 +1,127 @@
+//! Spellings that are read and not written: which there are, how many of each were met, and where.
+
+ghost use Rattle.std.specs.Prelude.{◌≡◌, ◌+◌, ◌<◌, ◌^◌, ◌↔◌, IsTrue, sum, slice_set, slice_index, replicate};
+ghost use Rattle.x509_der_parts.specs.Kinds.{kind_index};
+
+use std::marker::Model;
+
+/// The ten loose spellings that are read and not written. The list is closed.
+#[derive(Clone, Copy, Debug, PartialEq, Eq)]
+pub enum Deviation {
+    /// An algorithm of the RSA family stands without parameters (RFC 4055, 2.1; RFC 8017, A.2). They are written as NULL.
+    RsaParametersAbsent,
+    /// An algorithm identifier whose parameters are any element stands without them. They are written as NULL.
+    RawParametersAbsent,
+    /// A hash algorithm stands without NULL (RFC 4055, 2.1). It is written with it.
+    HashNullAbsent,
+    /// A salt length is above 2^64 - 1, and read as 2^64 - 1.
+    SaltTooLarge,
+    /// The version of a certificate is spelled though it is the default (X.690, 11.5). It is left out.
+    VersionZeroSpelled,
+    /// An empty list of extensions is spelled (RFC 5280, 4.1.2.9). It is left out.
+    EmptyExtensionsSpelled,
+    /// A criticality is spelled though it is the default, FALSE (X.690, 11.5). It is left out.
+    CriticalFalseSpelled,
+    /// The fields of an authority key identifier repeat or are out of order (RFC 5280, 4.2.1.1).
+    AuthorityKeyFieldOrder,
+    /// A general name has an explicit tag in place of its implicit one, or a directory name an implicit one (RFC 5280, 4.2.1.6).
+    GeneralNameForm,
+    /// An element that is not understood stands behind a private key (RFC 5958, 2). It is left out.
+    SkippedKeyElement,
+}
+
+impl Deviation {
+    /// The kind's place among the ten, from 0.
+    pub fn index(self) -> usize
+        ensures value { result ≡ kind_index self }
+        ensures ten { result < 10 }
+    {
+        match self {
+            Deviation::RsaParametersAbsent => 0,
+            Deviation::RawParametersAbsent => 1,
+            Deviation::HashNullAbsent => 2,
+            Deviation::SaltTooLarge => 3,
+            Deviation::VersionZeroSpelled => 4,
+            Deviation::EmptyExtensionsSpelled => 5,
+            Deviation::CriticalFalseSpelled => 6,
+            Deviation::AuthorityKeyFieldOrder => 7,
+            Deviation::GeneralNameForm => 8,
+            Deviation::SkippedKeyElement => 9,
+        }
+    }
+}
+
+/// How many deviations of each kind stand in an input. Contracts see the ten counts, in the order of the kinds.
+#[derive(Clone, Copy, Debug, PartialEq, Eq)]
+pub struct Deviations {
+    counts: [usize; 10],
+}
+
+impl Model for Deviations {
+    ghost use Rattle.std.specs.Prelude.{List, ℕ};
+    ghost use Rattle.x509_der_parts.specs.Counts.{IsCounts};
+
+    ghost Value = { List ℕ };
+
+    ghost view = { λ d. d.counts };
+
+    ghost invariant = { λ d. IsCounts d.counts };
+
+    ghost inverse = { λ counts. record { counts = counts } };
+}
+
+impl Deviations {
+    /// No deviation.
+    pub fn none() -> Deviations
+        ensures { result ≡ replicate 10 0 }
+    {
+        Deviations { counts: [0; 10] }
+    }
+
+    /// One more of a kind.
+    pub fn add(&mut self, kind: Deviation)
+        requires { sum self.old + 1 < 2 ^ 64 }
+        ensures { self.new ≡ slice_set self.old (kind_index kind) (slice_index self.old (kind_index kind) + 1) }
+    {
+        self.counts[kind.index()] += 1;
+    }
+
+    /// How many of a kind were met.
+    pub fn count(&self, kind: Deviation) -> usize
+        ensures { result ≡ slice_index self.now (kind_index kind) }
+    {
+        self.counts[kind.index()]
+    }
+
+    /// The ten counts, in the order of the kinds.
+    pub fn counts(&self) -> &[usize]
+        ensures { result.now ≡ self.now }
+    {
+        &self.counts
+    }
+
+    /// How many were met in all.
+    pub fn total(&self) -> usize
+        ensures { result ≡ sum self.now }
+    {
+        self.counts.iter().sum()
+    }
+
+    /// Whether none was met, so that the input is the strict spelling of its value.
+    pub fn is_none(&self) -> bool
+        ensures { IsTrue result ↔ (sum self.now ≡ 0) }
+    {
+        self.total() == 0
+    }
+}
+
+/// Where a deviation stands in an input.
+#[derive(Clone, Copy, Debug, PartialEq, Eq)]
+pub struct Place {
+    /// Which deviation it is.
+    pub kind: Deviation,
+    /// How many bytes of the input stand before it.
+    pub start: usize,
+    /// How many bytes of the input end with it.
+    pub end: usize,
+}

@@ -1,0 +1,19 @@
+//! The foundation of `x509_der`: what DER is, the reader, the traits, and the parts that structures are made of.
+//!
+//! No other crate lists this one: `x509_der` passes all of it on.
+#![tactic(auto)]
+
+mod body;
+pub mod clone_eq;
+pub mod deviation;
+pub mod errors;
+mod header;
+mod join;
+pub mod null;
+mod optional;
+pub mod parts;
+pub mod reader;
+pub mod same_eq;
+mod tagged;
+pub mod traits;
+mod write;

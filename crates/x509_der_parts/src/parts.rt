@@ -1,0 +1,11 @@
+//! What structures are made of: the reader, the traits of fields, and the fields themselves.
+
+pub use crate::body::Body;
+pub use crate::deviation::Deviations;
+pub use crate::header::{size_around, tail, write_header};
+pub use crate::join::Join;
+pub use crate::optional::Optional;
+pub use crate::reader::{Reader, Spot};
+pub use crate::tagged::{Sequence, Tagged, element_len, read_element, write_element};
+pub use crate::traits::{Content, Field, OneTag, Tag, ToBody};
+pub use crate::write::{write_at, write_bytes};
