@@ -123,11 +123,11 @@ part_part p y n q z k r x i j =
       bytes = i.bytes ∙ ap (λ w. i.before ++ (w ++ i.after)) j.bytes ∙ ap (λ w. i.before ++ w) (append_assoc j.before (r ++ j.after) i.after ∙ ap (λ w. j.before ++ w) (append_assoc r j.after i.after)) ∙ sym (append_assoc i.before j.before (r ++ (j.after ++ i.after)));
       at = omega (arith, i.at, j.at, length-append i.before j.before);
       marks = ap (λ w. lying (n + k) w y.marks) assoc
-      ∙ sym (lying_inner n (n + length q) (n + k) (n + (k + length r)) y.marks (omega arith) (omega (arith, long)))
-      ∙ ap (lying (n + k) (n + (k + length r))) i.marks
-      ∙ lying_moved n k (k + length r) z.marks
-      ∙ ap (map (moved n)) j.marks
-      ∙ map-moved n k x.marks;
+          ∙ sym (lying_inner n (n + length q) (n + k) (n + (k + length r)) y.marks (omega arith) (omega (arith, long)))
+          ∙ ap (lying (n + k) (n + (k + length r))) i.marks
+          ∙ lying_moved n k (k + length r) z.marks
+          ∙ ap (map (moved n)) j.marks
+          ∙ map-moved n k x.marks;
     }
 
 element_bytes : (t : ℕ) (c : List ℕ) → element t c ≡ (t ∷ digits (length c)) ++ (c ++ [])
@@ -167,10 +167,10 @@ module _ (A B : List ℕ → Tally → Type 0) (p : List ℕ) (y : Tally) (j : J
         bytes = j.bytes;
         at = refl;
         marks = ap (λ x. lying 0 x y.marks) z ∙ ap (lying 0 n) both ∙ lying-append 0 n j.first.marks (map (moved n) j.second.marks)
-        ∙ ap (λ x. x ++ lying 0 n (map (moved n) j.second.marks)) (lying_all n j.first.marks first)
-        ∙ ap (λ x. j.first.marks ++ x) (lying_behind 0 n (length j.back) j.second.marks second)
-        ∙ append-nil j.first.marks
-        ∙ sym (map-moved_zero j.first.marks);
+            ∙ ap (λ x. x ++ lying 0 n (map (moved n) j.second.marks)) (lying_all n j.first.marks first)
+            ∙ ap (λ x. j.first.marks ++ x) (lying_behind 0 n (length j.back) j.second.marks second)
+            ∙ append-nil j.first.marks
+            ∙ sym (map-moved_zero j.first.marks);
       }
 
   -- the second of two fields
@@ -185,10 +185,10 @@ module _ (A B : List ℕ → Tally → Type 0) (p : List ℕ) (y : Tally) (j : J
         bytes = j.bytes ∙ ap (λ x. j.front ++ x) (sym (append-nil j.back));
         at = refl;
         marks = ap (lying n b) both ∙ lying-append n b j.first.marks (map (moved n) j.second.marks)
-        ∙ ap (λ x. x ++ lying n b (map (moved n) j.second.marks)) (lying_before n b j.first.marks first)
-        ∙ ap (λ x. lying x b (map (moved n) j.second.marks)) z
-        ∙ lying_moved n 0 (length j.back) j.second.marks
-        ∙ ap (map (moved n)) (lying_all (length j.back) j.second.marks second);
+            ∙ ap (λ x. x ++ lying n b (map (moved n) j.second.marks)) (lying_before n b j.first.marks first)
+            ∙ ap (λ x. lying x b (map (moved n) j.second.marks)) z
+            ∙ lying_moved n 0 (length j.back) j.second.marks
+            ∙ ap (map (moved n)) (lying_all (length j.back) j.second.marks second);
       }
 
 -- a part behind the first byte of what bears marks over the whole

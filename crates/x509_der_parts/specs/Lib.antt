@@ -1,3 +1,4 @@
+pub mod Errors
 pub mod Kinds
 pub mod Counts
 pub mod Same

@@ -36,10 +36,13 @@ module _ {V : Type 0} (s : Shape V) (l : Lawful s) where
   pub whole_strict : (v : V) (string : List ℕ) (y : Tally) → s.spelled v string y → IsWhole s string v y
   whole_strict v string y b = record {
     spelled = b;
-    strict = (λ h.
-        let w = l.written v (l.valid v string y b) (l.read v string y b) in
-        let o = l.one v v string (s.strict v) [] [] y _ b w.spelled (ap (λ x. x ++ []) h) tt tt in
-        ap (λ (x : Tally). x.marks) o.tally, l.clean v string y b);
+    strict = (
+      λ h.
+          let w = l.written v (l.valid v string y b) (l.read v string y b) in
+          let o = l.one v v string (s.strict v) [] [] y _ b w.spelled (ap (λ x. x ++ []) h) tt tt in
+          ap (λ (x : Tally). x.marks) o.tally,
+      l.clean v string y b,
+    );
   }
 
 module _ {V : Type 0} (s : Shape V) (l : Lawful s) (free : Free s) where
@@ -83,10 +86,12 @@ metered_whole s l old new string counts headers v f z k c h a =
     let y = a.accepts.tally in
     let b : s.spelled v string y = rw (← f) a.whole.spelled in
     let few = l.few v string y b in
-    let total : sum counts ≡ length y.marks = ap sum (c ∙ m.counts ∙ ap (λ x. tallied x y.marks) k ∙ counts_are y.marks) ∙ counts_sum y.marks in
-    (λ x i.
-        let o = l.one v v string string [] [] y x b i refl tt tt in
-        omega (arith, h, m.headers, z, ap (λ (x : Tally). x.headers) o.tally), omega (arith, h, m.headers, z, few, total))
+    let total : sum counts ≡ length y.marks = ap sum (c ∙ m.counts ∙ ap (λ x. tallied x y.marks) k ∙ counts_are y.marks) ∙ counts_sum y.marks in (
+      λ x i.
+          let o = l.one v v string string [] [] y x b i refl tt tt in
+          omega (arith, h, m.headers, z, ap (λ (x : Tally). x.headers) o.tally),
+      omega (arith, h, m.headers, z, few, total),
+    )
 
 pub metered_none : {V : Type 0} (s : Shape V) (old new : Cursor) (string : List ℕ) (headers : ℕ) (e : ReadError) → old.rest ≡ string → old.headers ≡ 0 → headers ≡ new.headers → RefusesAll s old new e → (e ≡ OutOfMemory → ⊥) → (n : ℕ) → s.least string n → n ≤ headers
 metered_none s old new string headers e f z h a m n i = let P : List ℕ → Type 0 = λ x. s.least x n in omega (arith, h, z, a.owes m n (subst P (sym f) i))

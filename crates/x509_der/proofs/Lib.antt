@@ -1,0 +1,2 @@
+pub mod Oids
+pub mod Raws

@@ -1,0 +1,19 @@
+//! DER, the distinguished encoding of ASN.1 (X.690): elements, object identifiers, NULL and raw elements, read and written
+//! by calls whose contracts are the grammar.
+#![tactic(auto)]
+
+pub mod calls;
+pub mod oid;
+pub mod raw;
+
+pub use crate::calls::{
+    encoded_len, from_bytes, read_counted, read_located, read_metered, to_vec, write_to_slice,
+};
+pub use crate::oid::{ObjectIdentifier, ObjectIdentifierAsn1, OidError};
+pub use crate::raw::Asn1RawDer;
+pub use x509_der_parts::clone_eq::CloneEq;
+pub use x509_der_parts::deviation::{Deviation, Deviations, Place};
+pub use x509_der_parts::errors::{ReadError, SliceError, TooLong, WriteError};
+pub use x509_der_parts::parts;
+pub use x509_der_parts::same_eq::SameEq;
+pub use x509_der_parts::traits::{FromDer, ToDer};
