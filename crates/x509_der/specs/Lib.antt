@@ -33,6 +33,7 @@ pub use Rattle.x509_der_parts.specs.ViewedReads
 pub use Rattle.x509_der_parts.specs.Calls
 pub use Rattle.x509_der_parts.specs.Whole
 pub use Rattle.x509_der_parts.specs.Fields
+pub use Rattle.x509_der_parts.specs.Laws
 pub use Rattle.x509_der_parts.specs.Errors
 pub mod Arcs
 pub mod ArcFacts

@@ -3,6 +3,7 @@
 #![tactic(auto)]
 
 pub mod calls;
+pub mod laws;
 pub mod oid;
 pub mod raw;
 

@@ -34,4 +34,5 @@ pub mod ViewedReads
 pub mod Calls
 pub mod Whole
 pub mod Fields
+pub mod Laws
 pub mod Writes

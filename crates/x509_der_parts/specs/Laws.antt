@@ -1,0 +1,42 @@
+-- What follows from the laws of a shape.
+use Rattle.std.proofs.Common.{◌≡◌, ◌↔◌, ℕ, false, List, [], ◌++◌, refl, ap, sym, ◌∙◌, append-nil}
+use Rattle.x509_der_parts.specs.Element.{element}
+use Rattle.x509_der_parts.specs.ElementFacts.{element_one}
+use Rattle.x509_der_parts.specs.Raw.{follows_free}
+use Rattle.x509_der_parts.specs.Shape.{Shape, Lawful, IsElement, IsStrict, Same}
+use Rattle.x509_der_parts.specs.Tally.{Tally}
+
+-- the value is spelled with no deviation by what is written of it, and what is read from that is the value, of which the same is written
+pub record ReadsBack {V : Type 0} (s : Shape V) (strict : V → List ℕ) (v : V) : Type 0 where
+  pub headers : ℕ
+  pub spelled : s.spelled v (strict v) (record { marks = []; headers = headers })
+  pub only : (w : V) (z : Tally) → s.spelled w (strict v) z → (w ≡ v) × (strict w ≡ strict v) × (z.marks ≡ [])
+
+module _ {V : Type 0} (s : Shape V) (l : Lawful s) (e : IsElement s) (strict : V → List ℕ) (agrees : (v : V) → s.strict v ≡ strict v) where
+  pub same_spelling : (v w : V) → s.valid v → s.valid w → s.readable v → s.readable w → strict v ≡ strict w → v ≡ w
+  same_spelling v w d k r t h =
+      let x = l.written v d r in
+      let y = l.written w k t in
+      (l.one v w (s.strict v) (s.strict w) [] [] _ _ x.spelled y.spelled (ap (λ p. p ++ []) (agrees v ∙ h ∙ sym (agrees w))) tt tt).value
+
+  pub spelled_readable : (v : V) → s.valid v → IsStrict s v ↔ s.readable v
+  spelled_readable v d = (λ x. l.read v (s.strict v) _ x.spelled, λ r. l.written v d r)
+
+  pub reads_back : (string : List ℕ) (v : V) (y : Tally) → s.spelled v string y → ReadsBack s strict v
+  reads_back string v y a =
+      let x = l.written v (l.valid v string y a) (l.read v string y a) in
+      let P : List ℕ → Type 0 = λ p. s.spelled v p (record { marks = []; headers = x.headers }) in
+      let b : s.spelled v (strict v) (record { marks = []; headers = x.headers }) = rw (agrees v) at x.spelled in
+      record {
+        headers = x.headers;
+        spelled = b;
+        only = λ w z c.
+            let o = l.one w v (strict v) (strict v) [] [] z _ c b refl tt tt in
+            (o.value, ap strict o.value, ap (λ (t : Tally). t.marks) o.tally);
+      }
+
+pub no_front : {V W : Type 0} (s : Shape V) (u : Shape W) → IsElement s → IsElement u → (v : V) (w : W) (more : List ℕ) → s.valid v → u.valid w → s.strict v ++ more ≡ u.strict w → more ≡ []
+no_front s u e f v w more d k h =
+    let a = e.strict v d in
+    let b = f.strict w k in
+    (element_one a.0 b.0 a.1 b.1 more [] (ap (λ p. p ++ more) (sym a.2) ∙ h ∙ b.2 ∙ sym (append-nil (element b.0 b.1)))).rest
