@@ -5,8 +5,8 @@ use Rattle.std.proofs.Common.{inl, inr, ◌⊎◌, refl, sym, ap, subst, ◌∙�
 use Rattle.std.proofs.lemmas.List.{append-nil}
 use Rattle.std.proofs.lemmas.Bool.{eqb-true, eqb-false, eq-eqb, ne_eqb, ltb-true, lt-ltb, ltb-false, le-ltb}
 use Rattle.std.proofs.lemmas.Grind.{common_steps}
-use Rattle.x509_der_parts.specs.Shape.{Shape, Lawful}
-use Rattle.x509_der_parts.specs.Contents.{plain, IsPlain, plain_lawful}
+use Rattle.x509_der_parts.specs.Shape.{Lawful}
+use Rattle.x509_der_parts.specs.Contents.{IsPlain, plain_lawful}
 use Rattle.x509_der.specs.Arcs.{IsLawful, high, high_digits, septets, spelled_numbers, oid_content, IsOid, oids}
 
 pub chosen : {A : Type 0} (b : Bool) (x y z : A) → cond b x y ≡ z → ((b ≡ true) × (x ≡ z)) ⊎ ((b ≡ false) × (y ≡ z))

@@ -1,5 +1,6 @@
 -- The definitions and lemmas of the crate below, which crates above name by this one.
 pub use Rattle.x509_der_parts.specs.Kinds
+pub mod Types
 pub use Rattle.x509_der_parts.specs.Counts
 pub use Rattle.x509_der_parts.specs.Same
 pub use Rattle.x509_der_parts.specs.Lists
@@ -34,6 +35,5 @@ pub use Rattle.x509_der_parts.specs.Calls
 pub use Rattle.x509_der_parts.specs.Whole
 pub use Rattle.x509_der_parts.specs.Fields
 pub use Rattle.x509_der_parts.specs.Laws
-pub use Rattle.x509_der_parts.specs.Errors
 pub mod Arcs
 pub mod ArcFacts

@@ -7,7 +7,7 @@ use Rattle.x509_der_parts.specs.Tally.{Tally, inside, moved}
 use Rattle.x509_der_parts.specs.TallyFacts.{inside_headers}
 use Rattle.x509_der_parts.specs.Shape.{Shape, Lawful}
 use Rattle.x509_der_parts.specs.Around.{OwesInside, around}
-use Rattle.x509_der_parts.specs.Reading.{Cursor, Ready, Moved, Accepts, Refuses, Entered, Leaves}
+use Rattle.x509_der_parts.specs.Reading.{Cursor, Ready, Accepts, Refuses, Entered, Leaves}
 use Rattle.x509_der_parts.specs.Moving.{ready_after, moved_inside}
 use Rattle.x509_der_parts.specs.declared.errors.ReadError.{ReadError}
 use Rattle.x509_der_parts.specs.declared.errors.ReadError.TheVariants.{OutOfMemory}

@@ -1,5 +1,5 @@
 -- What the calls on whole values give.
-use Rattle.std.specs.Prelude.{◌≡◌, ◌↔◌, ℕ, ◌+◌, ◌*◌, ◌≤◌, ◌<◌, ◌^◌, List, [], ◌++◌, length, drop, sum, Result, Ok, Err}
+use Rattle.std.specs.Prelude.{◌≡◌, ◌↔◌, ℕ, ◌≤◌, ◌<◌, ◌^◌, List, [], ◌++◌, length, drop, sum, Result, Ok, Err}
 use Rattle.x509_der_parts.specs.Placing.{Placing}
 use Rattle.x509_der_parts.specs.Tally.{Tally, Mark, counts_of}
 use Rattle.x509_der_parts.specs.Shape.{Shape}

@@ -1,7 +1,6 @@
 -- Reading a content that has no elements in it, up to its end; and an element whose content isn't looked into.
-use Rattle.std.proofs.Common.{◌≡◌, ℕ, ◌+◌, false, List, [], ◌++◌, length, sum, refl, sym, ap, ◌∙◌, arith, append-nil, length-append}
-use Rattle.x509_der_parts.specs.Tally.{Tally, none}
-use Rattle.x509_der_parts.specs.Shape.{Shape}
+use Rattle.std.proofs.Common.{◌≡◌, ℕ, ◌+◌, false, List, ◌++◌, length, sum, refl, sym, ap, ◌∙◌, arith, append-nil, length-append}
+use Rattle.x509_der_parts.specs.Tally.{none}
 use Rattle.x509_der_parts.specs.Contents.{ends, plain, IsPlain}
 use Rattle.x509_der_parts.specs.Raw.{Raw, raws, raws_lawful, one_header, follows_free}
 use Rattle.x509_der_parts.specs.Reading.{Cursor, Ready, Moved, Accepts, Refuses, TakesRest, RawTaken}

@@ -1,11 +1,10 @@
 -- The law of fields: the deviations of a field that is spelled in a slice of a string are those of the string that lie within the slice, moved to its start.
-use Rattle.std.proofs.Common.{◌≡◌, ◌↔◌, ℕ, ◌+◌, ◌≤◌, ◌<◌, Bool, true, false, ◌&&◌, ◌⊎◌, inl, inr, List, [], ◌∷◌, ◌++◌, length, map, refl, sym, ap, ◌∙◌, arith, append_assoc, append-nil, length-append}
-use Rattle.std.specs.Prelude.{nat_le}
+use Rattle.std.proofs.Common.{◌≡◌, ◌↔◌, ℕ, ◌+◌, ◌≤◌, ◌<◌, Bool, true, false, ◌⊎◌, inl, inr, List, [], ◌∷◌, ◌++◌, length, map, refl, sym, ap, ◌∙◌, arith, append_assoc, append-nil, length-append}
 use Rattle.std.proofs.lemmas.List.Elements.{filter-append}
 use Rattle.std.proofs.lemmas.Bool.Decides.{nat_tests}
 use Rattle.x509_der_parts.specs.Lists.{map_empty}
 use Rattle.x509_der_parts.specs.Element.{element, digits, header}
-use Rattle.x509_der_parts.specs.Tally.{Tally, Mark, moved, joined, inside, over, marked, lies, lying}
+use Rattle.x509_der_parts.specs.Tally.{Tally, Mark, moved, over, marked, lies, lying}
 use Rattle.x509_der_parts.specs.TallyFacts.{map-moved, map-moved_zero, joined_marks, inside_marks, marked_marks}
 use Rattle.x509_der_parts.specs.Placing.{Within}
 use Rattle.x509_der_parts.specs.Shape.{Shape, Lawful}

@@ -1,5 +1,5 @@
 -- The ten kinds of deviation, in order.
-use Rattle.std.specs.Prelude.{ℕ, List, [], ◌∷◌}
+use Rattle.std.specs.Prelude.{ℕ}
 use Rattle.x509_der_parts.specs.declared.deviation.Deviation.{Deviation}
 use Rattle.x509_der_parts.specs.declared.deviation.Deviation.TheVariants.{RsaParametersAbsent, RawParametersAbsent, HashNullAbsent, SaltTooLarge, VersionZeroSpelled, EmptyExtensionsSpelled, CriticalFalseSpelled, AuthorityKeyFieldOrder, GeneralNameForm, SkippedKeyElement}
 

@@ -1,9 +1,8 @@
 -- What follows from the laws of a shape.
-use Rattle.std.proofs.Common.{◌≡◌, ◌↔◌, ℕ, false, List, [], ◌++◌, refl, ap, sym, ◌∙◌, append-nil}
+use Rattle.std.proofs.Common.{◌≡◌, ◌↔◌, ℕ, List, [], ◌++◌, refl, ap, sym, ◌∙◌, append-nil}
 use Rattle.x509_der_parts.specs.Element.{element}
 use Rattle.x509_der_parts.specs.ElementFacts.{element_one}
-use Rattle.x509_der_parts.specs.Raw.{follows_free}
-use Rattle.x509_der_parts.specs.Shape.{Shape, Lawful, IsElement, IsStrict, Same}
+use Rattle.x509_der_parts.specs.Shape.{Shape, Lawful, IsElement, IsStrict}
 use Rattle.x509_der_parts.specs.Tally.{Tally}
 
 -- the value is spelled with no deviation by what is written of it, and what is read from that is the value, of which the same is written

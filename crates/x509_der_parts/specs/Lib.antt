@@ -1,4 +1,3 @@
-pub mod Errors
 pub mod Kinds
 pub mod Counts
 pub mod Same

@@ -3,11 +3,10 @@ use Rattle.std.proofs.Common.{◌≡◌, ℕ, ◌+◌, ◌*◌, ◌≤◌, List,
 use Rattle.std.proofs.lemmas.List.{map-append}
 use Rattle.x509_der_parts.specs.Element.{element, header}
 use Rattle.x509_der_parts.specs.ElementFacts.{element_length}
-use Rattle.x509_der_parts.specs.Kinds.{kind_index}
 use Rattle.x509_der_parts.specs.declared.deviation.Deviation.{Deviation}
 use Rattle.x509_der_parts.specs.declared.reader.Spot.{Spot}
 use Rattle.x509_der_parts.specs.Tally.{Tally, Mark, none, joined, inside, moved, over, marked}
-use Rattle.x509_der_parts.specs.TallyFacts.{map-moved, map-moved_zero, joined_headers, inside_headers, marked_headers}
+use Rattle.x509_der_parts.specs.TallyFacts.{map-moved, joined_headers, inside_headers, marked_headers}
 use Rattle.x509_der_parts.specs.Counting.{tallied_joined, tallied_inside, tallied_length, tallied_sum, tallied_marked, counted}
 use Rattle.x509_der_parts.specs.Reading.{Cursor, Ready, Moved, Entered, Leaves, IsSpot, Marked, tallied, placed, carried, put_in}
 

@@ -1,7 +1,7 @@
 -- Reading a field that may be absent.
-use Rattle.std.proofs.Common.{◌≡◌, ℕ, ◌≤◌, Bool, true, false, ◌||◌, ◌==◌, List, [], ◌∷◌, ◌++◌, length, refl, sym, ap, ◌∙◌, arith, rules, Option, Some, None}
+use Rattle.std.proofs.Common.{◌≡◌, ℕ, ◌≤◌, Bool, true, false, ◌==◌, List, [], ◌∷◌, ◌++◌, length, refl, sym, ap, ◌∙◌, arith, rules, Some, None}
 use Rattle.std.proofs.lemmas.Bool.Decides.{nat_tests}
-use Rattle.x509_der_parts.specs.Tally.{Tally, none}
+use Rattle.x509_der_parts.specs.Tally.{none}
 use Rattle.x509_der_parts.specs.Shape.{Shape, Lawful, Follows, Begins}
 use Rattle.x509_der_parts.specs.Pair.{follows_left, follows_right}
 use Rattle.x509_der_parts.specs.Optional.{optional, Full, no_start}

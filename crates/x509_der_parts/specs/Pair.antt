@@ -1,6 +1,6 @@
 -- One field, and then another.
-use Rattle.std.proofs.Common.{◌≡◌, ℕ, ◌+◌, Bool, true, false, ◌||◌, List, [], ◌∷◌, ◌++◌, length, map, refl, ap, sym, ◌∙◌, arith, length-append}
-use Rattle.std.proofs.lemmas.List.{append_cancel_left, length-map}
+use Rattle.std.proofs.Common.{◌≡◌, ℕ, ◌+◌, Bool, true, false, ◌||◌, List, [], ◌∷◌, ◌++◌, length, refl, ap, sym, ◌∙◌, arith, length-append}
+use Rattle.std.proofs.lemmas.List.{append_cancel_left}
 use Rattle.x509_der_parts.specs.Placing.{placing_joined}
 use Rattle.x509_der_parts.specs.Lists.{regroup}
 use Rattle.x509_der_parts.specs.Tally.{Tally, joined}

@@ -1,12 +1,11 @@
 -- Reading one field and then another.
-use Rattle.std.proofs.Common.{◌≡◌, ℕ, ◌+◌, ◌||◌, List, ◌++◌, length, refl, sym, ap, ◌∙◌, arith, append_assoc, length-append}
+use Rattle.std.proofs.Common.{◌≡◌, ℕ, ◌||◌, List, ◌++◌, length, refl, sym, ap, ◌∙◌, arith, length-append}
 use Rattle.std.proofs.lemmas.List.{append_cancel_left}
 use Rattle.x509_der_parts.specs.Lists.{behind}
 use Rattle.x509_der_parts.specs.Tally.{Tally, joined}
-use Rattle.x509_der_parts.specs.TallyFacts.{joined_headers}
 use Rattle.x509_der_parts.specs.Shape.{Shape, Lawful, Follows}
 use Rattle.x509_der_parts.specs.Pair.{pair, Apart, follows_left, follows_right, follows_first}
-use Rattle.x509_der_parts.specs.Reading.{Cursor, Moved, Accepts, Refuses}
+use Rattle.x509_der_parts.specs.Reading.{Cursor, Accepts, Refuses}
 use Rattle.x509_der_parts.specs.Moving.{moved_joined, still_none}
 use Rattle.x509_der_parts.specs.declared.errors.ReadError.{ReadError}
 

@@ -1,9 +1,9 @@
 -- Facts about tallies.
-use Rattle.std.proofs.Common.{◌≡◌, ℕ, zero, suc, ◌+◌, List, [], ◌∷◌, ◌++◌, length, map, refl, ap, sym, ◌∙◌, arith, append_assoc, append-nil, length-append}
+use Rattle.std.proofs.Common.{◌≡◌, ℕ, suc, ◌+◌, List, [], ◌∷◌, ◌++◌, length, map, refl, ap, sym, ◌∙◌, arith, append_assoc, length-append}
 use Rattle.std.proofs.lemmas.List.{map-append, length-map}
 use Rattle.x509_der_parts.specs.Lists.{map_empty, both_empty}
 use Rattle.x509_der_parts.specs.declared.deviation.Deviation.{Deviation}
-use Rattle.x509_der_parts.specs.Tally.{Tally, Mark, none, joined, inside, moved, over, marked}
+use Rattle.x509_der_parts.specs.Tally.{Tally, Mark, joined, inside, moved, over, marked}
 
 pub map-moved : (n m : ℕ) (b : List Mark) → map (moved n) (map (moved m) b) ≡ map (moved (n + m)) b
 unfolding moved

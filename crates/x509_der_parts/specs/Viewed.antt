@@ -1,5 +1,5 @@
 -- A type whose values are made of those of a base shape, some of them with marks over the whole.
-use Rattle.std.proofs.Common.{◌≡◌, ℕ, suc, ◌+◌, ◌≤◌, List, [], ◌∷◌, ◌++◌, length, Option, Some, refl, ap, sym, ◌∙◌, arith, length-append}
+use Rattle.std.proofs.Common.{◌≡◌, ℕ, ◌+◌, ◌≤◌, List, [], ◌++◌, length, Option, Some, refl, ap, sym, ◌∙◌, arith}
 use Rattle.x509_der_parts.specs.Placing.{placing_same, placing_over, Deep, Ascending}
 use Rattle.x509_der_parts.specs.declared.deviation.Deviation.{Deviation}
 use Rattle.x509_der_parts.specs.Tally.{Tally, over, marked}

@@ -1,6 +1,6 @@
 -- Reading a type by way of a plain shape, with deviations over the whole.
-use Rattle.std.proofs.Common.{◌≡◌, ℕ, ◌+◌, ◌≤◌, ◌<◌, List, [], ◌++◌, length, sum, refl, sym, ap, ◌∙◌, arith, length-append, Option, Some, None}
-use Rattle.x509_der_parts.specs.Tally.{Tally, marked}
+use Rattle.std.proofs.Common.{◌≡◌, ◌≤◌, ◌<◌, List, length, sum, refl, sym, ap, ◌∙◌, arith, length-append, Option, Some, None}
+use Rattle.x509_der_parts.specs.Tally.{marked}
 use Rattle.x509_der_parts.specs.TallyFacts.{marked_headers, marked_length}
 use Rattle.x509_der_parts.specs.Counting.{tallied_sum}
 use Rattle.x509_der_parts.specs.declared.deviation.Deviation.{Deviation}

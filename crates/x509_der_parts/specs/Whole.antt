@@ -1,13 +1,13 @@
 -- Reading all that is left, and so a whole input.
-use Rattle.std.proofs.Common.{◌≡◌, ℕ, ◌+◌, ◌*◌, ◌≤◌, false, List, [], ◌++◌, length, map, sum, refl, sym, ap, subst, ◌∙◌, arith, append-nil, length-append, Option, Some, None}
+use Rattle.std.proofs.Common.{◌≡◌, ℕ, ◌+◌, ◌*◌, ◌≤◌, false, List, [], ◌++◌, length, map, sum, refl, sym, ap, subst, ◌∙◌, arith, append-nil, length-append, Some, None}
 use Rattle.std.specs.Prelude.{Result, Ok, Err, replicate, IfErr}
 use Rattle.std.proofs.lemmas.List.{append_cancel_left}
-use Rattle.x509_der_parts.specs.Tally.{Tally, Mark, moved, counts_of}
+use Rattle.x509_der_parts.specs.Tally.{Tally, Mark, moved}
 use Rattle.x509_der_parts.specs.TallyFacts.{map-moved_zero}
 use Rattle.x509_der_parts.specs.Counting.{counts_are, counts_sum}
 use Rattle.x509_der_parts.specs.Placing.{placing_same}
 use Rattle.x509_der_parts.specs.Shape.{Shape, Lawful}
-use Rattle.x509_der_parts.specs.Calls.{IsWhole, NoWhole, WholeRead, CountedRead, MeteredRead, Located}
+use Rattle.x509_der_parts.specs.Calls.{IsWhole, NoWhole, CountedRead, MeteredRead, Located}
 use Rattle.x509_der_parts.specs.Reading.{Cursor, Accepts, Refuses, tallied, placed}
 use Rattle.x509_der_parts.specs.declared.errors.ReadError.{ReadError}
 use Rattle.x509_der_parts.specs.declared.errors.ReadError.TheVariants.{OutOfMemory}

@@ -1,5 +1,5 @@
 -- Writing parts.
-use Rattle.std.proofs.Common.{◌≡◌, ℕ, ◌+◌, ◌≤◌, ◌<◌, ◌-◌, ◌/◌, ◌%◌, List, [], ◌∷◌, ◌++◌, length, take, drop, set, get_or, ⊎_elim, refl, sym, ap, ◌∙◌, arith, append_assoc, length-append, Result, Ok, Err}
+use Rattle.std.proofs.Common.{◌≡◌, ℕ, ◌+◌, ◌≤◌, ◌<◌, ◌-◌, ◌/◌, ◌%◌, List, [], ◌∷◌, ◌++◌, length, take, drop, set, get_or, ⊎_elim, refl, sym, ap, ◌∙◌, arith, append_assoc, length-append, Result}
 use Rattle.x509_der_parts.specs.Digits.{base, base_zero, base_more, base_length, digits_low, digits_high}
 use Rattle.std.proofs.lemmas.Bool.{cases_lt}
 use Rattle.std.proofs.lemmas.List.{take-append-drop, nil_from_length, drop-set, drop-set-lt, take-set-le, append-nil, take_more, drop_at, take_at, drop-drop}

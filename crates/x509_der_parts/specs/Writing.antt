@@ -1,6 +1,5 @@
 -- What writing does.
 use Rattle.std.specs.Prelude.{◌≡◌, ℕ, ◌+◌, ◌≤◌, ◌^◌, List, [], ◌∷◌, ◌++◌, length, take, drop, Result, Ok, Err}
-use Rattle.x509_der_parts.specs.Element.{digits}
 use Rattle.x509_der_parts.specs.Digits.{base}
 use Rattle.x509_der_parts.specs.declared.errors.TooLong.{TooLong}
 

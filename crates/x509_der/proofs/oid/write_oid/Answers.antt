@@ -1,7 +1,7 @@
-use Rattle.std.proofs.Common.{◌∷◌, ◌++◌, length, drop, ap, sym, ◌∙◌}
+use Rattle.std.proofs.Common.{◌++◌, length, drop, ap, sym, ◌∙◌}
 use Rattle.std.specs.List.{flat_map}
 use Rattle.x509_der_parts.specs.Writes.{join_written}
-use Rattle.x509_der.specs.Arcs.{septets, oid_content}
+use Rattle.x509_der.specs.Arcs.{septets}
 use Rattle.x509_der.proofs.oid.write_oid.Goals as goal
 
 pub returns-clause-bytes : goal.returns-clause-bytes

@@ -1,4 +1,3 @@
-use Rattle.std.proofs.Common.{sym}
 use Rattle.x509_der.proofs.Raws.{raw_all, raw_none}
 use Rattle.x509_der.proofs.raw.is_one_element.Goals as goal
 

@@ -1,7 +1,7 @@
 use Rattle.std.proofs.Common.{refl, sym, ◌∙◌, []}
 use Rattle.x509_der_parts.specs.Contents.{IsNothing, nothing_plain}
-use Rattle.x509_der_parts.specs.ContentReads.{plain_accepts, plain_refuses}
-use Rattle.x509_der_parts.specs.OptionalReads.{empty_is, not_empty_is}
+use Rattle.x509_der_parts.specs.ContentReads.{plain_accepts}
+use Rattle.x509_der_parts.specs.OptionalReads.{empty_is}
 use Rattle.x509_der_parts.proofs.null.UnitContent.read_body.Goals as goal
 
 pub returns-then-is_empty : goal.returns-then-is_empty

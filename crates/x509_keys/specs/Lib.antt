@@ -1,0 +1,3 @@
+pub mod RawAlgorithm
+pub mod RawAlgorithmFacts
+pub mod RawAlgorithmSame

@@ -1,0 +1,7 @@
+//! Algorithm identifiers and keys.
+#![tactic(auto)]
+
+pub mod laws;
+pub mod raw_algorithm_identifier;
+
+pub use crate::raw_algorithm_identifier::RawAlgorithmIdentifier;
