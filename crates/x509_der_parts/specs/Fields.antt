@@ -204,7 +204,7 @@ empty_moved : (n : ℕ) (ms : List Mark) → (map (moved n) ms ≡ []) ↔ (ms �
 empty_moved n ms = (map_empty (moved n) ms, λ e. ap (map (moved n)) e)
 
 -- a part that is spelled in a lawful shape is a field
-pub field_at : {V : Type 0} (s : Shape V) → Lawful s → (v : V) (p : List ℕ) (y : Tally) (n : ℕ) (q : List ℕ) (z : Tally) → s.spelled v q z → IsPart p y n q z → FieldAt s v p y
+abbrev pub field_at : {V : Type 0} (s : Shape V) → Lawful s → (v : V) (p : List ℕ) (y : Tally) (n : ℕ) (q : List ℕ) (z : Tally) → s.spelled v q z → IsPart p y n q z → FieldAt s v p y
 field_at s l v p y n q z b i =
     let w = whole_strict s l v q z b in
     record {

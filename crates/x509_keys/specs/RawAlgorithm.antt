@@ -1,5 +1,6 @@
 -- Algorithm identifiers whose parameters are any element (RFC 5280, 4.1.1.2).
-use Rattle.std.specs.Prelude.{◌≡◌, ℕ, ◌&&◌, ◌==◌, Bool, true, false, if◌then◌else◌, List, [], ◌∷◌, Option, Some, None}
+use Rattle.std.specs.Prelude.{◌≡◌, ℕ, ◌&&◌, ◌==◌, Bool, true, false, if◌then◌else◌, List, [], ◌∷◌, Option, Some, None, length, ◌++◌, ◌+◌}
+use Rattle.x509_der.specs.Element.{element, header}
 use Rattle.x509_der.specs.Types.{Deviation}
 use Rattle.x509_der.specs.Types.deviation
 use Rattle.x509_der.specs.Tally.{Tally}
@@ -83,13 +84,17 @@ IsReadable v = Unit {0}
 abbrev pub raw_algorithm : Shape RawAlgorithm
 raw_algorithm = viewed meaning written_fields IsRawAlgorithm IsReadable base
 
-abbrev pub FieldAtIfThere : Option (List ℕ) → List ℕ → Tally → Type 0
-FieldAtIfThere None string y = Unit {0}
-FieldAtIfThere (Some r) string y = FieldAt raws r string y
+-- the parameters stand in the bytes behind n, where there are any
+abbrev pub ParametersAt : Option (List ℕ) → List ℕ → ℕ → List ℕ → Tally → Type 0
+ParametersAt None bytes n string y = bytes ≡ []
+ParametersAt (Some r) bytes n string y = (f : FieldAt raws r string y) × (f.slice ≡ bytes) × (f.at ≡ n)
 
--- the fields of a spelling: the object identifier, and the parameters, where they stand there
+-- the fields of a spelling, one behind the other in the SEQUENCE: the object identifier, and the parameters, where they stand there
 pub record FieldsAt (v : RawAlgorithm) (string : List ℕ) (y : Tally) : Type 0 where
   pub parameters : Option (List ℕ)
   pub means : without_null parameters ≡ v.parameters
   pub algorithm_at : FieldAt (around 6 oids) v.algorithm string y
-  pub parameters_at : FieldAtIfThere parameters string y
+  pub rest : List ℕ
+  pub bytes : string ≡ element 48 (algorithm_at.slice ++ rest)
+  pub behind_header : algorithm_at.at ≡ header (algorithm_at.slice ++ rest)
+  pub parameters_at : ParametersAt parameters rest (algorithm_at.at + length algorithm_at.slice) string y

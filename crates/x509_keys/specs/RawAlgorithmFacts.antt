@@ -1,8 +1,8 @@
 -- Algorithm identifiers whose parameters are any element keep the laws.
-use Rattle.std.proofs.Common.{◌≡◌, ℕ, ◌≤◌, Bool, true, false, cond, List, [], ◌∷◌, length, refl, ap, ◌∙◌, arith, Option, Some, None}
+use Rattle.std.proofs.Common.{◌≡◌, ℕ, subst, ◌+◌, ◌≤◌, Bool, true, false, cond, List, [], ◌∷◌, length, refl, ap, ◌∙◌, arith, Option, Some, None}
 use Rattle.std.proofs.lemmas.Bool.Decides.{nat_tests}
 use Rattle.x509_der.specs.Lists.{same_pair}
-use Rattle.x509_der.specs.Element.{element, digits}
+use Rattle.x509_der.specs.Element.{element, digits, header}
 use Rattle.x509_der.specs.ElementFacts.{header_long}
 use Rattle.x509_der.specs.Tally.{Tally}
 use Rattle.x509_der.specs.Placing.{Ascending}
@@ -14,10 +14,10 @@ use Rattle.x509_der.specs.Optional.{optional, optional_lawful}
 use Rattle.x509_der.specs.Raw.{raws, raws_lawful, raws_element}
 use Rattle.x509_der.specs.Viewed.{viewed_lawful, viewed_element, IsView, some_one}
 use Rattle.x509_der.specs.Reading.{IsRaw, is_tag}
-use Rattle.x509_der.specs.Fields.{IsPart, FieldAt, part_content, part_first, part_second, part_part, part_marked, field_at}
+use Rattle.x509_der.specs.Fields.{IsPart, part_content, part_first, part_second, part_part, part_marked, field_at}
 use Rattle.x509_der.specs.Arcs.{oids}
 use Rattle.x509_der.specs.ArcFacts.{oid_lawful}
-use Rattle.x509_keys.specs.RawAlgorithm.{RawAlgorithm, is_null, without_null, from_parts, written_parameters, Fields, base, kinds_of, meaning, written_fields, NotNull, RawIfThere, IsRawAlgorithm, IsReadable, raw_algorithm, FieldAtIfThere, FieldsAt}
+use Rattle.x509_keys.specs.RawAlgorithm.{RawAlgorithm, is_null, without_null, from_parts, written_parameters, Fields, base, kinds_of, meaning, written_fields, NotNull, RawIfThere, IsRawAlgorithm, IsReadable, raw_algorithm, ParametersAt, FieldsAt}
 
 -- the fields
 
@@ -129,28 +129,35 @@ raw_algorithm_element = viewed_element meaning written_fields IsRawAlgorithm IsR
 
 -- the law of fields
 
-parameters_here : (p : Option (List ℕ)) (string : List ℕ) (y : Tally) (n : ℕ) (q : List ℕ) (z : Tally) → (optional raws).spelled p q z → IsPart string y n q z → FieldAtIfThere p string y
-parameters_here None string y n q z a i = tt
-parameters_here (Some r) string y n q z a i = field_at raws raws_lawful r string y n q z a i
+parameters_here : (p : Option (List ℕ)) (string : List ℕ) (y : Tally) (n : ℕ) (q : List ℕ) (z : Tally) → (optional raws).spelled p q z → IsPart string y n q z → ParametersAt p q n string y
+parameters_here None string y n q z a i = a.0
+parameters_here (Some r) string y n q z a i = (field_at raws raws_lawful r string y n q z a i, refl, refl)
 
 pub fields_at : (v : RawAlgorithm) (string : List ℕ) (y : Tally) → raw_algorithm.spelled v string y → FieldsAt v string y
 fields_at v string y a =
     let b = a.spelled in
     let j = b.spelled in
+    let h = header b.content in
     let k = some_one (from_parts a.base.0 a.base.1) v (kinds_of a.base.1) a.kinds a.means in
+    let long : 1 ≤ h = omega (arith, header_long b.content) in
     let c = part_content 48 inner inner_lawful a.base string a.part b in
     let w1 = (oid_element_lawful.places a.base.0 j.front j.first j.fore).within in
     let w2 = (rest_lawful.places a.base.1 j.back j.second j.aft).within in
-    let f = part_part string a.part _ b.content b.part _ j.front j.first c (part_first (oid.spelled a.base.0) ((optional raws).spelled a.base.1) b.content b.part j w1 w2) in
-    let g = part_part string a.part _ b.content b.part _ j.back j.second c (part_second (oid.spelled a.base.0) ((optional raws).spelled a.base.1) b.content b.part j w1 w2) in
-    let f1 = part_marked string a.kinds y a.part _ j.front j.first a.tally (omega (arith, header_long b.content)) f in
-    let g1 = part_marked string a.kinds y a.part _ j.back j.second a.tally (omega (arith, header_long b.content)) g in
+    let f = part_part string a.part h b.content b.part 0 j.front j.first c (part_first (oid.spelled a.base.0) ((optional raws).spelled a.base.1) b.content b.part j w1 w2) in
+    let g = part_part string a.part h b.content b.part (length j.front) j.back j.second c (part_second (oid.spelled a.base.0) ((optional raws).spelled a.base.1) b.content b.part j w1 w2) in
+    let f1 = part_marked string a.kinds y a.part (h + 0) j.front j.first a.tally (omega (arith, long)) f in
+    let g1 = part_marked string a.kinds y a.part (h + length j.front) j.back j.second a.tally (omega (arith, long)) g in
+    let z : h + 0 ≡ h = omega arith in
     let o : a.base.0 ≡ v.algorithm = ap (λ (x : RawAlgorithm). x.algorithm) k.0 in
-    let p : without_null a.base.1 ≡ v.parameters = ap (λ (x : RawAlgorithm). x.parameters) k.0 in
-    let h : FieldAt oid a.base.0 string y = field_at oid oid_element_lawful a.base.0 string y _ j.front j.first j.fore f1 in
+    let here : oid.spelled v.algorithm j.front j.first = rw o at j.fore in
+    let n : h + length j.front ≡ (h + 0) + length j.front = omega arith in
+    let P : ℕ → Type 0 = λ m. ParametersAt a.base.1 j.back m string y in
     record {
       parameters = a.base.1;
-      means = p;
-      algorithm_at = rw o at h;
-      parameters_at = parameters_here a.base.1 string y _ j.back j.second j.aft g1;
+      means = ap (λ (x : RawAlgorithm). x.parameters) k.0;
+      algorithm_at = field_at oid oid_element_lawful v.algorithm string y (h + 0) j.front j.first here f1;
+      rest = j.back;
+      bytes = b.bytes ∙ ap (element 48) j.bytes;
+      behind_header = z ∙ ap header j.bytes;
+      parameters_at = subst P n (parameters_here a.base.1 string y (h + length j.front) j.back j.second j.aft g1);
     }
