@@ -1,0 +1,4 @@
+pub mod Faults
+pub mod Text
+pub mod Output
+pub mod TextFacts

@@ -1,0 +1,57 @@
+-- What the program answers.
+use Rattle.std.specs.Prelude.{◌≡◌, ◌⊎◌, ℕ, ◌≤◌, ◌^◌, List, [], ◌∷◌, ◌++◌, length, map, codes, Result, Ok, Err}
+use Rattle.std.specs.List.{join_with_byte}
+use Rattle.std.specs.Fmt.{decimal}
+use Rattle.hex.specs.Hex.{encode_lower}
+use Rattle.x509_der.specs.Tally.{Tally, counts_of}
+use Rattle.x509_der.specs.Shape.{Shape}
+use Rattle.x509_keys.specs.RawAlgorithm.{raw_algorithm}
+use Rattle.x509_tool.specs.declared.fault.ToolFault.{ToolFault}
+use Rattle.x509_tool.specs.declared.fault.ToolFault.TheVariants.{Refused, Usage, OutOfMemory, TooLong}
+
+-- numbers in decimal, joined by single spaces
+abbrev pub spaced : List ℕ → List ℕ
+spaced counts = join_with_byte 32 (map decimal counts)
+
+-- bytes in lower-case hexadecimal on a line, and counts on a line
+abbrev pub report_text : List ℕ → List ℕ → List ℕ
+report_text bytes counts = encode_lower bytes ++ (10 ∷ (spaced counts ++ 10 ∷ []))
+
+-- the bytes are spelled with a value; out is the report of its strict spelling and of the ten counts
+pub record Reports {V : Type 0} (s : Shape V) (bytes out : List ℕ) : Type 0 where
+  pub value : V
+  pub tally : Tally
+  pub spelled : s.spelled value bytes tally
+  pub text : out ≡ report_text (s.strict value) (counts_of tally.marks)
+
+-- the bytes are spelled with a value whose strict spelling is longer than a usize can say
+pub record IsTooLong {V : Type 0} (s : Shape V) (bytes : List ℕ) : Type 0 where
+  pub value : V
+  pub tally : Tally
+  pub spelled : s.spelled value bytes tally
+  pub long : 2 ^ 64 ≤ length (s.strict value)
+
+-- the answer to bytes: their report; refused exactly where they are spelled with no value; too long; or memory was refused
+abbrev pub Answers : {V : Type 0} → Shape V → List ℕ → Result (List ℕ) ToolFault → Type 0
+Answers s bytes (Ok out) = Reports s bytes out
+Answers s bytes (Err Refused) = (v : _) (y : Tally) → s.spelled v bytes y → ⊥
+Answers s bytes (Err Usage) = ⊥
+Answers s bytes (Err OutOfMemory) = Unit {0}
+Answers s bytes (Err TooLong) = IsTooLong s bytes
+
+-- the names of the types that are served
+abbrev pub IsServed : List ℕ → Type 0
+IsServed name = name ≡ codes "raw-algorithm"
+
+-- the answer to the bytes of a served type
+abbrev pub AnswersNamed : List ℕ → List ℕ → Result (List ℕ) ToolFault → Type 0
+AnswersNamed name bytes r = (name ≡ codes "raw-algorithm") × Answers raw_algorithm bytes r
+
+-- the answer to a text that is no hexadecimal text
+abbrev pub IsUsageOrMemory : Result (List ℕ) ToolFault → Type 0
+IsUsageOrMemory r = (r ≡ Err Usage) ⊎ (r ≡ Err OutOfMemory)
+
+-- the list in a vector, in an answer
+abbrev pub listed_answer : {L : Type 0} → (L → List ℕ) → Result L ToolFault → Result (List ℕ) ToolFault
+listed_answer of (Ok v) = Ok (of v)
+listed_answer of (Err e) = Err e

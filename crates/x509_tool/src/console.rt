@@ -1,0 +1,108 @@
+//! The program's argument, its standard input and its standard output.
+
+use crate::fault::ToolFault;
+use crate::run_text::run_text;
+use std::alloc::{AllocError, Global};
+use std::env;
+use std::io::{self, ErrorKind, Read, Write};
+
+/// How often standard input is read at the most: an input that hasn't ended by then is given up.
+const MOST_READS: usize = 1 << 24;
+
+/// How many bytes one read takes at the most.
+const READ_SIZE: usize = 4096;
+
+/// Why the program ends without output.
+#[derive(Clone, Copy, Debug, Drop)]
+pub enum Stop {
+    /// The text gives no output.
+    Fault(ToolFault),
+    /// Standard input or output failed, or the input didn't end.
+    Console,
+}
+
+impl Stop {
+    /// The program's exit status.
+    pub fn status(self) -> u8 {
+        match self {
+            Stop::Fault(fault) => fault.status(),
+            Stop::Console => 5,
+        }
+    }
+
+    /// The line on standard error.
+    pub fn line(self) -> &'static str {
+        match self {
+            Stop::Fault(fault) => fault.line(),
+            Stop::Console => "input or output failed",
+        }
+    }
+}
+
+impl From<ToolFault> for Stop {
+    fn from(fault: ToolFault) -> Stop {
+        Stop::Fault(fault)
+    }
+}
+
+impl From<AllocError> for Stop {
+    fn from(_refused: AllocError) -> Stop {
+        Stop::Fault(ToolFault::OutOfMemory)
+    }
+}
+
+/// What stops the program where the system refuses something: memory, or the console.
+fn stop_of(error: &io::Error) -> Stop {
+    if error.kind() == ErrorKind::OutOfMemory {
+        Stop::Fault(ToolFault::OutOfMemory)
+    } else {
+        Stop::Console
+    }
+}
+
+/// The one argument.
+fn type_name(rt: &HostRuntime) -> Result<String, Stop> {
+    let mut arguments = match env::args(rt) {
+        Ok(arguments) => arguments,
+        Err(error) if error.kind() == ErrorKind::OutOfMemory => {
+            return Err(Stop::Fault(ToolFault::OutOfMemory));
+        }
+        Err(_not_text) => return Err(Stop::Fault(ToolFault::Usage)),
+    };
+    let _program = arguments.next();
+    match (arguments.next(), arguments.next()) {
+        (Some(name), None) => Ok(name),
+        _ => Err(Stop::Fault(ToolFault::Usage)),
+    }
+}
+
+/// All of a reader's bytes, in at most `MOST_READS` reads.
+fn read_input<R: Read + Drop>(alloc: Global, mut reader: R) -> Result<Vec<u8>, Stop> {
+    let mut input = Vec::new(alloc);
+    let mut buffer = [0u8; READ_SIZE];
+    for _ in 0..MOST_READS {
+        match reader.read(&mut buffer) {
+            Ok(0) => return Ok(input),
+            Ok(count) => input.extend_from_slice(&buffer[..count])?,
+            Err(error) if error.kind() == ErrorKind::Interrupted => {}
+            Err(error) => return Err(stop_of(&error)),
+        }
+    }
+    Err(Stop::Console)
+}
+
+/// Runs the program: looks at the argument, reads the input, and prints the answer, all of it or nothing.
+pub fn run(rt: &HostRuntime) -> Result<(), Stop> {
+    let name = type_name(rt)?;
+    let input = read_input(rt.alloc(), rt.reader())?;
+    let answer = run_text(rt.alloc(), name.as_str(), &input)?;
+    let mut out = io::writer(rt);
+    match out.write_all(&answer) {
+        Ok(()) => {}
+        Err(error) => return Err(stop_of(&error)),
+    }
+    match out.flush() {
+        Ok(()) => Ok(()),
+        Err(error) => Err(stop_of(&error)),
+    }
+}

@@ -1,0 +1,58 @@
+//! The program's work, as a function of its argument and its input.
+
+ghost use Rattle.std.specs.Prelude.{◌≡◌, ℕ, List, Err};
+ghost use Rattle.x509_tool.specs.Text.{IsTextOf, IsNoText, IsWithoutLineFeed};
+ghost use Rattle.x509_tool.specs.Output.{Answers, AnswersNamed, IsServed, IsUsageOrMemory, listed_answer};
+
+use crate::fault::ToolFault;
+use crate::report::report;
+use std::alloc::Allocator;
+use x509_der::{FromDer, read_counted, to_vec};
+use x509_keys::RawAlgorithmIdentifier;
+
+/// The text without one line feed at its end.
+fn without_line_feed(text: &[u8]) -> &[u8]
+    ensures { IsWithoutLineFeed text.now result.now }
+{
+    match text {
+        [digits @ .., b'\n'] => digits,
+        _ => text,
+    }
+}
+
+/// The answer to the bytes as a value of a type.
+fn answer<T: FromDer<A>, A: Allocator + Copy>(
+    alloc: A,
+    bytes: &[u8],
+) -> Result<Vec<u8, A>, ToolFault>
+    ensures { Answers T.shape bytes.now (listed_answer (λ v. v.items) result) }
+{
+    let (value, deviations) = read_counted::<T, A>(alloc, bytes)?;
+    let strict = to_vec(alloc, &value)?;
+    let text = report(alloc, &strict, deviations.counts())?;
+    Ok(text)
+}
+
+/// What the program prints for the type's name and the hexadecimal text of an input: the strict spelling of the value in
+/// lower-case hexadecimal on a line, and the ten counts of deviations on a line.
+///
+/// # Errors
+/// `Usage`, exactly where the name isn't that of a type that is served, and before memory is asked for, or the text isn't an
+/// even number of hexadecimal digits of either case with at most one line feed at its end; else `Refused`, exactly where the
+/// bytes aren't spelled with a value of the type; `TooLong`, exactly where its strict spelling is longer than a `usize` can
+/// say. `OutOfMemory` may stand in place of any answer but that to an unknown name, where memory is refused.
+pub fn run_text<A: Allocator + Copy>(
+    alloc: A,
+    type_name: &str,
+    input: &[u8],
+) -> Result<Vec<u8, A>, ToolFault>
+    ensures unknown { (IsServed type_name.now → ⊥) → result ≡ Err ToolFault.Usage }
+    ensures no_text { IsServed type_name.now → IsNoText input.now → IsUsageOrMemory (listed_answer (λ v. v.items) result) }
+    ensures text { (bytes : List ℕ) → IsServed type_name.now → IsTextOf bytes input.now → AnswersNamed type_name.now bytes (listed_answer (λ v. v.items) result) }
+{
+    if type_name != "raw-algorithm" {
+        return Err(ToolFault::Usage);
+    }
+    let bytes = hex::decode(alloc, without_line_feed(input))?;
+    answer::<RawAlgorithmIdentifier<A>, A>(alloc, &bytes)
+}
