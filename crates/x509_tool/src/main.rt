@@ -6,6 +6,8 @@ mod console;
 mod fault;
 mod report;
 mod run_text;
+#[cfg(test)]
+mod tests;
 
 use std::process::ExitCode;
 

@@ -1,0 +1,156 @@
+//! Algorithm identifiers whose parameters are any element.
+
+use super::rows::{Row, holds, refuses, refuses_text};
+use std::alloc::Global;
+use std::process::Abort;
+use std::test::Fail;
+use x509_der::{
+    Asn1RawDer, Deviation, ObjectIdentifier, SliceError, from_bytes, to_vec, write_to_slice,
+};
+use x509_keys::RawAlgorithmIdentifier;
+
+/// HMAC with SHA-256, with NULL and without parameters.
+const WITH_NULL: &str = "300c06082a864886f70d02090500";
+
+const WITHOUT: &str = "300a06082a864886f70d0209";
+
+#[test]
+fn rows_hold(rt: HostRuntime) -> Result<(), Fail> {
+    let alloc = rt.alloc();
+    let strict = Row {
+        input: WITH_NULL,
+        strict: WITH_NULL,
+        places: &[],
+        headers: 3,
+    };
+    holds::<RawAlgorithmIdentifier>(&rt, alloc, &strict)?;
+    let absent = Row {
+        input: WITHOUT,
+        strict: WITH_NULL,
+        places: &[(Deviation::RawParametersAbsent, 0, 12)],
+        headers: 2,
+    };
+    holds::<RawAlgorithmIdentifier>(&rt, alloc, &absent)?;
+    // A name's attribute has this shape too: 2.5.4.3 and a UTF8String.
+    let text = Row {
+        input: "301606035504030c0f696e7465726d6564696174655f6361",
+        strict: "301606035504030c0f696e7465726d6564696174655f6361",
+        places: &[],
+        headers: 3,
+    };
+    holds::<RawAlgorithmIdentifier>(&rt, alloc, &text)
+}
+
+/// The value that the bytes in hexadecimal are read as.
+fn value_of(alloc: Global, text: &str) -> Result<RawAlgorithmIdentifier, Fail> {
+    let bytes = hex::decode(alloc, text)?;
+    let value = from_bytes::<RawAlgorithmIdentifier, Global>(alloc, &bytes)?;
+    Ok(value)
+}
+
+/// The value of these arcs, with the element in hexadecimal as its parameters.
+fn made_of(alloc: Global, arcs: &[u64], element: &str) -> Result<RawAlgorithmIdentifier, Fail> {
+    let algorithm = ObjectIdentifier::from_arcs(alloc, arcs)?;
+    let bytes = hex::decode(alloc, element)?;
+    let element = Asn1RawDer::from_vec(bytes).ok().ok_or("no element")?;
+    Ok(RawAlgorithmIdentifier::from_parts(algorithm, Some(element)))
+}
+
+#[test]
+fn values_are_as_stated(rt: HostRuntime) -> Result<(), Fail> {
+    let value = value_of(rt.alloc(), WITHOUT)?;
+    assert!(rt; value.algorithm().is_arcs(&[1, 2, 840, 113549, 2, 9]));
+    assert!(rt; value.parameters().is_none());
+    let copy = value.clone()?;
+    assert_eq!(rt; copy, value);
+    Ok(())
+}
+
+#[test]
+fn null_is_held_as_none(rt: HostRuntime) -> Result<(), Fail> {
+    let alloc = rt.alloc();
+    let made = made_of(alloc, &[1, 2, 840, 113549, 2, 9], "0500")?;
+    let read = value_of(alloc, WITHOUT)?;
+    assert_eq!(rt; made, read);
+    Ok(())
+}
+
+#[test]
+fn parameters_are_kept(rt: HostRuntime) -> Result<(), Fail> {
+    let alloc = rt.alloc();
+    let made = made_of(alloc, &[2, 5, 4, 3], "0c0161")?;
+    let read = value_of(alloc, "300806035504030c0161")?;
+    assert_eq!(rt; made, read);
+    assert!(rt; made.parameters().is_some());
+    Ok(())
+}
+
+/// Writing into so many bytes EE gives this answer, and these bytes in hexadecimal.
+fn fills(
+    rt: &impl Abort,
+    alloc: Global,
+    room: usize,
+    answer: Result<usize, SliceError>,
+    after: &str,
+) -> Result<(), Fail> {
+    let value = value_of(alloc, WITHOUT)?;
+    let mut slice = Vec::from_elem(alloc, 0xEEu8, room)?;
+    assert_eq!(rt; write_to_slice(&value, slice.as_mut_slice()), answer);
+    let after = hex::decode(alloc, after)?;
+    assert_eq!(rt; slice.as_slice(), after.as_slice());
+    Ok(())
+}
+
+#[test]
+fn slices_are_filled_or_left(rt: HostRuntime) -> Result<(), Fail> {
+    let alloc = rt.alloc();
+    let longer = "300c06082a864886f70d02090500eeeeeeeeeeee";
+    fills(&rt, alloc, 20, Ok(14), longer)?;
+    fills(&rt, alloc, 14, Ok(14), WITH_NULL)?;
+    let shorter = "eeeeeeeeeeeeeeeeeeeeeeeeee";
+    fills(&rt, alloc, 13, Err(SliceError::TooShort), shorter)?;
+    fills(&rt, alloc, 0, Err(SliceError::TooShort), "")
+}
+
+#[test]
+fn other_elements_are_refused(rt: HostRuntime) -> Result<(), Fail> {
+    let alloc = rt.alloc();
+    for text in [
+        "300a06082a864886f70d020905",
+        "300d06082a864886f70d0209050000",
+        "300c06082a864886f70d0209050000",
+        "310c06082a864886f70d02090500",
+        "3000",
+        "300e06082a864886f70d020905000500",
+    ] {
+        refuses_text::<RawAlgorithmIdentifier>(&rt, alloc, text)?;
+    }
+    Ok(())
+}
+
+/// The universal tags that the types of this library have.
+const TAGS: [u8; 13] = [
+    0x01, 0x02, 0x03, 0x04, 0x05, 0x0C, 0x13, 0x16, 0x17, 0x18, 0x1E, 0x30, 0x31,
+];
+
+#[test]
+fn only_an_identifier_comes_first(rt: HostRuntime) -> Result<(), Fail> {
+    let alloc = rt.alloc();
+    for tag in TAGS {
+        let bytes = [0x30, 0x05, tag, 0x01, 0x2A, 0x05, 0x00];
+        refuses::<RawAlgorithmIdentifier>(&rt, alloc, &bytes)?;
+    }
+    Ok(())
+}
+
+#[test]
+fn any_element_comes_second(rt: HostRuntime) -> Result<(), Fail> {
+    let alloc = rt.alloc();
+    for tag in TAGS {
+        let bytes = [0x30, 0x06, 0x06, 0x01, 0x2A, tag, 0x01, 0x00];
+        let value = from_bytes::<RawAlgorithmIdentifier, Global>(alloc, &bytes)?;
+        let again = to_vec(alloc, &value)?;
+        assert_eq!(rt; again.as_slice(), bytes.as_slice());
+    }
+    Ok(())
+}
