@@ -1,5 +1,8 @@
 //! The program's argument, its standard input and its standard output.
 
+ghost use Rattle.std.specs.Prelude.{◌≡◌};
+ghost use Rattle.x509_tool.specs.Stops.{status_of_stop, line_of_stop};
+
 use crate::fault::ToolFault;
 use crate::run_text::run_text;
 use std::alloc::{AllocError, Global};
@@ -23,7 +26,9 @@ pub enum Stop {
 
 impl Stop {
     /// The program's exit status.
-    pub fn status(self) -> u8 {
+    pub fn status(self) -> u8
+        ensures { result ≡ status_of_stop self }
+    {
         match self {
             Stop::Fault(fault) => fault.status(),
             Stop::Console => 5,
@@ -31,7 +36,9 @@ impl Stop {
     }
 
     /// The line on standard error.
-    pub fn line(self) -> &'static str {
+    pub fn line(self) -> &'static str
+        ensures { result.now ≡ line_of_stop self }
+    {
         match self {
             Stop::Fault(fault) => fault.line(),
             Stop::Console => "input or output failed",
@@ -40,12 +47,23 @@ impl Stop {
 }
 
 impl From<ToolFault> for Stop {
+    ghost use Rattle.std.specs.Prelude.{◌≡◌};
+    ghost use Rattle.x509_tool.specs.declared.console.Stop.TheVariants.{Fault};
+
+    ghost from_gives = { λ fault stop. stop ≡ Fault fault };
+
     fn from(fault: ToolFault) -> Stop {
         Stop::Fault(fault)
     }
 }
 
 impl From<AllocError> for Stop {
+    ghost use Rattle.std.specs.Prelude.{◌≡◌};
+    ghost use Rattle.x509_tool.specs.declared.console.Stop.TheVariants.{Fault};
+    ghost use Rattle.x509_tool.specs.declared.fault.ToolFault.TheVariants.{OutOfMemory};
+
+    ghost from_gives = { λ _ stop. stop ≡ Fault OutOfMemory };
+
     fn from(_refused: AllocError) -> Stop {
         Stop::Fault(ToolFault::OutOfMemory)
     }
