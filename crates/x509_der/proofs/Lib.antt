@@ -1,2 +1,3 @@
 pub mod Oids
 pub mod Raws
+pub mod Texts

@@ -3,6 +3,8 @@ pub use Rattle.x509_der_parts.specs.Kinds
 pub mod Types
 pub use Rattle.x509_der_parts.specs.Counts
 pub use Rattle.x509_der_parts.specs.Same
+pub use Rattle.x509_der_parts.specs.Firsts
+pub use Rattle.x509_der_parts.specs.Enters
 pub use Rattle.x509_der_parts.specs.Lists
 pub use Rattle.x509_der_parts.specs.Element
 pub use Rattle.x509_der_parts.specs.Digits
@@ -37,3 +39,4 @@ pub use Rattle.x509_der_parts.specs.Fields
 pub use Rattle.x509_der_parts.specs.Laws
 pub mod Arcs
 pub mod ArcFacts
+pub mod Dotted

@@ -2,8 +2,8 @@
 
 ghost use Rattle.std.specs.Prelude.{◌≡◌, ◌++◌, ◌↔◌, [], ℕ, List, IsTrue};
 ghost use Rattle.x509_der_parts.specs.Tally.{Tally};
-ghost use Rattle.x509_der_parts.specs.Shape.{Lawful, IsElement, IsStrict};
-ghost use Rattle.x509_der_parts.specs.Laws.{ReadsBack};
+ghost use Rattle.x509_der_parts.specs.Shape.{Lawful, IsElement};
+ghost use Rattle.x509_der_parts.specs.Laws.{IsSpelled, IsSpelledClean, ReadsBack};
 
 use std::alloc::Allocator;
 use x509_der_parts::parts::Field;
@@ -33,9 +33,10 @@ pub fn equal_spellings<T: FromDer<A>, A: Allocator>()
     ensures { (v w : T) → T.shape.valid v → T.shape.valid w → T.shape.readable v → T.shape.readable w → T.strict v ≡ T.strict w → v ≡ w }
 {}
 
-/// The strict spelling of a value is spelled with it, and no deviation, exactly where it is readable.
+/// What is written of a value is spelled with it exactly where it is readable, and then with no deviation.
 pub fn spelled_where_readable<T: FromDer<A>, A: Allocator>()
-    ensures { (v : T) → T.shape.valid v → IsStrict T.shape v ↔ T.shape.readable v }
+    ensures exactly { (v : T) → T.shape.valid v → IsSpelled T.shape v (T.strict v) ↔ T.shape.readable v }
+    ensures clean { (v : T) → T.shape.valid v → T.shape.readable v → IsSpelledClean T.shape v (T.strict v) }
 {}
 
 /// What was read from any string is written and read back as itself, with no deviation, and written as the same bytes again.
@@ -48,7 +49,7 @@ pub fn equality_is_sameness<T: SameEq>()
     ensures { (x y : T) → IsTrue (T.eq x y) ↔ (x ≡ y) }
 {}
 
-/// Reading NULL takes no memory, so that the calls never answer want of it.
+/// Reading NULL takes no memory, so that `from_bytes`, `read_counted` and `read_metered` never answer want of it.
 pub fn null_takes_no_memory<A: Allocator + Copy>()
     ensures { ⟦<() as Field<A>>⟧.shape.frugal }
 {}

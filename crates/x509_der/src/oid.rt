@@ -2,12 +2,15 @@
 
 ghost use Rattle.std.specs.Prelude.{◌≡◌, ◌≢◌, ◌↔◌, ◌+◌, ◌≤◌, ◌<◌, ◌*◌, ◌^◌, ◌/◌, ◌&&◌, ◌==◌, ◌++◌, ◌∷◌, [], ℕ, List, length, take, drop, true, refl, Option, Some, None, IfOk, IfErr, Err, IsTrue, slice_get};
 ghost use Rattle.std.specs.List.{flat_map};
+ghost use Rattle.std.proofs.Common.{lit<};
 ghost use Rattle.x509_der_parts.specs.Element.{element};
 ghost use Rattle.x509_der_parts.specs.Around.{around, around_lawful, around_element};
 ghost use Rattle.x509_der_parts.specs.Writing.{Measures};
 ghost use Rattle.x509_der_parts.specs.declared.errors.ReadError.TheVariants.{OutOfMemory};
 ghost use Rattle.x509_der.specs.Arcs.{IsLawful, IsUnder, septets, high_digits, spelled_numbers, oid_content, oids};
 ghost use Rattle.x509_der.specs.ArcFacts.{parse_numbers, oid_lawful, first_of, pushed, Parsed};
+
+mod text;
 
 use std::alloc::{AllocError, AllocFailed, Allocator, Global};
 use std::marker::Model;
@@ -504,7 +507,7 @@ impl<A: Allocator + Copy> Field<A> for ObjectIdentifierAsn1<A> {
 impl<A: Allocator + Copy> FromDer<A> for ObjectIdentifierAsn1<A> {
     ghost always = { tt };
 
-    ghost element = { around_element 6 oids };
+    ghost element = { around_element 6 oids refl (lit< tt) };
 }
 
 impl<A: Allocator + Copy> OneTag<A> for ObjectIdentifierAsn1<A> {

@@ -1,8 +1,8 @@
 -- A shape's spelling as the content of an element.
-use Rattle.std.proofs.Common.{◌≡◌, ℕ, ◌+◌, ◌≤◌, false, ◌⊎◌, eqb, eq-eqb, List, [], ◌++◌, length, map, refl, ap, sym, ◌∙◌, arith}
+use Rattle.std.proofs.Common.{◌≡◌, true, ◌<◌, ℕ, ◌+◌, ◌≤◌, false, ◌⊎◌, eqb, eq-eqb, List, [], ◌++◌, length, map, refl, ap, sym, ◌∙◌, arith}
 use Rattle.std.proofs.lemmas.List.{length-map}
 use Rattle.x509_der_parts.specs.Placing.{placing_same, placing_moved, Deep, deep_moved}
-use Rattle.x509_der_parts.specs.Element.{element, header}
+use Rattle.x509_der_parts.specs.Element.{element, header, is_tag}
 use Rattle.x509_der_parts.specs.Lists.{map_empty}
 use Rattle.x509_der_parts.specs.Tally.{Tally, inside, moved}
 use Rattle.x509_der_parts.specs.TallyFacts.{inside_marks, inside_headers, inside_clean}
@@ -74,10 +74,10 @@ module _ {V : Type 0} (t : ℕ) (s : Shape V) (l : Lawful s) where
         omega (arith, l.few v a.content a.part a.spelled, ap (λ (x : Tally). length x.marks) a.tally, ap (λ (x : Tally). x.headers) a.tally, inside_headers (header a.content) a.part, ap length (inside_marks (header a.content) a.part), length-map a.part.marks (moved (header a.content)));
   }
 
-pub around_element : {V : Type 0} (t : ℕ) (s : Shape V) → IsElement (around t s)
-around_element t s = record {
-  one = λ v p y a. (t, a.content, a.bytes);
-  strict = λ v d. (t, s.strict v, refl);
+pub around_element : {V : Type 0} (t : ℕ) (s : Shape V) → is_tag t ≡ true → t < 256 → IsElement (around t s)
+around_element t s fits byte = record {
+  one = λ v p y a. record { tag = t; content = a.content; fits = fits; byte = byte; bytes = a.bytes };
+  strict = λ v d. record { tag = t; content = s.strict v; fits = fits; byte = byte; bytes = refl };
   free = λ b. refl;
 }
 

@@ -27,6 +27,7 @@ pub record Counted {V : Type 0} (s : Shape V) (string : List ℕ) (v : V) (count
   pub tally : Tally
   pub whole : IsWhole s string v tally
   pub counted : counts ≡ counts_of tally.marks
+  pub total : sum counts ≡ length tally.marks
 
 abbrev pub CountedRead : {V : Type 0} → Shape V → List ℕ → Result (V × List ℕ) ReadError → Type 0
 CountedRead s string (Ok r) = Counted s string r.0 r.1

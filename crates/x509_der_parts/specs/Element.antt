@@ -1,5 +1,5 @@
 -- Elements: one tag byte, length digits, content (X.690, 8.1 and 10.1).
-use Rattle.std.specs.Prelude.{ℕ, zero, suc, ◌+◌, ◌/◌, ◌*◌, ◌%◌, ◌==◌, nat_lt, if◌then◌else◌, List, [], ◌∷◌, ◌++◌, length}
+use Rattle.std.specs.Prelude.{◌≡◌, ◌<◌, Bool, true, not, ℕ, zero, suc, ◌+◌, ◌/◌, ◌*◌, ◌%◌, ◌==◌, nat_lt, if◌then◌else◌, List, [], ◌∷◌, ◌++◌, length}
 
 -- the digits of n in base 256, the highest first, in front of tail; fuel is at least n
 abbrev pub base256 : ℕ → ℕ → List ℕ → List ℕ
@@ -13,6 +13,18 @@ digits n = if nat_lt n 128 then n ∷ [] else (128 + length (base256 n n [])) �
 -- tag, length digits, content (X.690, 8.1.1)
 unfoldable pub element : ℕ → List ℕ → List ℕ
 element t c = t ∷ (digits (length c) ++ c)
+
+-- a tag is one byte, whose low five bits aren't all ones (8.1.2.4)
+abbrev pub is_tag : ℕ → Bool
+is_tag t = not (t % 32 == 31)
+
+-- p is one element
+pub record IsRaw (p : List ℕ) : Type 0 where
+  pub tag : ℕ
+  pub content : List ℕ
+  pub fits : is_tag tag ≡ true
+  pub byte : tag < 256
+  pub bytes : p ≡ element tag content
 
 -- how many bytes stand before an element's content
 unfoldable pub header : List ℕ → ℕ

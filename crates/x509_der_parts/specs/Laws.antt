@@ -2,8 +2,17 @@
 use Rattle.std.proofs.Common.{◌≡◌, ◌↔◌, ℕ, List, [], ◌++◌, refl, ap, sym, ◌∙◌, append-nil}
 use Rattle.x509_der_parts.specs.Element.{element}
 use Rattle.x509_der_parts.specs.ElementFacts.{element_one}
-use Rattle.x509_der_parts.specs.Shape.{Shape, Lawful, IsElement, IsStrict}
+use Rattle.x509_der_parts.specs.Shape.{Shape, Lawful, IsElement}
 use Rattle.x509_der_parts.specs.Tally.{Tally}
+
+-- the bytes are spelled with the value
+abbrev pub IsSpelled : {V : Type 0} → Shape V → V → List ℕ → Type 0
+IsSpelled s v p = (y : Tally) × s.spelled v p y
+
+-- and with no deviation
+pub record IsSpelledClean {V : Type 0} (s : Shape V) (v : V) (p : List ℕ) : Type 0 where
+  pub headers : ℕ
+  pub spelled : s.spelled v p (record { marks = []; headers = headers })
 
 -- the value is spelled with no deviation by what is written of it, and what is read from that is the value, of which the same is written
 pub record ReadsBack {V : Type 0} (s : Shape V) (strict : V → List ℕ) (v : V) : Type 0 where
@@ -18,8 +27,11 @@ module _ {V : Type 0} (s : Shape V) (l : Lawful s) (e : IsElement s) (strict : V
       let y = l.written w k t in
       (l.one v w (s.strict v) (s.strict w) [] [] _ _ x.spelled y.spelled (ap (λ p. p ++ []) (agrees v ∙ h ∙ sym (agrees w))) tt tt).value
 
-  pub spelled_readable : (v : V) → s.valid v → IsStrict s v ↔ s.readable v
-  spelled_readable v d = (λ x. l.read v (s.strict v) _ x.spelled, λ r. l.written v d r)
+  pub spelled_clean : (v : V) → s.valid v → s.readable v → IsSpelledClean s v (strict v)
+  spelled_clean v d r = let x = l.written v d r in record { headers = x.headers; spelled = rw (agrees v) at x.spelled }
+
+  pub spelled_readable : (v : V) → s.valid v → IsSpelled s v (strict v) ↔ s.readable v
+  spelled_readable v d = (λ x. l.read v (strict v) x.0 x.1, λ r. let c = spelled_clean v d r in (_, c.spelled))
 
   pub reads_back : (string : List ℕ) (v : V) (y : Tally) → s.spelled v string y → ReadsBack s strict v
   reads_back string v y a =
@@ -38,4 +50,4 @@ pub no_front : {V W : Type 0} (s : Shape V) (u : Shape W) → IsElement s → Is
 no_front s u e f v w more d k h =
     let a = e.strict v d in
     let b = f.strict w k in
-    (element_one a.0 b.0 a.1 b.1 more [] (ap (λ p. p ++ more) (sym a.2) ∙ h ∙ b.2 ∙ sym (append-nil (element b.0 b.1)))).rest
+    (element_one a.tag b.tag a.content b.content more [] (ap (λ p. p ++ more) (sym a.bytes) ∙ h ∙ b.bytes ∙ sym (append-nil (element b.tag b.content)))).rest

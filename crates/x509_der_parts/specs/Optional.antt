@@ -5,6 +5,7 @@ use Rattle.x509_der_parts.specs.Tally.{Tally, none}
 use Rattle.x509_der_parts.specs.Shape.{Shape, Lawful, IsStrict, Same, Follows, Begins}
 use Rattle.x509_der_parts.specs.Pair.{follows_left, follows_right}
 
+-- nothing, with no header, or a spelling of the value
 abbrev pub Optional : {V : Type 0} → Shape V → Option V → List ℕ → Tally → Type 0
 Optional s None p y = (p ≡ []) × (y ≡ none)
 Optional s (Some v) p y = s.spelled v p y
@@ -13,10 +14,12 @@ abbrev pub optional_strict : {V : Type 0} → (V → List ℕ) → Option V → 
 optional_strict of None = []
 optional_strict of (Some v) = of v
 
+-- P holds of the value, where there is one
 abbrev pub IfThere : {V : Type 0} → (V → Type 0) → Option V → Type 0
 IfThere P None = Unit {0}
 IfThere P (Some v) = P v
 
+-- a field that may be absent (X.680, 25.9): told by its first byte, so that none of its own may follow it
 abbrev pub optional : {V : Type 0} → Shape V → Shape (Option V)
 optional s = record {
   spelled = Optional s;

@@ -1,5 +1,5 @@
 -- Any one element, whose content is not looked into.
-use Rattle.std.proofs.Common.{◌≡◌, ℕ, ◌≤◌, Bool, true, false, ◌==◌, ◌&&◌, List, [], ◌∷◌, ◌++◌, length, refl, ap, sym, ◌∙◌, arith}
+use Rattle.std.proofs.Common.{◌≡◌, ℕ, ◌≤◌, Bool, true, false, List, [], ◌∷◌, ◌++◌, length, refl, ap, sym, ◌∙◌, arith}
 use Rattle.x509_der_parts.specs.Placing.{no_marks}
 use Rattle.x509_der_parts.specs.Element.{element}
 use Rattle.x509_der_parts.specs.Tally.{Tally}
@@ -10,11 +10,13 @@ use Rattle.x509_der_parts.specs.Reading.{is_tag, IsRaw}
 abbrev pub one_header : Tally
 one_header = record { marks = []; headers = 1 }
 
+-- an element is its own value, with one header
 pub record Raw (v p : List ℕ) (y : Tally) : Type 0 where
   pub is : IsRaw p
   pub bytes : p ≡ v
   pub tally : y ≡ one_header
 
+-- any one element
 abbrev pub raws : Shape (List ℕ)
 raws = record {
   spelled = Raw;
@@ -58,13 +60,7 @@ raws_lawful = record {
 
 pub raws_element : IsElement raws
 raws_element = record {
-  one = λ v p y a. (a.is.tag, a.is.content, a.is.bytes);
-  strict = λ v d. (d.tag, d.content, d.bytes);
+  one = λ v p y a. a.is;
+  strict = λ v d. d;
   free = λ b. refl;
 }
-
-abbrev pub is_null : List ℕ → Bool
-is_null [] = false
-is_null (a ∷ []) = false
-is_null (a ∷ b ∷ []) = (a == 5) && (b == 0)
-is_null (a ∷ b ∷ c ∷ r) = false

@@ -1,7 +1,8 @@
 -- What reading does: the state of a reader, and what a read of a shape gives.
-use Rattle.std.specs.Prelude.{◌≡◌, ℕ, ◌+◌, ◌*◌, ◌%◌, ◌≤◌, ◌<◌, ◌^◌, Bool, true, not, ◌==◌, List, [], ◌∷◌, ◌++◌, length, map, take, drop, Option, Some, None, sum, slice_set, slice_index, Result, Ok, Err}
+use Rattle.std.specs.Prelude.{◌≡◌, ℕ, ◌+◌, ◌*◌, ◌≤◌, ◌<◌, ◌^◌, true, List, [], ◌∷◌, ◌++◌, length, map, take, drop, Option, Some, None, sum, slice_set, slice_index, Result, Ok, Err}
 use Rattle.std.specs.Borrow.{Bor}
 use Rattle.x509_der_parts.specs.Element.{element, header}
+pub use Rattle.x509_der_parts.specs.Element.{is_tag, IsRaw}
 use Rattle.x509_der_parts.specs.Kinds.{kind_index}
 use Rattle.x509_der_parts.specs.Tally.{Tally, Mark, moved}
 use Rattle.x509_der_parts.specs.Shape.{Shape, Follows, Same}
@@ -90,10 +91,6 @@ abbrev pub Reads : {V : Type 0} → Shape V → Cursor → Cursor → Result V R
 Reads s old new (Ok v) = Accepts s old new v
 Reads s old new (Err e) = Refuses s old new e
 
--- a tag of one byte: its low five bits aren't all ones (X.690, 8.1.2.4)
-abbrev pub is_tag : ℕ → Bool
-is_tag t = not (t % 32 == 31)
-
 -- the string begins with an element: its tag, its content and what comes behind it
 pub record IsFirst (string : List ℕ) (t : ℕ) (content after : List ℕ) : Type 0 where
   pub bytes : string ≡ element t content ++ after
@@ -112,13 +109,6 @@ FirstElement string (Err e) = NoFirst string
 abbrev pub TakesElement : Cursor → Cursor → Result (ℕ × Bor (List ℕ)) ReadError → Type 0
 TakesElement old new (Ok h) = IsFirst old.rest h.0 h.1.now new.rest
 TakesElement old new (Err e) = NoFirst old.rest
-
--- p is one element
-pub record IsRaw (p : List ℕ) : Type 0 where
-  pub tag : ℕ
-  pub content : List ℕ
-  pub fits : is_tag tag ≡ true
-  pub bytes : p ≡ element tag content
 
 pub record RawTaken (old new : Cursor) (p : List ℕ) : Type 0 where
   pub raw : IsRaw p

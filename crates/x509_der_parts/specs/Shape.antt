@@ -1,6 +1,6 @@
 -- Shapes: how values are spelled, and what every lawful shape keeps.
 use Rattle.std.specs.Prelude.{◌≡◌, ℕ, ◌*◌, ◌≤◌, Bool, true, false, List, [], ◌∷◌, ◌++◌, length}
-use Rattle.x509_der_parts.specs.Element.{element}
+use Rattle.x509_der_parts.specs.Element.{IsRaw}
 use Rattle.x509_der_parts.specs.Placing.{Placing}
 use Rattle.x509_der_parts.specs.Tally.{Tally}
 
@@ -64,6 +64,6 @@ pub record Lawful {V : Type 0} (s : Shape V) : Type 0 where
 
 -- each spelling is one element, and so is the strict one of every value; anything may follow it
 pub record IsElement {V : Type 0} (s : Shape V) : Type 0 where
-  pub one : (v : V) (p : List ℕ) (y : Tally) → s.spelled v p y → (t : ℕ) × (c : List ℕ) × (p ≡ element t c)
-  pub strict : (v : V) → s.valid v → (t : ℕ) × (c : List ℕ) × (s.strict v ≡ element t c)
+  pub one : (v : V) (p : List ℕ) (y : Tally) → s.spelled v p y → IsRaw p
+  pub strict : (v : V) → s.valid v → IsRaw (s.strict v)
   pub free : (b : ℕ) → s.avoids b ≡ false

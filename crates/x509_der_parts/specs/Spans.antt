@@ -5,4 +5,4 @@ use Rattle.x509_der_parts.specs.ElementFacts.{element_length, header_long}
 use Rattle.x509_der_parts.specs.Optional.{Full}
 
 pub full : {V : Type 0} (s : Shape V) → IsElement s → Full s
-full s e v p y a = let k = e.one v p y a in omega (arith, ap length k.2, element_length k.0 k.1, header_long k.1)
+full s e v p y a = let k = e.one v p y a in omega (arith, ap length k.bytes, element_length k.tag k.content, header_long k.content)

@@ -5,7 +5,7 @@ use Rattle.x509_der_parts.specs.declared.deviation.Deviation.{Deviation}
 use Rattle.x509_der_parts.specs.declared.deviation.Place.{Place}
 use Rattle.x509_der_parts.specs.Kinds.{kind_index}
 
--- a deviation of a kind, and where it stands in the spelling: bytes before it, and bytes that end with it
+-- a deviation of a kind, and where it stands in the spelling: how many bytes stand before its start, and before its end
 abbrev pub Mark : Type 0
 Mark = Place
 

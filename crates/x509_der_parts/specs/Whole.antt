@@ -78,6 +78,7 @@ counted_whole s old new string counts v f k c a = record {
   tally = a.accepts.tally;
   whole = rw (← f) a.whole;
   counted = c ∙ a.accepts.moved.counts ∙ ap (λ x. tallied x a.accepts.tally.marks) k ∙ counts_are a.accepts.tally.marks;
+  total = ap sum (c ∙ a.accepts.moved.counts ∙ ap (λ x. tallied x a.accepts.tally.marks) k ∙ counts_are a.accepts.tally.marks) ∙ counts_sum a.accepts.tally.marks;
 }
 
 pub metered_whole : {V : Type 0} (s : Shape V) → Lawful s → (old new : Cursor) (string counts : List ℕ) (headers : ℕ) (v : V) → old.rest ≡ string → old.headers ≡ 0 → old.counts ≡ replicate 10 0 → counts ≡ new.counts → headers ≡ new.headers → TakesAll s old new v → MeteredRead s string (Ok (v, counts)) headers

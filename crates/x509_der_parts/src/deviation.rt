@@ -8,7 +8,7 @@ use std::marker::Model;
 /// The ten loose spellings that are read and not written. The list is closed.
 #[derive(Clone, Copy, Debug, PartialEq, Eq)]
 pub enum Deviation {
-    /// An algorithm of the RSA family stands without parameters (RFC 4055, 2.1; RFC 8017, A.2). They are written as NULL.
+    /// An algorithm of the RSA family stands without parameters (RFC 4055, 1.2 and 5; RFC 8017, A.1). They are written as NULL.
     RsaParametersAbsent,
     /// An algorithm identifier whose parameters are any element stands without them. They are written as NULL.
     RawParametersAbsent,
@@ -32,7 +32,7 @@ pub enum Deviation {
 
 impl Deviation {
     /// The kind's place among the ten, from 0.
-    pub fn index(self) -> usize
+    pub(crate) fn index(self) -> usize
         ensures value { result ≡ kind_index self }
         ensures ten { result < 10 }
     {
@@ -72,14 +72,14 @@ impl Model for Deviations {
 
 impl Deviations {
     /// No deviation.
-    pub fn none() -> Deviations
+    pub(crate) fn none() -> Deviations
         ensures { result ≡ replicate 10 0 }
     {
         Deviations { counts: [0; 10] }
     }
 
     /// One more of a kind.
-    pub fn add(&mut self, kind: Deviation)
+    pub(crate) fn add(&mut self, kind: Deviation)
         requires { sum self.old + 1 < 2 ^ 64 }
         ensures { self.new ≡ slice_set self.old (kind_index kind) (slice_index self.old (kind_index kind) + 1) }
     {
@@ -90,7 +90,8 @@ impl Deviations {
     pub fn count(&self, kind: Deviation) -> usize
         ensures { result ≡ slice_index self.now (kind_index kind) }
     {
-        self.counts[kind.index()]
+        let index = kind.index();
+        self.counts[index]
     }
 
     /// The ten counts, in the order of the kinds.
@@ -122,6 +123,6 @@ pub struct Place {
     pub kind: Deviation,
     /// How many bytes of the input stand before it.
     pub start: usize,
-    /// How many bytes of the input end with it.
+    /// How many bytes of the input stand before its end: it covers the bytes `start..end`.
     pub end: usize,
 }

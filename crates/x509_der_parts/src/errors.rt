@@ -32,7 +32,7 @@ pub enum ReadError {
     /// The content of a BOOLEAN is neither 00 nor FF.
     #[error("the truth value is neither 00 nor FF")]
     BadBoolean,
-    /// The unused bits of a BIT STRING are more than its bits, or set.
+    /// The count of unused bits of a BIT STRING is above 7, or not 0 where there are no bytes, or an unused bit is set.
     #[error("the unused bits are miscounted or set")]
     BadBits,
     /// The content of an OBJECT IDENTIFIER is no list of numbers of at most 64 bits.

@@ -1,6 +1,7 @@
 //! NULL, as the unit value.
 
 ghost use Rattle.std.specs.Prelude.{◌≡◌, [], true, refl};
+ghost use Rattle.std.proofs.Common.{lit<};
 ghost use Rattle.x509_der_parts.specs.Element.{element};
 ghost use Rattle.x509_der_parts.specs.Around.{around, around_lawful, around_element};
 ghost use Rattle.x509_der_parts.specs.Contents.{nothing, nothing_lawful};
@@ -81,7 +82,7 @@ impl<A: Allocator + Copy> Content<A> for () {
 impl<A: Allocator + Copy> FromDer<A> for () {
     ghost always = { tt };
 
-    ghost element = { around_element 5 nothing };
+    ghost element = { around_element 5 nothing refl (lit< tt) };
 }
 
 impl<A: Allocator + Copy> OneTag<A> for () {

@@ -86,9 +86,9 @@ impl<'a, A: Allocator> Reader<'a, A> {
             at: _,
             headers: _,
             deviations: _,
-            places,
+            places: carried,
         } = self;
-        places
+        carried
     }
 
     /// Where the rest begins. Asked before an element is read, it tells `mark` what to cover.
@@ -140,7 +140,7 @@ impl<'a, A: Allocator> Reader<'a, A> {
     /// Decodes one header and goes past its element: its tag and its content. This call alone counts headers, also where it is refused.
     ///
     /// # Errors
-    /// Refused exactly where the rest begins with no element whose tag is one byte; never for memory. The rest is then as it was.
+    /// Refused exactly where the rest begins with no element whose tag is one byte; never for memory.
     pub fn element(&mut self) -> Result<(u8, &'a [u8]), ReadError>
         requires { Ready self.old }
         ensures headers { self.new.headers ≡ self.old.headers + 1 }
@@ -226,10 +226,10 @@ impl<'a, A: Allocator> Reader<'a, A> {
     }
 
     /// Goes on behind an element, from the end of its content.
-    pub fn leave(&mut self, after: &'a [u8])
-        ensures { Leaves self.old self.new after.now }
+    pub fn leave(&mut self, behind: &'a [u8])
+        ensures { Leaves self.old self.new behind.now }
     {
-        self.rest = after;
+        self.rest = behind;
     }
 
     /// All that is left, for the content of a primitive type.

@@ -1,6 +1,7 @@
 //! Equality that holds of the same value alone.
 
-use crate::deviation::Deviation;
+use crate::deviation::{Deviation, Deviations};
+use crate::errors::{ReadError, SliceError, TooLong, WriteError};
 
 /// A type whose `==` answers true exactly where the two values are the same.
 pub trait SameEq: Eq {
@@ -12,6 +13,43 @@ pub trait SameEq: Eq {
 }
 
 impl SameEq for Deviation {
+    ghost use Rattle.std.proofs.Common.{rules};
+
+    ghost decides = { Prim.search (rules) };
+}
+
+impl SameEq for () {
+    ghost use Rattle.std.specs.Prelude.{refl};
+
+    ghost decides = { λ x y. (λ h. refl, λ e. refl) };
+}
+
+impl SameEq for Deviations {
+    ghost use Rattle.std.proofs.Common.{rules};
+    ghost use Rattle.std.specs.Cmp.Lexicographic.{bytes_decides};
+
+    ghost decides = { Prim.search (rules, bytes_decides) };
+}
+
+impl SameEq for ReadError {
+    ghost use Rattle.std.proofs.Common.{rules};
+
+    ghost decides = { Prim.search (rules) };
+}
+
+impl SameEq for WriteError {
+    ghost use Rattle.std.proofs.Common.{rules};
+
+    ghost decides = { Prim.search (rules) };
+}
+
+impl SameEq for SliceError {
+    ghost use Rattle.std.proofs.Common.{rules};
+
+    ghost decides = { Prim.search (rules) };
+}
+
+impl SameEq for TooLong {
     ghost use Rattle.std.proofs.Common.{rules};
 
     ghost decides = { Prim.search (rules) };

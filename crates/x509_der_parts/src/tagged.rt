@@ -22,7 +22,7 @@ use std::marker::{Model, PhantomData};
 pub fn element_len<F: ToDer>(tag: u8, field: &F) -> Result<usize, TooLong>
     ensures { Measures (length (element tag (F.strict field.now))) result }
 {
-    // A tag is one byte, whichever it is.
+    // Whichever it is, a tag is one byte.
     let _ = tag;
     size_around(field.encoded_len()?)
 }

@@ -94,7 +94,7 @@ pub trait ToBody {
         ensures bytes { out.new ≡ body self.now ++ drop (length (body self.now)) out.old };
 }
 
-/// What is read as a content, up to its end and without a header.
+/// What is read as a content, without a header.
 pub trait Content<A: Allocator>: ToBody + Drop {
     /// How contents are spelled.
     ghost form: { Shape Self };
@@ -106,10 +106,10 @@ pub trait Content<A: Allocator>: ToBody + Drop {
     fn known_body(&self)
         ensures { form.valid self.now };
 
-    /// Reads a content, up to the reader's end.
+    /// Reads a content. Where bytes are left behind it, the element around it refuses them.
     ///
     /// # Errors
-    /// Refused where what is left is no content of the type, or memory is refused.
+    /// Refused where what is left does not begin with a content of the type, or memory is refused.
     fn read_body(alloc: A, reader: &mut Reader<'_, A>) -> Result<Self, ReadError>
         requires { Ready reader.old }
         ensures { Reads form reader.old reader.new result };

@@ -80,7 +80,7 @@ pub record IsRawAlgorithm (v : RawAlgorithm) : Type 0 where
 abbrev pub IsReadable : RawAlgorithm → Type 0
 IsReadable v = Unit {0}
 
--- SEQUENCE { an object identifier, any element }; without the element it is a deviation
+-- SEQUENCE { algorithm OBJECT IDENTIFIER, parameters ANY OPTIONAL } (RFC 5280, 4.1.1.2); without the parameters it is a deviation
 abbrev pub raw_algorithm : Shape RawAlgorithm
 raw_algorithm = viewed meaning written_fields IsRawAlgorithm IsReadable base
 

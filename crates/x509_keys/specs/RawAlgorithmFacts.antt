@@ -1,5 +1,5 @@
 -- Algorithm identifiers whose parameters are any element keep the laws.
-use Rattle.std.proofs.Common.{◌≡◌, ℕ, subst, ◌+◌, ◌≤◌, Bool, true, false, cond, List, [], ◌∷◌, length, refl, ap, ◌∙◌, arith, Option, Some, None}
+use Rattle.std.proofs.Common.{◌≡◌, lit<, ℕ, subst, ◌+◌, ◌≤◌, Bool, true, false, cond, List, [], ◌∷◌, length, refl, ap, ◌∙◌, arith, Option, Some, None}
 use Rattle.std.proofs.lemmas.Bool.Decides.{nat_tests}
 use Rattle.x509_der.specs.Lists.{same_pair}
 use Rattle.x509_der.specs.Element.{element, digits, header}
@@ -46,7 +46,7 @@ base_lawful = around_lawful 48 inner inner_lawful
 
 null_raw : IsRaw (5 ∷ 0 ∷ [])
 unfolding element digits
-null_raw = record { tag = 5; content = []; fits = refl; bytes = refl }
+null_raw = record { tag = 5; content = []; fits = refl; byte = lit< tt; bytes = refl }
 
 written_valid : (p : Option (List ℕ)) → RawIfThere p → IsRaw (written_parameters p)
 written_valid None h = null_raw
@@ -125,7 +125,7 @@ pub raw_algorithm_lawful : Lawful raw_algorithm
 raw_algorithm_lawful = viewed_lawful meaning written_fields IsRawAlgorithm IsReadable base base_lawful raw_algorithm_view
 
 pub raw_algorithm_element : IsElement raw_algorithm
-raw_algorithm_element = viewed_element meaning written_fields IsRawAlgorithm IsReadable base (around_element 48 inner) written_fields_valid
+raw_algorithm_element = viewed_element meaning written_fields IsRawAlgorithm IsReadable base (around_element 48 inner refl (lit< tt)) written_fields_valid
 
 -- the law of fields
 

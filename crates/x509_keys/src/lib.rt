@@ -1,4 +1,4 @@
-//! Algorithm identifiers and keys.
+//! Algorithm identifiers.
 #![tactic(auto)]
 
 pub mod laws;

@@ -2,7 +2,7 @@
 
 ghost use Rattle.std.specs.Prelude.{◌≡◌, [], ◌∷◌, IfOk, MatchOption, Option, Some, None, Bool, true, refl};
 ghost use Rattle.x509_der.specs.Shape.{Shape};
-ghost use Rattle.x509_keys.specs.RawAlgorithm.{RawAlgorithm, from_parts as parts_of, is_null, without_null, written_parameters, kinds_if, meaning as fields_mean};
+ghost use Rattle.x509_keys.specs.RawAlgorithm.{RawAlgorithm, NotNull, from_parts as parts_of, is_null, without_null, written_parameters, kinds_if, meaning as fields_mean};
 
 use std::alloc::{AllocError, Allocator, Global};
 use std::marker::Model;
@@ -15,8 +15,9 @@ use x509_der::{
 /// An algorithm and its parameters, which are any element and aren't looked into. Parameters that are NULL are held as none.
 ///
 /// # Encoding
-/// `SEQUENCE { algorithm OBJECT IDENTIFIER, parameters ANY }` (RFC 5280, 4.1.1.2); no parameters are written as NULL. A spelling
-/// without any parameters is read with the deviation `RawParametersAbsent`.
+/// `SEQUENCE { algorithm OBJECT IDENTIFIER, parameters ANY DEFINED BY algorithm OPTIONAL }` (RFC 5280, 4.1.1.2). Here absent
+/// parameters and NULL are one value, whose one written spelling is NULL; a spelling without them is read with the deviation
+/// `RawParametersAbsent`.
 #[derive(Drop)]
 #[derive_where(Debug, PartialEq, Eq)]
 pub struct RawAlgorithmIdentifier<A: Allocator = Global> {
@@ -82,7 +83,8 @@ impl<A: Allocator> RawAlgorithmIdentifier<A> {
 
     /// The parameters: none where they are absent or NULL.
     pub fn parameters(&self) -> Option<&Asn1RawDer<A>>
-        ensures { MatchOption result (self.now.parameters ≡ None) (λ p. self.now.parameters ≡ Some p.now) }
+        ensures parameters { MatchOption result (self.now.parameters ≡ None) (λ p. self.now.parameters ≡ Some p.now) }
+        ensures not_null { NotNull self.now.parameters }
     {
         self.parameters.as_ref()
     }
@@ -206,6 +208,7 @@ impl<A: Allocator + Copy> Field<A> for RawAlgorithmIdentifier<A> {
         let (value, absent) = meaning(fields);
         if absent {
             reader.mark(Deviation::RawParametersAbsent, spot)?;
+            // A return of its own keeps what is known of the mark apart from the other path.
             return Ok(value);
         }
         Ok(value)

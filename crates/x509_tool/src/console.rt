@@ -69,12 +69,19 @@ impl From<AllocError> for Stop {
     }
 }
 
-/// What stops the program where the system refuses something: memory, or the console.
-fn stop_of(error: &io::Error) -> Stop {
-    if error.kind() == ErrorKind::OutOfMemory {
-        Stop::Fault(ToolFault::OutOfMemory)
-    } else {
-        Stop::Console
+/// What the system refuses is memory, or the console.
+impl From<io::Error> for Stop {
+    ghost use Rattle.std.specs.Prelude.{◌≡◌};
+    ghost use Rattle.std.specs.IoError.{error_kind};
+    ghost use Rattle.x509_tool.specs.Stops.{stop_of_kind};
+
+    ghost from_gives = { λ error stop. stop ≡ stop_of_kind (error_kind error) };
+
+    fn from(error: io::Error) -> Stop {
+        match error.kind() {
+            ErrorKind::OutOfMemory => Stop::Fault(ToolFault::OutOfMemory),
+            _ => Stop::Console,
+        }
     }
 }
 
@@ -103,24 +110,19 @@ fn read_input<R: Read + Drop>(alloc: Global, mut reader: R) -> Result<Vec<u8>, S
             Ok(0) => return Ok(input),
             Ok(count) => input.extend_from_slice(&buffer[..count])?,
             Err(error) if error.kind() == ErrorKind::Interrupted => {}
-            Err(error) => return Err(stop_of(&error)),
+            Err(error) => return Err(Stop::from(error)),
         }
     }
     Err(Stop::Console)
 }
 
-/// Runs the program: looks at the argument, reads the input, and prints the answer, all of it or nothing.
+/// Runs the program: looks at the argument, reads the input, and prints the answer. Nothing is printed where anything before that fails.
 pub fn run(rt: &HostRuntime) -> Result<(), Stop> {
     let name = type_name(rt)?;
     let input = read_input(rt.alloc(), rt.reader())?;
     let answer = run_text(rt.alloc(), name.as_str(), &input)?;
     let mut out = io::writer(rt);
-    match out.write_all(&answer) {
-        Ok(()) => {}
-        Err(error) => return Err(stop_of(&error)),
-    }
-    match out.flush() {
-        Ok(()) => Ok(()),
-        Err(error) => Err(stop_of(&error)),
-    }
+    out.write_all(&answer)?;
+    out.flush()?;
+    Ok(())
 }

@@ -1,0 +1,8 @@
+use Rattle.std.proofs.Common.{◌∷◌, get_or, take}
+use Rattle.std.specs.Fmt.{HasWritten, IsPlainFormatter}
+use Rattle.x509_der.specs.Dotted.{dotted}
+use Rattle.x509_der.proofs.oid.text.ObjectIdentifierDisplay.fmt.Given as goal
+
+abbrev pub invariant-loop-arc : goal.invariant-loop-arc
+invariant-loop-arc g l =
+    IsPlainFormatter l.fn.f → HasWritten g.W.Write.write_str_gives l.fn.f (dotted (get_or l.self 0 0 ∷ take l.arc-index l.rest)) l.f
