@@ -5,6 +5,7 @@
 pub mod calls;
 pub mod laws;
 pub mod oid;
+pub mod parts;
 pub mod raw;
 
 pub use crate::calls::{
@@ -15,6 +16,5 @@ pub use crate::raw::Asn1RawDer;
 pub use x509_der_parts::clone_eq::CloneEq;
 pub use x509_der_parts::deviation::{Deviation, Deviations, Place};
 pub use x509_der_parts::errors::{ReadError, SliceError, TooLong, WriteError};
-pub use x509_der_parts::parts;
 pub use x509_der_parts::same_eq::SameEq;
 pub use x509_der_parts::traits::{FromDer, ToDer};

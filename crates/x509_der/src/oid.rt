@@ -91,6 +91,18 @@ fn is_lawful(arcs: &[u64]) -> bool
     first == 2 && second <= u64::MAX - 80
 }
 
+/// The object identifier with these arcs, of which the caller knows that they are one's.
+///
+/// # Errors
+/// `AllocError` where memory is refused.
+pub fn from_lawful<A: Allocator>(alloc: A, arcs: &[u64]) -> Result<ObjectIdentifier<A>, AllocError>
+    requires { IsLawful arcs.now }
+    ensures { IfOk result (λ o. o ≡ arcs.now) }
+{
+    let arcs = Vec::from_slice(alloc, arcs)?;
+    Ok(ObjectIdentifier { arcs })
+}
+
 impl<A: Allocator> ObjectIdentifier<A> {
     /// The object identifier with these arcs.
     ///
@@ -103,20 +115,8 @@ impl<A: Allocator> ObjectIdentifier<A> {
         if !is_lawful(arcs) {
             return Err(OidError::Bad);
         }
-        let identifier = Self::from_lawful(alloc, arcs)?;
+        let identifier = from_lawful(alloc, arcs)?;
         Ok(identifier)
-    }
-
-    /// The object identifier with these arcs, of which the caller knows that they are one's.
-    ///
-    /// # Errors
-    /// `AllocError` where memory is refused.
-    pub fn from_lawful(alloc: A, arcs: &[u64]) -> Result<Self, AllocError>
-        requires { IsLawful arcs.now }
-        ensures { IfOk result (λ o. o ≡ arcs.now) }
-    {
-        let arcs = Vec::from_slice(alloc, arcs)?;
-        Ok(ObjectIdentifier { arcs })
     }
 
     /// The arc at a place, from 0.

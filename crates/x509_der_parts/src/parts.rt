@@ -1,8 +1,6 @@
 //! What structures are made of: the reader, the traits of fields, and the fields themselves.
 
 pub use crate::body::Body;
-pub use crate::deviation::Deviations;
-pub use crate::header::{size_around, tail, write_header};
 pub use crate::join::Join;
 pub use crate::optional::Optional;
 pub use crate::reader::{Reader, Spot};

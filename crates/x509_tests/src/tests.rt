@@ -4,3 +4,4 @@ mod elements;
 mod identifiers;
 mod raw_algorithms;
 mod rows;
+mod tables;
