@@ -20,6 +20,8 @@ pub use Rattle.x509_der_parts.specs.Mapped
 pub use Rattle.x509_der_parts.specs.Viewed
 pub use Rattle.x509_der_parts.specs.Contents
 pub use Rattle.x509_der_parts.specs.Raw
+pub use Rattle.x509_der_parts.specs.Truth
+pub use Rattle.x509_der_parts.specs.Small
 pub use Rattle.x509_der_parts.specs.Spans
 pub use Rattle.x509_der_parts.specs.Agree
 pub use Rattle.x509_der_parts.specs.Writing

@@ -15,6 +15,8 @@ pub mod Mapped
 pub mod Viewed
 pub mod Contents
 pub mod Raw
+pub mod Truth
+pub mod Small
 pub mod Spans
 pub mod Agree
 pub mod Writing

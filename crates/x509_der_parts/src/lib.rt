@@ -4,6 +4,7 @@
 #![tactic(auto)]
 
 mod body;
+pub mod boolean;
 pub mod clone_eq;
 pub mod deviation;
 pub mod errors;
@@ -14,6 +15,7 @@ mod optional;
 pub mod parts;
 pub mod reader;
 pub mod same_eq;
+pub mod small_integer;
 mod tagged;
 pub mod traits;
 mod write;
