@@ -4,6 +4,7 @@
 
 pub mod calls;
 pub mod laws;
+pub mod octet_string;
 pub mod oid;
 pub mod parts;
 pub mod raw;
@@ -11,6 +12,7 @@ pub mod raw;
 pub use crate::calls::{
     encoded_len, from_bytes, read_counted, read_located, read_metered, to_vec, write_to_slice,
 };
+pub use crate::octet_string::OctetStringAsn1;
 pub use crate::oid::{ObjectIdentifier, ObjectIdentifierAsn1, OidError};
 pub use crate::raw::Asn1RawDer;
 pub use x509_der_parts::clone_eq::CloneEq;
