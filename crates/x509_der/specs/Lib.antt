@@ -42,3 +42,5 @@ pub use Rattle.x509_der_parts.specs.Laws
 pub mod Arcs
 pub mod ArcFacts
 pub mod Dotted
+pub mod Integers
+pub mod IntegerFacts

@@ -3,6 +3,7 @@
 #![tactic(auto)]
 
 pub mod calls;
+pub mod integer;
 pub mod laws;
 pub mod octet_string;
 pub mod oid;
@@ -12,6 +13,7 @@ pub mod raw;
 pub use crate::calls::{
     encoded_len, from_bytes, read_counted, read_located, read_metered, to_vec, write_to_slice,
 };
+pub use crate::integer::IntegerAsn1;
 pub use crate::octet_string::OctetStringAsn1;
 pub use crate::oid::{ObjectIdentifier, ObjectIdentifierAsn1, OidError};
 pub use crate::raw::Asn1RawDer;
