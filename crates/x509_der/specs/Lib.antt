@@ -44,3 +44,6 @@ pub mod ArcFacts
 pub mod Dotted
 pub mod Integers
 pub mod IntegerFacts
+pub mod Bits
+pub mod BitFacts
+pub mod BitEdits

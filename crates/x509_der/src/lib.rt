@@ -1,7 +1,9 @@
-//! DER, the distinguished encoding of ASN.1 (X.690): elements, object identifiers, NULL and raw elements, read and written
-//! by calls whose contracts are the grammar.
+//! DER, the distinguished encoding of ASN.1 (X.690): elements, object identifiers, integers, octet and bit
+//! strings, truth values, NULL and raw elements, read and written by calls whose contracts are the grammar.
 #![tactic(auto)]
 
+pub mod bit_string;
+mod bits;
 pub mod calls;
 pub mod integer;
 pub mod laws;
@@ -10,6 +12,7 @@ pub mod oid;
 pub mod parts;
 pub mod raw;
 
+pub use crate::bit_string::{BitString, BitStringAsn1};
 pub use crate::calls::{
     encoded_len, from_bytes, read_counted, read_located, read_metered, to_vec, write_to_slice,
 };
