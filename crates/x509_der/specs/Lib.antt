@@ -44,6 +44,7 @@ pub mod ArcFacts
 pub mod Dotted
 pub mod Integers
 pub mod IntegerFacts
+pub mod IntegerUnique
 pub mod Bits
 pub mod BitFacts
 pub mod BitEdits

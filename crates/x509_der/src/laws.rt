@@ -4,6 +4,7 @@ ghost use Rattle.std.specs.Prelude.{◌≡◌, ◌++◌, ◌↔◌, [], ℕ, Lis
 ghost use Rattle.x509_der_parts.specs.Tally.{Tally};
 ghost use Rattle.x509_der_parts.specs.Shape.{Lawful, IsElement};
 ghost use Rattle.x509_der_parts.specs.Laws.{IsSpelled, IsSpelledClean, ReadsBack};
+ghost use Rattle.x509_der.specs.Integers.{AreBytes, signed_value, is_minimal};
 
 use std::alloc::Allocator;
 use x509_der_parts::parts::Field;
@@ -52,4 +53,19 @@ pub fn equality_is_sameness<T: SameEq>()
 /// Reading NULL takes no memory, so that `from_bytes`, `read_counted` and `read_metered` never answer want of it.
 pub fn null_takes_no_memory<A: Allocator + Copy>()
     ensures { ⟦<() as Field<A>>⟧.shape.frugal }
+{}
+
+/// Reading BOOLEAN takes no memory, so that `from_bytes`, `read_counted` and `read_metered` never answer want of it.
+pub fn bool_takes_no_memory<A: Allocator + Copy>()
+    ensures { ⟦<bool as Field<A>>⟧.shape.frugal }
+{}
+
+/// Reading an INTEGER of 0 to 255 takes no memory, so that `from_bytes`, `read_counted` and `read_metered` never answer want of it.
+pub fn u8_takes_no_memory<A: Allocator + Copy>()
+    ensures { ⟦<u8 as Field<A>>⟧.shape.frugal }
+{}
+
+/// A number has one minimal content: two lists of bytes that are minimal and the same number in two's complement are one.
+pub fn number_has_one_content()
+    ensures { (c d : List ℕ) → AreBytes c → AreBytes d → IsTrue (is_minimal c) → IsTrue (is_minimal d) → signed_value c ≡ signed_value d → c ≡ d }
 {}
