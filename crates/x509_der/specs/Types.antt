@@ -9,3 +9,5 @@ pub use Rattle.x509_der_parts.specs.declared.errors.WriteError.TheVariants as wr
 pub use Rattle.x509_der_parts.specs.declared.errors.SliceError.{SliceError}
 pub use Rattle.x509_der_parts.specs.declared.errors.SliceError.TheVariants as slice_error
 pub use Rattle.x509_der_parts.specs.declared.errors.TooLong.{TooLong}
+pub use Rattle.x509_der_parts.specs.declared.choice.Choice.{Choice}
+pub use Rattle.x509_der_parts.specs.declared.choice.Choice.TheVariants as choice

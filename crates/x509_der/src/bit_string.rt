@@ -277,7 +277,11 @@ impl<A: Allocator> ToDer for BitStringAsn1<A> {
 impl<A: Allocator + Copy> Content<A> for BitStringAsn1<A> {
     ghost form = { bit_strings };
 
-    ghost form_lawful = { bits_lawful };
+    ghost form_fits = { Unit {0} };
+
+    ghost form_lawful = { λ h. bits_lawful };
+
+    ghost form_always = { tt };
 
     ghost open = { λ b. refl };
 

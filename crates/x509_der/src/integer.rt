@@ -269,7 +269,11 @@ impl<A: Allocator> ToDer for IntegerAsn1<A> {
 impl<A: Allocator + Copy> Content<A> for IntegerAsn1<A> {
     ghost form = { integers };
 
-    ghost form_lawful = { integer_lawful };
+    ghost form_fits = { Unit {0} };
+
+    ghost form_lawful = { λ h. integer_lawful };
+
+    ghost form_always = { tt };
 
     ghost open = { λ b. refl };
 

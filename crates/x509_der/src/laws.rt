@@ -1,13 +1,21 @@
 //! Laws that follow from those of the traits. A function here does nothing when it runs: its contract is the law.
 
-ghost use Rattle.std.specs.Prelude.{◌≡◌, ◌++◌, ◌↔◌, [], ℕ, List, IsTrue};
+ghost use Rattle.std.specs.Prelude.{◌≡◌, ◌++◌, ◌∷◌, ◌↔◌, [], ℕ, List, Some, None, IsTrue};
 ghost use Rattle.x509_der_parts.specs.Tally.{Tally};
 ghost use Rattle.x509_der_parts.specs.Shape.{Lawful, IsElement};
 ghost use Rattle.x509_der_parts.specs.Laws.{IsSpelled, IsSpelledClean, ReadsBack};
 ghost use Rattle.x509_der.specs.Integers.{AreBytes, signed_value, is_minimal};
+ghost use Rattle.x509_der_parts.specs.Fields.{FieldAt};
+ghost use Rattle.x509_der_parts.specs.declared.choice.Choice.TheVariants as choice;
 
+use crate::bit_container::BitStringAsn1Container;
+use crate::octet_container::OctetStringAsn1Container;
+use crate::sequence_of::Asn1SequenceOf;
+use crate::set_of::Asn1SetOf;
 use std::alloc::Allocator;
-use x509_der_parts::parts::Field;
+use x509_der_parts::parts::{
+    Body, Choice, Chosen, Field, Join, Keyed, OneTag, Optional, Tag, Tagged,
+};
 use x509_der_parts::same_eq::SameEq;
 use x509_der_parts::traits::FromDer;
 
@@ -68,4 +76,57 @@ pub fn u8_takes_no_memory<A: Allocator + Copy>()
 /// A number has one minimal content: two lists of bytes that are minimal and the same number in two's complement are one.
 pub fn number_has_one_content()
     ensures { (c d : List ℕ) → AreBytes c → AreBytes d → IsTrue (is_minimal c) → IsTrue (is_minimal d) → signed_value c ≡ signed_value d → c ≡ d }
+{}
+
+/// The law of fields. A value stands as a field in each of its spellings, and by the laws below so do its parts, at every depth:
+/// each in a slice whose deviations are those of the whole that lie within the slice; so the slice is the part's strict
+/// spelling exactly where none lies within it.
+pub fn values_are_fields<T: FromDer<A>, A: Allocator>()
+    ensures { (v : T) (string : List ℕ) (y : Tally) → T.shape.spelled v string y → FieldAt T.shape v string y }
+{}
+
+/// Where a list stands as a field, so does each of its items.
+pub fn items_are_fields<T: FromDer<A>, A: Allocator + Copy>()
+    ensures sequence { (done more : List T) (v : T) (string : List ℕ) (y : Tally) → FieldAt ⟦<Asn1SequenceOf<T, A> as Field<A>>⟧.shape (done ++ v ∷ more) string y → FieldAt T.shape v string y }
+    ensures set { (done more : List T) (v : T) (string : List ℕ) (y : Tally) → FieldAt ⟦<Asn1SetOf<T, A> as Field<A>>⟧.shape (done ++ v ∷ more) string y → FieldAt T.shape v string y }
+{}
+
+/// Where a container stands as a field, so does the value in it.
+pub fn contained_values_are_fields<T: FromDer<A>, A: Allocator + Copy>()
+    ensures octets { (v : T) (string : List ℕ) (y : Tally) → FieldAt ⟦<OctetStringAsn1Container<T> as Field<A>>⟧.shape v string y → FieldAt T.shape v string y }
+    ensures bits { (v : T) (string : List ℕ) (y : Tally) → FieldAt ⟦<BitStringAsn1Container<T> as Field<A>>⟧.shape v string y → FieldAt T.shape v string y }
+{}
+
+/// Where an element stands as a field, a SEQUENCE or an explicit tag, so does what is in it.
+pub fn tagged_fields_are_fields<N: Tag, F: Field<A>, A: Allocator + Copy>()
+    ensures { F.fits → (v : F) (string : List ℕ) (y : Tally) → FieldAt ⟦<Tagged<N, F> as Field<A>>⟧.shape v string y → FieldAt F.shape v string y }
+{}
+
+/// Where a type stands as a field under an implicit tag, so does its content.
+pub fn bodies_are_fields<N: Tag, T: OneTag<A>, A: Allocator + Copy>()
+    ensures { (v : T) (string : List ℕ) (y : Tally) → FieldAt ⟦<Tagged<N, Body<T>> as Field<A>>⟧.shape v string y → FieldAt T.form v string y }
+{}
+
+/// A field that may be absent and is there stands as a field. One that is absent has no bytes.
+pub fn optional_fields_are_fields<F: Field<A>, A: Allocator + Copy>()
+    ensures there { F.fits → (v : F) (string : List ℕ) (y : Tally) → FieldAt ⟦<Optional<F> as Field<A>>⟧.shape (Some v) string y → FieldAt F.shape v string y }
+    ensures absent { (string : List ℕ) (y : Tally) (f : FieldAt ⟦<Optional<F> as Field<A>>⟧.shape None string y) → f.slice ≡ [] }
+{}
+
+/// Where two fields stand as one, so does each.
+pub fn joined_fields_are_fields<F: Field<A>, G: Field<A>, A: Allocator + Copy>()
+    ensures first { F.fits → G.fits → (v : F) (w : G) (string : List ℕ) (y : Tally) → FieldAt ⟦<Join<F, G> as Field<A>>⟧.shape (v, w) string y → FieldAt F.shape v string y }
+    ensures second { F.fits → G.fits → (v : F) (w : G) (string : List ℕ) (y : Tally) → FieldAt ⟦<Join<F, G> as Field<A>>⟧.shape (v, w) string y → FieldAt G.shape w string y }
+{}
+
+/// Where a choice stands as a field, so does the field that it took.
+pub fn choices_are_fields<F: Field<A>, G: Field<A>, A: Allocator + Copy>()
+    ensures first { F.fits → (v : F) (string : List ℕ) (y : Tally) → FieldAt ⟦<Choice<F, G> as Field<A>>⟧.shape (choice.First v) string y → FieldAt F.shape v string y }
+    ensures second { G.fits → (w : G) (string : List ℕ) (y : Tally) → FieldAt ⟦<Choice<F, G> as Field<A>>⟧.shape (choice.Second w) string y → FieldAt G.shape w string y }
+{}
+
+/// Where a key and the value that it chooses stand as a field, so does each, the value in the shape that the key chooses.
+pub fn chosen_fields_are_fields<K: Field<A>, V: Keyed<K, A>, A: Allocator + Copy>()
+    ensures key { K.fits → (k : K) (v : V) (string : List ℕ) (y : Tally) → FieldAt ⟦<Chosen<K, V> as Field<A>>⟧.shape (k, v) string y → FieldAt K.shape k string y }
+    ensures value { K.fits → (k : K) (v : V) (string : List ℕ) (y : Tally) → FieldAt ⟦<Chosen<K, V> as Field<A>>⟧.shape (k, v) string y → FieldAt (V.kinds k) v string y }
 {}

@@ -460,7 +460,11 @@ impl<A: Allocator> ToDer for ObjectIdentifierAsn1<A> {
 impl<A: Allocator + Copy> Content<A> for ObjectIdentifierAsn1<A> {
     ghost form = { oids };
 
-    ghost form_lawful = { oid_lawful };
+    ghost form_fits = { Unit {0} };
+
+    ghost form_lawful = { λ h. oid_lawful };
+
+    ghost form_always = { tt };
 
     ghost open = { λ b. refl };
 

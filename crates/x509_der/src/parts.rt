@@ -2,6 +2,7 @@
 
 pub use crate::oid::from_lawful;
 pub use x509_der_parts::parts::{
-    Body, Content, Field, Join, OneTag, Optional, Reader, Sequence, Spot, Tag, Tagged, ToBody,
-    element_len, read_element, write_at, write_bytes, write_element,
+    Body, Choice, Chosen, Content, Field, Items, Join, Keyed, OneTag, Optional, Reader, Sequence,
+    Spot, Tag, Tagged, ToBody, Unpadded, element_len, read_element, write_at, write_bytes,
+    write_element,
 };

@@ -45,6 +45,9 @@ pub tallied_sum : (k : List ℕ) (a : List Mark) → sum (tallied k a) ≤ sum k
 tallied_sum k [] = omega arith
 tallied_sum k (m ∷ a) = omega (arith, tallied_sum (one_more k (kind_index m.kind)) a, sum_set k (kind_index m.kind))
 
+pub one_more_sum : (k : List ℕ) (i : Deviation) → sum (one_more k (kind_index i)) ≤ sum k + 1
+one_more_sum k i = sum_set k (kind_index i)
+
 -- a deviation over the whole is booked behind those in it, and counted before them
 
 bump : List ℕ → ℕ → List ℕ
@@ -67,6 +70,12 @@ tallied_bump k i (m ∷ a) = ap (λ r. tallied r a) (bump_swap k i (kind_index m
 abbrev pub counted : List ℕ → List Deviation → List ℕ
 counted k [] = k
 counted k (i ∷ ks) = counted (one_more k (kind_index i)) ks
+
+-- it doesn't matter when a kind is counted
+pub counted_more : (k : List ℕ) (i : Deviation) (ks : List Deviation) → one_more (counted k ks) (kind_index i) ≡ counted (one_more k (kind_index i)) ks
+unfolding bump
+counted_more k i [] = refl
+counted_more k i (j ∷ ks) = counted_more (one_more k (kind_index j)) i ks ∙ ap (λ r. counted r ks) (bump_swap k (kind_index j) (kind_index i))
 
 tallied_over : (n : ℕ) (ks : List Deviation) (k : List ℕ) (a : List Mark) → tallied k (over n ks ++ a) ≡ counted (tallied k a) ks
 unfolding bump

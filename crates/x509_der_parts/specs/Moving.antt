@@ -1,14 +1,15 @@
 -- A reader goes over one part and then another, over an element by way of its content, and books deviations.
 use Rattle.std.proofs.Common.{◌≡◌, ℕ, ◌+◌, ◌*◌, ◌≤◌, List, [], ◌∷◌, ◌++◌, length, map, take, drop, sum, refl, sym, ap, ◌∙◌, arith, append_assoc, append-nil, length-append, Option, Some, None}
-use Rattle.std.proofs.lemmas.List.{map-append}
+use Rattle.std.proofs.lemmas.List.{map-append, take-append-drop}
 use Rattle.x509_der_parts.specs.Element.{element, header}
 use Rattle.x509_der_parts.specs.ElementFacts.{element_length}
 use Rattle.x509_der_parts.specs.declared.deviation.Deviation.{Deviation}
 use Rattle.x509_der_parts.specs.declared.reader.Spot.{Spot}
+use Rattle.x509_der_parts.specs.Kinds.{kind_index}
 use Rattle.x509_der_parts.specs.Tally.{Tally, Mark, none, joined, inside, moved, over, marked}
 use Rattle.x509_der_parts.specs.TallyFacts.{map-moved, joined_headers, inside_headers, marked_headers}
-use Rattle.x509_der_parts.specs.Counting.{tallied_joined, tallied_inside, tallied_length, tallied_sum, tallied_marked, counted}
-use Rattle.x509_der_parts.specs.Reading.{Cursor, Ready, Moved, Entered, Leaves, IsSpot, Marked, tallied, placed, carried, put_in}
+use Rattle.x509_der_parts.specs.Counting.{counted_more, tallied_joined, tallied_inside, tallied_length, tallied_sum, tallied_marked, counted}
+use Rattle.x509_der_parts.specs.Reading.{Cursor, Ready, Moved, Entered, Leaves, IsSpot, Marked, one_more, tallied, placed, carried, put_in}
 
 pub placed_none : (n : ℕ) (o : Option (List Mark)) → placed n o [] ≡ o
 placed_none n None = refl
@@ -89,6 +90,20 @@ booked_one old mid new kind spot s m = record {
   places = m.places ∙ ap (λ x. put_in x (record { kind = kind; start = spot.start; end = mid.at }) mid.places) s.before ∙ ap (λ x. put_in (carried old.places) (record { kind = kind; start = x; end = mid.at }) mid.places) s.start;
 }
 
+-- one kind more, which stands before the others
+pub booked_more : (old mid last new : Cursor) (kind : Deviation) (ks : List Deviation) (spot : Spot) → IsSpot old spot → Booked old mid last ks → Marked last new kind spot → Booked old mid new (kind ∷ ks)
+booked_more old mid last new kind ks spot s b m = record {
+  rest = m.rest ∙ b.rest;
+  at = m.at ∙ b.at;
+  headers = m.headers ∙ b.headers;
+  counts = m.counts ∙ ap (λ x. one_more x (kind_index kind)) b.counts ∙ counted_more mid.counts kind ks;
+  places = m.places
+      ∙ ap (λ x. put_in x (record { kind = kind; start = spot.start; end = last.at }) last.places) s.before
+      ∙ ap (λ x. put_in (carried old.places) (record { kind = kind; start = x; end = last.at }) last.places) s.start
+      ∙ ap (λ x. put_in (carried old.places) (record { kind = kind; start = old.at; end = x }) last.places) b.at
+      ∙ ap (put_in (carried old.places) (record { kind = kind; start = old.at; end = mid.at })) b.places;
+}
+
 put_front : (m : Mark) (ps r : List Mark) → take (length ps) (ps ++ r) ++ m ∷ drop (length ps) (ps ++ r) ≡ ps ++ m ∷ r
 put_front m [] r = refl
 put_front m (p ∷ ps) r = ap (λ x. p ∷ x) (put_front m ps r)
@@ -131,3 +146,11 @@ carried_more n (Some ps) ms = omega (arith, length-append ps (map (moved n) ms))
 -- what was carried at a spot is still there
 pub spot_stays : (old new : Cursor) (p : List ℕ) (y : Tally) (spot : Spot) → IsSpot old spot → Moved old new p y → spot.before ≤ carried new.places
 spot_stays old new p y spot s m = omega (arith, s.before, carried_more old.at old.places y.marks, ap carried m.places)
+
+put_more : (n : ℕ) (m : Mark) (o : Option (List Mark)) → carried o ≤ carried (put_in n m o)
+put_more n m None = omega arith
+put_more n m (Some ps) = omega (arith, length-append (take n ps) (m ∷ drop n ps), ap length (take-append-drop n ps), length-append (take n ps) (drop n ps))
+
+-- and still there when a deviation was booked
+pub spot_stays_marked : (mid last : Cursor) (kind : Deviation) (other spot : Spot) → spot.before ≤ carried mid.places → Marked mid last kind other → spot.before ≤ carried last.places
+spot_stays_marked mid last kind other spot h m = omega (arith, h, put_more other.before (record { kind = kind; start = other.start; end = mid.at }) mid.places, ap carried m.places)

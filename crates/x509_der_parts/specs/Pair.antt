@@ -61,7 +61,7 @@ pub follows_first : (f g : ℕ → Bool) (p q : List ℕ) → ((c : ℕ) → g c
 follows_first f g [] q d b h = h
 follows_first f g (c ∷ p) q d b h = d c b
 
-begins_pair : (f g : ℕ → Bool) (p q : List ℕ) → Begins f p → Begins g q → Begins (λ c. f c || g c) (p ++ q)
+pub begins_pair : (f g : ℕ → Bool) (p q : List ℕ) → Begins f p → Begins g q → Begins (λ c. f c || g c) (p ++ q)
 begins_pair f g [] [] b c = tt
 begins_pair f g [] (x ∷ q) b c = or_right (f x) (g x) c
 begins_pair f g (x ∷ p) q b c = or_left (f x) (g x) b

@@ -149,6 +149,18 @@ pub record TakesRest (old new : Cursor) (taken : List ℕ) : Type 0 where
   pub counts : new.counts ≡ old.counts
   pub places : new.places ≡ old.places
 
+-- one byte was gone over, and nothing else has changed
+pub record TakesByte (old new : Cursor) (b : ℕ) : Type 0 where
+  pub rest : old.rest ≡ b ∷ new.rest
+  pub at : new.at ≡ old.at + 1
+  pub headers : new.headers ≡ old.headers
+  pub counts : new.counts ≡ old.counts
+  pub places : new.places ≡ old.places
+
+abbrev pub TakesNext : Cursor → Cursor → Option ℕ → Type 0
+TakesNext old new (Some b) = TakesByte old new b
+TakesNext old new None = (old.rest ≡ []) × (new ≡ old)
+
 -- where the rest begins, and how many places are carried there
 pub record IsSpot (r : Cursor) (spot : Spot) : Type 0 where
   pub start : spot.start ≡ r.at

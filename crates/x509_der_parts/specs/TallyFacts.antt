@@ -1,9 +1,9 @@
 -- Facts about tallies.
-use Rattle.std.proofs.Common.{◌≡◌, ℕ, suc, ◌+◌, List, [], ◌∷◌, ◌++◌, length, map, refl, ap, sym, ◌∙◌, arith, append_assoc, length-append}
+use Rattle.std.proofs.Common.{◌≡◌, ℕ, suc, ◌+◌, List, [], ◌∷◌, ◌++◌, length, map, refl, ap, sym, ◌∙◌, arith, append_assoc, append-nil, length-append}
 use Rattle.std.proofs.lemmas.List.{map-append, length-map}
 use Rattle.x509_der_parts.specs.Lists.{map_empty, both_empty}
 use Rattle.x509_der_parts.specs.declared.deviation.Deviation.{Deviation}
-use Rattle.x509_der_parts.specs.Tally.{Tally, Mark, joined, inside, moved, over, marked}
+use Rattle.x509_der_parts.specs.Tally.{Tally, Mark, none, joined, inside, moved, over, marked}
 
 pub map-moved : (n m : ℕ) (b : List Mark) → map (moved n) (map (moved m) b) ≡ map (moved (n + m)) b
 unfolding moved
@@ -97,3 +97,27 @@ over_length n (k ∷ ks) = ap suc (over_length n ks)
 pub marked_length : (ks : List Deviation) (n : ℕ) (y z : Tally) → z ≡ marked ks n y → length z.marks ≡ length ks + length y.marks
 unfolding marked
 marked_length ks n y z e = omega (arith, ap (λ (x : Tally). length x.marks) e, length-append (over n ks) y.marks, over_length n ks)
+
+-- none
+
+pub none_marks : (y : Tally) → y ≡ none → y.marks ≡ []
+unfolding none
+none_marks y e = ap (λ (x : Tally). x.marks) e
+
+pub none_headers : (y : Tally) → y ≡ none → y.headers ≡ 0
+unfolding none
+none_headers y e = ap (λ (x : Tally). x.headers) e
+
+pub joined_none : (n : ℕ) (a : Tally) → joined n a none ≡ a
+unfolding joined none
+joined_none n a =
+    let e : a.marks ++ [] ≡ a.marks = append-nil a.marks in
+    let h : a.headers + 0 ≡ a.headers = omega arith in
+    rw (e, h) refl
+
+pub none_joined : (a : Tally) → joined 0 none a ≡ a
+unfolding joined none
+none_joined a =
+    let e = map-moved_zero a.marks in
+    let h : 0 + a.headers ≡ a.headers = omega arith in
+    rw (e, h) refl

@@ -2,12 +2,13 @@
 use Rattle.std.proofs.Common.{◌≡◌, ◌≤◌, ◌<◌, List, length, sum, refl, sym, ap, ◌∙◌, arith, length-append, Option, Some, None}
 use Rattle.x509_der_parts.specs.Tally.{marked}
 use Rattle.x509_der_parts.specs.TallyFacts.{marked_headers, marked_length}
-use Rattle.x509_der_parts.specs.Counting.{tallied_sum}
+use Rattle.x509_der_parts.specs.Counting.{tallied_sum, one_more_sum}
 use Rattle.x509_der_parts.specs.declared.deviation.Deviation.{Deviation}
 use Rattle.x509_der_parts.specs.Shape.{Shape, Lawful}
 use Rattle.x509_der_parts.specs.Viewed.{viewed, IsView, some_one}
-use Rattle.x509_der_parts.specs.Reading.{Cursor, Ready, Accepts, Refuses, NotMarked}
+use Rattle.x509_der_parts.specs.Reading.{Cursor, Ready, Accepts, Refuses, Marked, NotMarked, put_in}
 use Rattle.x509_der_parts.specs.Moving.{Booked, moved_marked, ready_after, still_none}
+use Rattle.x509_der_parts.specs.declared.reader.Spot.{Spot}
 use Rattle.x509_der_parts.specs.declared.errors.ReadError.{ReadError}
 use Rattle.x509_der_parts.specs.declared.errors.ReadError.TheVariants.{OutOfMemory}
 
@@ -70,3 +71,21 @@ module _ {B V : Type 0} (of : B → Option (V × List Deviation)) (back : V → 
   mark_room old mid b v ks r a m n =
       let am = a.moved in
       omega (arith, r.booked, am.headers, ap sum am.counts, tallied_sum old.counts a.tally.marks, h.few b v ks a.bytes a.tally m a.spelled)
+
+  -- and for a second one
+  pub mark_room_more : (old mid last : Cursor) (b : B) (v : V) (ks : List Deviation) (kind : Deviation) (spot : Spot) → Ready old → Accepts s old mid b → of b ≡ Some (v, ks) → 2 ≤ length ks → Marked mid last kind spot → sum last.counts < last.headers
+  mark_room_more old mid last b v ks kind spot r a m n k =
+      let am = a.moved in
+      omega (arith, r.booked, am.headers, k.headers, ap sum am.counts, ap sum k.counts, tallied_sum old.counts a.tally.marks, one_more_sum mid.counts kind, h.few b v ks a.bytes a.tally m a.spelled)
+
+  -- no memory for the place of a second mark
+  pub viewed_memory_more : (old mid last new : Cursor) (b : B) (kind : Deviation) (spot : Spot) (e : ReadError) → Accepts s old mid b → Marked mid last kind spot → NotMarked last new e → Refuses (viewed of back valid readable s) old new e
+  viewed_memory_more old mid last new b kind spot e a k m =
+      let am = a.moved in
+      record {
+        spares = λ f p x. m.carries (k.places ∙ ap (put_in spot.before (record { kind = kind; start = spot.start; end = mid.at })) (still_none old mid a.bytes a.tally am p));
+        grows = omega (arith, m.headers, k.headers, am.headers);
+        bound = omega (arith, m.headers, k.headers, am.headers, l.cost b a.bytes a.tally a.spelled, ap length am.rest, length-append a.bytes mid.rest);
+        owes = λ x. absurd (x m.memory);
+        none = λ x. absurd (x m.memory);
+      }

@@ -33,9 +33,9 @@ impl<T: ToBody> ToDer for Body<T> {
 impl<A: Allocator + Copy, T: Content<A>> Field<A> for Body<T> {
     ghost shape = { T.form };
 
-    ghost fits = { Unit {0} };
+    ghost fits = { T.form_fits };
 
-    ghost lawful = { λ h. T.form_lawful };
+    ghost lawful = { λ h. T.form_lawful h };
 
     ghost agrees = { λ v. T.form_agrees v };
 

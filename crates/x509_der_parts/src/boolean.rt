@@ -95,7 +95,11 @@ impl<A: Allocator + Copy> Field<A> for bool {
 impl<A: Allocator + Copy> Content<A> for bool {
     ghost form = { truths };
 
-    ghost form_lawful = { truth_lawful };
+    ghost form_fits = { Unit {0} };
+
+    ghost form_lawful = { λ h. truth_lawful };
+
+    ghost form_always = { tt };
 
     ghost open = { λ b. refl };
 

@@ -2,7 +2,7 @@
 
 ghost use Rattle.std.specs.Prelude.{◌≡◌, IfOk};
 
-use std::alloc::AllocError;
+use std::alloc::{AllocError, Allocator};
 
 /// A value that can be cloned, where the clone equals it.
 pub trait CloneEq: Drop {
@@ -27,4 +27,19 @@ impl<T: CloneEq> CloneEq for Option<T> {
             Some(value) => Ok(Some(value.clone_eq()?)),
         }
     }
+}
+
+/// Clones of values, in their order.
+///
+/// # Errors
+/// `AllocError` where memory is refused.
+pub fn clone_items<T: CloneEq, A: Allocator>(alloc: A, items: &[T]) -> Result<Vec<T, A>, AllocError>
+    ensures { IfOk result (λ copies. copies.items ≡ items.now) }
+{
+    let mut copies = Vec::with_capacity(alloc, items.len())?;
+    for item in items {
+        let copy = item.clone_eq()?;
+        copies.push(copy)?;
+    }
+    Ok(copies)
 }

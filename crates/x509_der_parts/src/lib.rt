@@ -5,14 +5,18 @@
 
 mod body;
 pub mod boolean;
+mod choice;
+mod chosen;
 pub mod clone_eq;
 pub mod deviation;
 pub mod errors;
 mod header;
+mod items;
 mod join;
 pub mod null;
 mod optional;
 pub mod parts;
+mod prefixed;
 pub mod reader;
 pub mod same_eq;
 pub mod small_integer;

@@ -62,7 +62,11 @@ impl<A: Allocator + Copy> Field<A> for () {
 impl<A: Allocator + Copy> Content<A> for () {
     ghost form = { nothing };
 
-    ghost form_lawful = { nothing_lawful (λ v w. refl) };
+    ghost form_fits = { Unit {0} };
+
+    ghost form_lawful = { λ h. nothing_lawful (λ v w. refl) };
+
+    ghost form_always = { tt };
 
     ghost open = { λ b. refl };
 

@@ -6,8 +6,10 @@ ghost use Rattle.x509_der_parts.specs.Spans.{full};
 ghost use Rattle.x509_der_parts.specs.Optional.{optional, optional_lawful, optional_strict};
 ghost use Rattle.x509_der_parts.specs.Agree.{agree_optional};
 
+use crate::body::Body;
 use crate::errors::{ReadError, TooLong};
 use crate::reader::Reader;
+use crate::tagged::Tagged;
 use crate::traits::{Field, ToDer};
 use std::alloc::Allocator;
 use std::marker::Model;
@@ -20,6 +22,33 @@ impl<F> Model for Optional<F> {
     ghost Value = { Option F };
 
     ghost view = { λ v. v.0 };
+}
+
+impl<N, F> Optional<Tagged<N, F>> {
+    /// What is in the element, where it is there.
+    pub fn into_field(self) -> Option<F>
+        ensures { result ≡ self }
+    {
+        match self.0 {
+            None => None,
+            Some(element) => Some(element.into_inner()),
+        }
+    }
+}
+
+impl<N, T> Optional<Tagged<N, Body<T>>> {
+    /// The value under the implicit tag, where it is there.
+    pub fn into_value(self) -> Option<T>
+        ensures { result ≡ self }
+    {
+        match self.0 {
+            None => None,
+            Some(element) => {
+                let Body(value) = element.into_inner();
+                Some(value)
+            }
+        }
+    }
 }
 
 impl<F: ToDer> ToDer for Optional<F> {

@@ -1,7 +1,7 @@
 //! A cursor over bytes, which counts the headers that it decodes and the deviations that it meets.
 
 ghost use Rattle.std.specs.Prelude.{◌≡◌, ◌+◌, ◌≤◌, ◌<◌, ◌*◌, ◌^◌, ◌++◌, ◌∷◌, [], ℕ, List, length, drop, true, ◌==◌, IfSome, IfNone, IfOk, IfErr, Option, Some, None, sum, slice_set, slice_index, replicate};
-ghost use Rattle.x509_der_parts.specs.Reading.{Cursor, Ready, TakesElement, TakesRaw, TakesRest, Enters, Leaves, IsSpot, Marks, carried, listed, is_tag};
+ghost use Rattle.x509_der_parts.specs.Reading.{Cursor, Ready, TakesElement, TakesRaw, TakesRest, TakesNext, Enters, Leaves, IsSpot, Marks, carried, listed, is_tag};
 ghost use Rattle.x509_der_parts.specs.declared.errors.ReadError.TheVariants.{OutOfMemory};
 
 use crate::deviation::{Deviation, Deviations, Place};
@@ -134,6 +134,22 @@ impl<'a, A: Allocator> Reader<'a, A> {
         match self.rest {
             [] => None,
             [first, ..] => Some(*first),
+        }
+    }
+
+    /// The byte that comes next, which it goes past. It is for contents alone that begin with a byte of their own: a header
+    /// that is read in this way is not counted.
+    pub fn byte(&mut self) -> Option<u8>
+        requires { Ready self.old }
+        ensures { TakesNext self.old self.new result }
+    {
+        match self.rest {
+            [] => None,
+            [first, after @ ..] => {
+                self.at += 1;
+                self.rest = after;
+                Some(*first)
+            }
         }
     }
 

@@ -102,7 +102,11 @@ impl<A: Allocator + Copy> Field<A> for u8 {
 impl<A: Allocator + Copy> Content<A> for u8 {
     ghost form = { smalls };
 
-    ghost form_lawful = { small_lawful };
+    ghost form_fits = { Unit {0} };
+
+    ghost form_lawful = { λ h. small_lawful };
+
+    ghost form_always = { tt };
 
     ghost open = { λ b. refl };
 

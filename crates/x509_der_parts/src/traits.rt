@@ -1,10 +1,11 @@
 //! What can be written and what can be read, with the laws that each type keeps.
 
-ghost use Rattle.std.specs.Prelude.{◌≡◌, ◌+◌, ◌≤◌, ◌<◌, ◌*◌, ◌^◌, ◌++◌, ◌↔◌, ℕ, List, length, drop, true};
+ghost use Rattle.std.specs.Prelude.{◌≡◌, ◌+◌, ◌≤◌, ◌<◌, ◌*◌, ◌^◌, ◌++◌, ◌↔◌, ℕ, Bool, List, length, drop, true};
 ghost use Rattle.x509_der_parts.specs.Element.{element};
 ghost use Rattle.x509_der_parts.specs.Tally.{Tally};
 ghost use Rattle.x509_der_parts.specs.Shape.{Shape, Lawful, IsElement};
 ghost use Rattle.x509_der_parts.specs.Around.{Around};
+ghost use Rattle.x509_der_parts.specs.Depending.{IsFamily};
 ghost use Rattle.x509_der_parts.specs.Reading.{Cursor, Ready, Reads, is_tag};
 ghost use Rattle.x509_der_parts.specs.Writing.{Measures};
 
@@ -99,8 +100,11 @@ pub trait Content<A: Allocator>: ToBody + Drop {
     /// How contents are spelled.
     ghost form: { Shape Self };
 
+    /// What the parts of a content ask of one another.
+    ghost form_fits: { Type 0 };
+
     /// The laws of the contents.
-    ghost form_lawful: { Lawful form };
+    ghost form_lawful: { form_fits → Lawful form };
 
     /// Says that the value is one of its type. It does nothing when it runs.
     fn known_body(&self)
@@ -113,6 +117,9 @@ pub trait Content<A: Allocator>: ToBody + Drop {
     fn read_body(alloc: A, reader: &mut Reader<'_, A>) -> Result<Self, ReadError>
         requires { Ready reader.old }
         ensures { Reads form reader.old reader.new result };
+
+    /// The parts ask nothing that isn't so.
+    ghost form_always: { form_fits };
 
     /// A content may begin with any byte.
     ghost open: { (b : ℕ) → form.starts b ≡ true };
@@ -143,4 +150,39 @@ pub trait Tag: Drop {
 
     /// Its low five bits aren't all ones.
     ghost one_byte: { is_tag BYTE ≡ true };
+}
+
+/// A value that stands behind a key of the type `K`, which chooses how it is spelled: what an object identifier says of
+/// the field that follows it. No key but its own reads a value of another kind.
+pub trait Keyed<K, A: Allocator>: ToDer + Drop {
+    /// How values are spelled behind a key.
+    ghost kinds: { K → Shape Self };
+
+    /// The bytes that a spelling may begin with, behind any key.
+    ghost begins: { ℕ → Bool };
+
+    /// The bytes that may not follow a spelling, behind some key.
+    ghost ends: { ℕ → Bool };
+
+    /// The laws of the shapes.
+    ghost family: { IsFamily kinds begins ends };
+
+    /// Whether a spelling may begin with the byte, behind any key.
+    fn may_start(byte: u8) -> bool
+        ensures { result ≡ begins byte };
+
+    /// Says that the value is one of its type. It does nothing when it runs.
+    fn known_behind(&self, key: &K)
+        ensures { (kinds key.now).valid self.now };
+
+    /// Reads the value that stands behind a key.
+    ///
+    /// # Errors
+    /// Refused where no spelling that the key allows stands there, or memory is refused.
+    fn read_behind(alloc: A, key: &K, reader: &mut Reader<'_, A>) -> Result<Self, ReadError>
+        requires { Ready reader.old }
+        ensures { Reads (kinds key.now) reader.old reader.new result };
+
+    /// The strict spelling is the one that is written, behind each key.
+    ghost kinds_agree: { (k : K) (v : Self) → (kinds k).strict v ≡ Self.strict v };
 }
