@@ -1,0 +1,5 @@
+use Rattle.x509_der_structures.specs.OptionalsFacts.{fields_at}
+use Rattle.x509_der_structures.proofs.laws.optionals_fields.Goals as goal
+
+pub returns : goal.returns
+returns g c = fields_at
