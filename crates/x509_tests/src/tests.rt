@@ -2,6 +2,9 @@
 
 mod elements;
 mod identifiers;
+mod lists;
+mod numbers;
 mod raw_algorithms;
 mod rows;
+mod strings;
 mod tables;

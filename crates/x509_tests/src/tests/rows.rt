@@ -33,6 +33,22 @@ pub fn holds<T: FromDer<Global>>(
     neighbours::<T>(rt, alloc, &input)
 }
 
+/// The bytes in hexadecimal are a strict spelling with so many headers, and all that `holds` says of it.
+pub fn strict_holds<T: FromDer<Global>>(
+    rt: &impl Abort,
+    alloc: Global,
+    input: &str,
+    headers: usize,
+) -> Result<(), Fail> {
+    let row = Row {
+        input,
+        strict: input,
+        places: &[],
+        headers,
+    };
+    holds::<T>(rt, alloc, &row)
+}
+
 /// Every call that reads answers the row's value, counts, headers and places.
 fn reads<T: FromDer<Global>>(
     rt: &impl Abort,
