@@ -230,7 +230,8 @@ impl<A: Allocator + Copy> BitStringAsn1<A> {
     pub fn clone(&self) -> Result<Self, AllocError>
         ensures { IfOk result (λ copy. copy ≡ self.now) }
     {
-        self.clone_eq()
+        let bits = self.0.clone()?;
+        Ok(BitStringAsn1(bits))
     }
 }
 

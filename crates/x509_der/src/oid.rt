@@ -408,6 +408,14 @@ impl<A: Allocator> From<ObjectIdentifier<A>> for ObjectIdentifierAsn1<A> {
     }
 }
 
+impl<A: Allocator> From<ObjectIdentifierAsn1<A>> for ObjectIdentifier<A> {
+    ghost from_gives = { λ o arcs. arcs ≡ o };
+
+    fn from(identifier: ObjectIdentifierAsn1<A>) -> Self {
+        identifier.0
+    }
+}
+
 impl<A: Allocator + Copy> ObjectIdentifierAsn1<A> {
     /// An equal object identifier.
     ///
