@@ -3,49 +3,52 @@
 use crate::console::Stop;
 use crate::fault::ToolFault;
 use crate::run_text::run_text;
+use refusing::{Refusing, Turn};
 use std::alloc::Global;
 use std::process::Abort;
 use std::test::Fail;
 
-/// The text gives these two lines.
-fn prints(rt: &impl Abort, alloc: Global, input: &[u8], lines: &str) -> Result<(), Fail> {
-    let output = run_text(alloc, "raw-algorithm", input)?;
-    assert_eq!(rt; output.as_slice(), lines.as_bytes());
-    Ok(())
+/// The text gives these two lines, and want of memory where a request is refused.
+fn prints(rt: &impl Abort, heap: &Refusing<Global>, input: &[u8], lines: &str) {
+    let requests = heap.in_turn(|| match run_text(heap, "raw-algorithm", input) {
+        Ok(output) => Turn::right(output.as_slice() == lines.as_bytes()),
+        Err(ToolFault::OutOfMemory) => Turn::Refused,
+        Err(_other) => Turn::Wrong,
+    });
+    assert!(rt; requests.is_some(), "{input:?}");
 }
 
-/// The text gives this fault.
-fn faults(rt: &impl Abort, alloc: Global, type_name: &str, input: &[u8], fault: ToolFault) {
-    assert_eq!(rt;
-        run_text(alloc, type_name, input).err(),
-        Some(fault),
-        "{type_name} {input:?}"
-    );
+/// The text gives this fault, and want of memory where a request is refused.
+fn faults(rt: &impl Abort, heap: &Refusing<Global>, input: &[u8], fault: ToolFault) {
+    let requests = heap.in_turn(|| match run_text(heap, "raw-algorithm", input) {
+        Ok(_output) => Turn::Wrong,
+        Err(ToolFault::OutOfMemory) => Turn::Refused,
+        Err(other) => Turn::right(other == fault),
+    });
+    assert!(rt; requests.is_some(), "{input:?}");
 }
 
 #[test]
-fn rows_print(rt: HostRuntime) -> Result<(), Fail> {
-    let alloc = rt.alloc();
+fn rows_print(rt: HostRuntime) {
+    let heap = Refusing::new(rt.alloc());
     let absent = "300c06082a864886f70d02090500\n0 1 0 0 0 0 0 0 0 0\n";
     let strict = "300c06082a864886f70d02090500\n0 0 0 0 0 0 0 0 0 0\n";
-    prints(&rt, alloc, b"300a06082a864886f70d0209", absent)?;
-    prints(&rt, alloc, b"300A06082A864886F70D0209\n", absent)?;
-    prints(&rt, alloc, b"300a06082A864886f70D0209", absent)?;
-    prints(&rt, alloc, b"300c06082a864886f70d02090500\n", strict)
+    prints(&rt, &heap, b"300a06082a864886f70d0209", absent);
+    prints(&rt, &heap, b"300A06082A864886F70D0209\n", absent);
+    prints(&rt, &heap, b"300a06082A864886f70D0209", absent);
+    prints(&rt, &heap, b"300c06082a864886f70d02090500\n", strict);
 }
 
 #[test]
-fn faults_are_named(rt: HostRuntime) -> Result<(), Fail> {
-    let alloc = rt.alloc();
-    faults(&rt, alloc, "raw-algorithm", b"", ToolFault::Refused);
-    faults(&rt, alloc, "raw-algorithm", b"\n", ToolFault::Refused);
-    faults(
-        &rt,
-        alloc,
-        "raw-algorithm",
-        b"300a06082a864886f70d02",
-        ToolFault::Refused,
-    );
+fn faults_are_named(rt: HostRuntime) {
+    let heap = Refusing::new(rt.alloc());
+    for text in [
+        b"".as_slice(),
+        b"\n".as_slice(),
+        b"300a06082a864886f70d02".as_slice(),
+    ] {
+        faults(&rt, &heap, text, ToolFault::Refused);
+    }
     for text in [
         b"30 00".as_slice(),
         b"3000\n\n".as_slice(),
@@ -55,12 +58,20 @@ fn faults_are_named(rt: HostRuntime) -> Result<(), Fail> {
         b"30g0".as_slice(),
         b"\n3000".as_slice(),
     ] {
-        faults(&rt, alloc, "raw-algorithm", text, ToolFault::Usage);
+        faults(&rt, &heap, text, ToolFault::Usage);
     }
-    faults(&rt, alloc, "name", b"3000", ToolFault::Usage);
-    faults(&rt, alloc, "Raw-algorithm", b"3000", ToolFault::Usage);
-    faults(&rt, alloc, "", b"", ToolFault::Usage);
-    Ok(())
+}
+
+/// No memory is asked for where the name is that of no type.
+#[test]
+fn other_names_are_usage(rt: HostRuntime) {
+    let heap = Refusing::new(rt.alloc());
+    heap.refuse_all();
+    for name in ["name", "Raw-algorithm", ""] {
+        let answer = run_text(&heap, name, b"3000");
+        assert_eq!(rt; answer.err(), Some(ToolFault::Usage), "{name}");
+    }
+    assert_eq!(rt; heap.requests(), 0);
 }
 
 #[test]
