@@ -1,8 +1,11 @@
-//! Worked bytes, read and written by every call.
+//! Worked bytes, read and written by every call, and each request for memory refused.
 
 mod elements;
+mod fields;
 mod identifiers;
 mod lists;
+mod memory;
+mod no_memory;
 mod numbers;
 mod raw_algorithms;
 mod rows;

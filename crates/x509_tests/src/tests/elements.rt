@@ -1,6 +1,7 @@
 //! NULL, raw elements, and what no type reads.
 
-use super::rows::{Row, holds, refuses, refuses_text};
+use super::rows::{Heap, Row, all_refused, holds, refuses};
+use refusing::Refusing;
 use std::alloc::Global;
 use std::process::Abort;
 use std::test::Fail;
@@ -11,38 +12,23 @@ use x509_keys::RawAlgorithmIdentifier;
 
 #[test]
 fn null(rt: HostRuntime) -> Result<(), Fail> {
-    let alloc = rt.alloc();
-    let row = Row {
-        input: "0500",
-        strict: "0500",
-        places: &[],
-        headers: 1,
-    };
-    holds::<()>(&rt, alloc, &row)?;
-    for text in ["050100", "058100", "05", "050000", "0400", ""] {
-        refuses_text::<()>(&rt, alloc, text)?;
-    }
-    assert_eq!(rt; from_bytes::<(), Global>(alloc, &[5, 0]), Ok(()));
+    let heap = Refusing::new(rt.alloc());
+    holds::<()>(&rt, &heap, &Row::strict("0500", 1))?;
+    let texts = ["050100", "058100", "05", "050000", "0400", ""];
+    all_refused::<()>(&rt, &heap, &texts)?;
+    assert_eq!(rt; from_bytes::<(), Global>(rt.alloc(), &[5, 0]), Ok(()));
     assert_eq!(rt; ().clone_eq(), Ok(()));
     Ok(())
 }
 
 #[test]
 fn raw_elements_are_read(rt: HostRuntime) -> Result<(), Fail> {
-    let alloc = rt.alloc();
-    for input in ["0000", "3003020501", "0500"] {
-        let row = Row {
-            input,
-            strict: input,
-            places: &[],
-            headers: 1,
-        };
-        holds::<Asn1RawDer>(&rt, alloc, &row)?;
+    let heap = Refusing::new(rt.alloc());
+    for text in ["0000", "3003020501", "0500"] {
+        holds::<Asn1RawDer<Heap<'_>>>(&rt, &heap, &Row::strict(text, 1))?;
     }
-    for text in ["1f00", "05", "", "050000", "ff810200", "308100"] {
-        refuses_text::<Asn1RawDer>(&rt, alloc, text)?;
-    }
-    Ok(())
+    let texts = ["1f00", "05", "", "050000", "ff810200", "308100"];
+    all_refused::<Asn1RawDer<Heap<'_>>>(&rt, &heap, &texts)
 }
 
 /// Whether the bytes in hexadecimal are taken as one element; where not, they come back.
@@ -69,18 +55,17 @@ fn raw_elements_are_made(rt: HostRuntime) -> Result<(), Fail> {
 }
 
 #[test]
-fn raw_elements_are_cloned(rt: HostRuntime) -> Result<(), Fail> {
+fn raw_elements_are_written(rt: HostRuntime) -> Result<(), Fail> {
     let alloc = rt.alloc();
     let bytes = hex::decode(alloc, "3003020501")?;
     let value = Asn1RawDer::from_vec(bytes).ok().ok_or("no element")?;
-    assert_eq!(rt; value.clone()?, value);
     let written = to_vec(alloc, &value)?;
     assert_eq!(rt; written.as_slice(), value.as_bytes());
     Ok(())
 }
 
 /// Lengths that claim more than is there, that are indefinite, or whose tag is of several bytes.
-fn hostile<T: FromDer<Global>>(rt: &impl Abort, alloc: Global) -> Result<(), Fail> {
+fn hostile<'h, T: FromDer<Heap<'h>>>(rt: &impl Abort, heap: Heap<'h>) -> Result<(), Fail> {
     for (text, most) in [
         ("3084ffffffff", 4),
         ("3088ffffffffffffffff", 6),
@@ -89,9 +74,9 @@ fn hostile<T: FromDer<Global>>(rt: &impl Abort, alloc: Global) -> Result<(), Fai
         ("1f8100", 2),
         ("", 1),
     ] {
-        let bytes = hex::decode(alloc, text)?;
-        refuses::<T>(rt, alloc, &bytes)?;
-        let (_refused, headers) = read_metered::<T, Global>(alloc, &bytes);
+        let bytes = hex::decode(heap, text)?;
+        refuses::<T>(rt, heap, &bytes)?;
+        let (_refused, headers) = read_metered::<T, _>(heap, &bytes);
         assert!(rt; headers <= most, "{headers} headers of {text}");
     }
     Ok(())
@@ -99,9 +84,9 @@ fn hostile<T: FromDer<Global>>(rt: &impl Abort, alloc: Global) -> Result<(), Fai
 
 #[test]
 fn hostile_lengths(rt: HostRuntime) -> Result<(), Fail> {
-    let alloc = rt.alloc();
-    hostile::<()>(&rt, alloc)?;
-    hostile::<Asn1RawDer>(&rt, alloc)?;
-    hostile::<ObjectIdentifierAsn1>(&rt, alloc)?;
-    hostile::<RawAlgorithmIdentifier>(&rt, alloc)
+    let heap = Refusing::new(rt.alloc());
+    hostile::<()>(&rt, &heap)?;
+    hostile::<Asn1RawDer<Heap<'_>>>(&rt, &heap)?;
+    hostile::<ObjectIdentifierAsn1<Heap<'_>>>(&rt, &heap)?;
+    hostile::<RawAlgorithmIdentifier<Heap<'_>>>(&rt, &heap)
 }

@@ -1,33 +1,33 @@
 //! Octet strings and bit strings.
 
-use super::rows::{refuses, refuses_text, strict_holds};
+use super::rows::{Heap, Row, all_refused, holds, reads_in_turn, refuses, writes};
+use refusing::Refusing;
 use std::alloc::Global;
 use std::process::Abort;
 use std::test::Fail;
 use x509_der::{BitString, BitStringAsn1, OctetStringAsn1, encoded_len, from_bytes, to_vec};
 
 /// So many octets are written behind these bytes in hexadecimal, and read back.
-fn begins(
+fn begins<'h>(
     rt: &impl Abort,
-    alloc: Global,
+    heap: Heap<'h>,
     count: usize,
     head: &str,
     whole: usize,
 ) -> Result<(), Fail> {
-    let head = hex::decode(alloc, head)?;
-    let value = OctetStringAsn1(Vec::from_elem(alloc, 0xA5u8, count)?);
+    let head = hex::decode(heap, head)?;
+    let value = OctetStringAsn1(Vec::from_elem(heap, 0xA5u8, count)?);
     assert_eq!(rt; encoded_len(&value)?, whole);
-    let written = to_vec(alloc, &value)?;
+    let written = to_vec(heap, &value)?;
     assert!(rt; written.as_slice().starts_with(&head), "{count}");
     assert_eq!(rt; written.len(), head.len() + count);
-    let back = from_bytes::<OctetStringAsn1, Global>(alloc, &written)?;
-    assert_eq!(rt; back, value);
-    Ok(())
+    reads_in_turn::<OctetStringAsn1<Heap<'h>>>(rt, heap, &written, &written)?;
+    writes::<OctetStringAsn1<Heap<'h>>>(rt, heap, &written, &written)
 }
 
 #[test]
 fn octets_of_each_length(rt: HostRuntime) -> Result<(), Fail> {
-    let alloc = rt.alloc();
+    let heap = Refusing::new(rt.alloc());
     for (count, head, whole) in [
         (127usize, "047f", 129usize),
         (128, "048180", 131),
@@ -36,16 +36,16 @@ fn octets_of_each_length(rt: HostRuntime) -> Result<(), Fail> {
         (65535, "0482ffff", 65539),
         (65536, "0483010000", 65541),
     ] {
-        begins(&rt, alloc, count, head, whole)?;
+        begins(&rt, &heap, count, head, whole)?;
     }
     Ok(())
 }
 
 /// These bytes in hexadecimal are refused with up to so many octets behind them.
-fn refuses_head(rt: &impl Abort, alloc: Global, head: &str, most: usize) -> Result<(), Fail> {
-    let mut bytes = hex::decode(alloc, head)?;
+fn refuses_head<'h>(rt: &impl Abort, heap: Heap<'h>, head: &str, most: usize) -> Result<(), Fail> {
+    let mut bytes = hex::decode(heap, head)?;
     for _count in 0..most {
-        refuses::<OctetStringAsn1>(rt, alloc, &bytes)?;
+        refuses::<OctetStringAsn1<Heap<'h>>>(rt, heap, &bytes)?;
         bytes.push(0)?;
     }
     Ok(())
@@ -53,26 +53,25 @@ fn refuses_head(rt: &impl Abort, alloc: Global, head: &str, most: usize) -> Resu
 
 #[test]
 fn lengths_are_the_shortest(rt: HostRuntime) -> Result<(), Fail> {
-    let alloc = rt.alloc();
+    let heap = Refusing::new(rt.alloc());
     for head in ["04817f", "0480", "04820080"] {
-        refuses_head(&rt, alloc, head, 131)?;
+        refuses_head(&rt, &heap, head, 131)?;
     }
     for text in ["0400", "0403a1b2c3"] {
-        strict_holds::<OctetStringAsn1>(&rt, alloc, text, 1)?;
+        holds::<OctetStringAsn1<Heap<'_>>>(&rt, &heap, &Row::strict(text, 1))?;
     }
     Ok(())
 }
 
 #[test]
 fn bits_are_read(rt: HostRuntime) -> Result<(), Fail> {
-    let alloc = rt.alloc();
+    let heap = Refusing::new(rt.alloc());
     for text in ["03020780", "030100", "030200a1", "030401ffff00"] {
-        strict_holds::<BitStringAsn1>(&rt, alloc, text, 1)?;
+        holds::<BitStringAsn1<Heap<'_>>>(&rt, &heap, &Row::strict(text, 1))?;
     }
-    for text in ["0300", "030101", "03020800", "030201a1", "0403020780"] {
-        refuses_text::<BitStringAsn1>(&rt, alloc, text)?;
-    }
-    let BitStringAsn1(bits) = from_bytes::<BitStringAsn1, Global>(alloc, &[3, 2, 7, 0x80])?;
+    let texts = ["0300", "030101", "03020800", "030201a1", "0403020780"];
+    all_refused::<BitStringAsn1<Heap<'_>>>(&rt, &heap, &texts)?;
+    let BitStringAsn1(bits) = from_bytes::<BitStringAsn1, Global>(rt.alloc(), &[3, 2, 7, 0x80])?;
     assert_eq!(rt; bits.get_num_bits(), 1);
     assert!(rt; bits.is_set(0) && !bits.is_set(1));
     Ok(())

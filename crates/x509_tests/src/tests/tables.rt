@@ -1,12 +1,21 @@
-//! The tables of object identifiers: how many there are, and that each constant and each printed value is the stated text.
+//! The tables of object identifiers: how many there are, that each constant and each printed value is the stated text, and
+//! that each function answers want of memory where its request is refused.
+
+/// Compares the lines of a table: a constant, the function that makes its identifier, and the stated text of both.
+macro_rules! lines {
+    ($checked:ident, $alloc:ident: $($constant:ident $function:ident $text:literal;)*) => {
+        $($checked.line(oids::$constant, oids::$function($alloc), $text);)*
+    };
+}
 
 mod algorithms;
 mod objects;
 
-use std::alloc::Global;
+use refusing::{Refusing, Turn};
+use std::alloc::{AllocError, Allocator};
 use std::fmt::{self, Write};
 use std::test::Fail;
-use x509_der::ObjectIdentifier;
+use x509_der::{ObjectIdentifier, OidError};
 
 /// A text that is compared with what is printed, piece by piece.
 #[derive(Drop)]
@@ -26,51 +35,106 @@ impl Write for Expected<'_> {
     }
 }
 
-/// How many lines were compared, and how many of them aren't as stated.
+/// Whether the value prints the text. Takes no memory.
+fn prints<A: Allocator>(value: &ObjectIdentifier<A>, text: &str) -> bool {
+    let mut expected = Expected {
+        rest: text.as_bytes(),
+        differs: false,
+    };
+    let printed = write!(expected, "{value}").is_ok();
+    printed && !expected.differs && expected.rest.is_empty()
+}
+
+/// How many lines were compared, how many of them aren't as stated, and of how many the function was refused memory.
 #[derive(Clone, Copy)]
 pub struct Checked {
     lines: u32,
     wrong: u32,
+    refused: u32,
 }
+
+/// No line yet.
+const NONE: Checked = Checked {
+    lines: 0,
+    wrong: 0,
+    refused: 0,
+};
 
 impl Checked {
     /// Compares a constant and what a value prints with a text.
-    pub fn line(&mut self, constant: &str, value: &ObjectIdentifier, text: &str) {
-        let mut expected = Expected {
-            rest: text.as_bytes(),
-            differs: false,
-        };
-        let printed = write!(expected, "{value}").is_ok();
-        let same = printed && !expected.differs && expected.rest.is_empty() && constant == text;
+    pub fn line<A: Allocator>(
+        &mut self,
+        constant: &str,
+        made: Result<ObjectIdentifier<A>, AllocError>,
+        text: &str,
+    ) {
         self.lines = self.lines.saturating_add(1);
-        if !same {
-            self.wrong = self.wrong.saturating_add(1);
+        match made {
+            Ok(value) if constant == text && prints(&value, text) => {}
+            Ok(_value) => self.wrong = self.wrong.saturating_add(1),
+            Err(AllocError) => self.refused = self.refused.saturating_add(1),
+        }
+    }
+
+    /// What the run showed, in which at most one request was refused.
+    fn turn(self) -> Turn {
+        match self.refused {
+            0 => Turn::right(self.wrong == 0),
+            _ => Turn::stands(self.wrong == 0 && self.refused == 1),
         }
     }
 }
 
+/// Each function makes one request, and answers want of memory where that is refused.
 #[test]
-fn each_line_is_as_stated(rt: HostRuntime) -> Result<(), Fail> {
-    let none = Checked { lines: 0, wrong: 0 };
-    let mut checked = none;
-    algorithms::lines(rt.alloc(), &mut checked)?;
+fn each_line_is_as_stated(rt: HostRuntime) {
+    let heap = Refusing::new(rt.alloc());
+    let requests = heap.in_turn(|| {
+        let mut checked = NONE;
+        algorithms::lines(&heap, &mut checked);
+        checked.turn()
+    });
+    assert_eq!(rt; requests, Some(95));
+    let requests = heap.in_turn(|| {
+        let mut checked = NONE;
+        objects::lines(&heap, &mut checked);
+        checked.turn()
+    });
+    assert_eq!(rt; requests, Some(90));
+}
+
+#[test]
+fn the_tables_are_whole(rt: HostRuntime) {
+    let mut checked = NONE;
+    algorithms::lines(rt.alloc(), &mut checked);
     assert_eq!(rt; (checked.lines, checked.wrong), (95, 0));
-    let mut checked = none;
-    objects::lines(rt.alloc(), &mut checked)?;
+    let mut checked = NONE;
+    objects::lines(rt.alloc(), &mut checked);
     assert_eq!(rt; (checked.lines, checked.wrong), (90, 0));
+}
+
+#[test]
+fn printing_takes_no_memory(rt: HostRuntime) -> Result<(), Fail> {
+    let heap = Refusing::new(rt.alloc());
+    let value = ObjectIdentifier::from_arcs(&heap, &[2, 5, 4, 3])?;
+    heap.refuse_all();
+    assert!(rt; prints(&value, "2.5.4.3"));
+    assert_eq!(rt; heap.requests(), 0);
     Ok(())
 }
 
-/// A text that is read, and printed as itself.
-fn is_read(alloc: Global, text: &str) -> Result<bool, Fail> {
-    let value = ObjectIdentifier::from_text(alloc, text)?;
-    let mut checked = Checked { lines: 0, wrong: 0 };
-    checked.line(text, &value, text);
-    Ok(checked.wrong == 0)
+/// What a run showed that should read the text, as an identifier that prints it.
+fn read_turn<A: Allocator>(answer: Result<ObjectIdentifier<A>, OidError>, text: &str) -> Turn {
+    match answer {
+        Ok(value) => Turn::right(prints(&value, text)),
+        Err(OidError::OutOfMemory) => Turn::Refused,
+        Err(OidError::Bad) => Turn::Wrong,
+    }
 }
 
 #[test]
-fn texts_are_read(rt: HostRuntime) -> Result<(), Fail> {
+fn texts_are_read(rt: HostRuntime) {
+    let heap = Refusing::new(rt.alloc());
     for text in [
         "2.40",
         "2.18446744073709551535",
@@ -78,13 +142,23 @@ fn texts_are_read(rt: HostRuntime) -> Result<(), Fail> {
         "1.3.6.1.5.2.3.2",
         "0.0",
     ] {
-        assert!(rt; is_read(rt.alloc(), text)?, "{text}");
+        let requests = heap.in_turn(|| read_turn(ObjectIdentifier::from_text(&heap, text), text));
+        assert!(rt; requests.is_some(), "{text}");
     }
-    Ok(())
+}
+
+/// What a run showed that should find that the text is no identifier's.
+fn bad_turn<A: Allocator>(answer: Result<ObjectIdentifier<A>, OidError>) -> Turn {
+    match answer {
+        Ok(_value) => Turn::Wrong,
+        Err(OidError::OutOfMemory) => Turn::Refused,
+        Err(OidError::Bad) => Turn::Granted,
+    }
 }
 
 #[test]
 fn other_texts_are_bad(rt: HostRuntime) {
+    let heap = Refusing::new(rt.alloc());
     for text in [
         "",
         "2",
@@ -103,7 +177,7 @@ fn other_texts_are_bad(rt: HostRuntime) {
         "a.b",
         "1,2",
     ] {
-        let read = ObjectIdentifier::from_text(rt.alloc(), text);
-        assert_eq!(rt; read.err(), Some(x509_der::OidError::Bad), "{text}");
+        let requests = heap.in_turn(|| bad_turn(ObjectIdentifier::from_text(&heap, text)));
+        assert!(rt; requests.is_some(), "{text}");
     }
 }

@@ -1,0 +1,97 @@
+//! Other elements in the places of fields.
+
+use super::rows::Heap;
+use std::test::Fail;
+use x509_der::{OctetStringAsn1, to_vec};
+
+/// A part of an input that has a tag of its own: where the elements around it start, from the outermost in, where it
+/// starts, and the universal tags that may stand there.
+#[derive(Clone, Copy)]
+pub struct Field<'a> {
+    pub around: &'a [usize],
+    pub start: usize,
+    pub tags: &'a [u8],
+}
+
+/// The universal tags of one byte (X.680, 8.4), each with a content of its type; SEQUENCE, SET and the like are empty.
+pub const SAMPLES: [(u8, &[u8]); 28] = [
+    (0x01, b"\xFF"),
+    (0x02, b"\x05"),
+    (0x03, b"\x07\x80"),
+    (0x04, b"\xA5"),
+    (0x05, b""),
+    (0x06, b"\x2A"),
+    (0x07, b"a"),
+    (0x09, b""),
+    (0x0A, b"\x01"),
+    (0x0C, b"a"),
+    (0x0D, b"\x01"),
+    (0x0E, b"2019"),
+    (0x12, b"1"),
+    (0x13, b"a"),
+    (0x14, b"a"),
+    (0x15, b"a"),
+    (0x16, b"a"),
+    (0x17, b"191017174128Z"),
+    (0x18, b"20191017174128Z"),
+    (0x19, b"a"),
+    (0x1A, b"a"),
+    (0x1B, b"a"),
+    (0x1C, b"\x00\x00\x00a"),
+    (0x1D, b"a"),
+    (0x1E, b"\x00a"),
+    (0x28, b""),
+    (0x30, b""),
+    (0x31, b""),
+];
+
+/// The tags of all samples: what may stand in the place of any element.
+pub const ANY: &[u8] = &[
+    0x01, 0x02, 0x03, 0x04, 0x05, 0x06, 0x07, 0x09, 0x0A, 0x0C, 0x0D, 0x0E, 0x12, 0x13, 0x14, 0x15,
+    0x16, 0x17, 0x18, 0x19, 0x1A, 0x1B, 0x1C, 0x1D, 0x1E, 0x28, 0x30, 0x31,
+];
+
+/// Where the content of the element at a place begins and ends, whose length has at most two bytes behind the first.
+fn content_of(input: &[u8], start: usize) -> Option<(usize, usize)> {
+    let (digits, len) = match input.get(start..)? {
+        [_tag, 0x81, low, ..] => (1, usize::from(*low)),
+        [_tag, 0x82, high, low, ..] => (2, usize::from(*high) * 256 + usize::from(*low)),
+        [_tag, low, ..] => (0, usize::from(*low)),
+        _ => return None,
+    };
+    let from = start.checked_add(2)?.checked_add(digits)?;
+    Some((from, from.checked_add(len)?))
+}
+
+/// An element with this tag and content.
+fn element<'h>(heap: Heap<'h>, tag: u8, content: &[u8]) -> Result<Vec<u8, Heap<'h>>, Fail> {
+    let mut whole = to_vec(heap, &OctetStringAsn1(Vec::from_slice(heap, content)?))?;
+    if let Some(first) = whole.first_mut() {
+        *first = tag;
+    }
+    Ok(whole)
+}
+
+/// The input with another element in the place of the field, and the lengths around it as they then are.
+pub fn replaced<'h>(
+    heap: Heap<'h>,
+    input: &[u8],
+    field: &Field<'_>,
+    tag: u8,
+    content: &[u8],
+) -> Result<Vec<u8, Heap<'h>>, Fail> {
+    let mut inner = element(heap, tag, content)?;
+    let mut start = field.start;
+    let (_from, mut end) = content_of(input, start).ok_or("no element there")?;
+    for outer in field.around.iter().rev() {
+        let (from, to) = content_of(input, *outer).ok_or("no element around it")?;
+        let mut content = Vec::from_slice(heap, input.get(from..start).ok_or("not within")?)?;
+        content.extend_from_slice(&inner)?;
+        content.extend_from_slice(input.get(end..to).ok_or("not within")?)?;
+        let outer_tag = input.get(*outer).ok_or("no element around it")?;
+        inner = element(heap, *outer_tag, &content)?;
+        start = *outer;
+        end = to;
+    }
+    Ok(inner)
+}
