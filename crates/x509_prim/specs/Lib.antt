@@ -1,0 +1,3 @@
+pub mod Texts
+pub mod CharSets
+pub mod Utf16

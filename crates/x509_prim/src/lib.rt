@@ -1,0 +1,16 @@
+//! The restricted character strings of ASN.1, which names, general names and attributes hold.
+#![tactic(auto)]
+
+pub mod bmp_string;
+pub mod errors;
+pub mod ia5_string;
+pub mod printable_string;
+pub mod restricted_string;
+pub mod utf8_string;
+
+pub use crate::bmp_string::{BmpCharSet, BmpString, BmpStringAsn1};
+pub use crate::errors::CharSetError;
+pub use crate::ia5_string::{Ia5CharSet, Ia5String, Ia5StringAsn1};
+pub use crate::printable_string::{PrintableCharSet, PrintableString, PrintableStringAsn1};
+pub use crate::restricted_string::{CharSet, RestrictedString, RestrictedStringAsn1};
+pub use crate::utf8_string::Utf8String;
