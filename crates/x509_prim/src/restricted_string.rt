@@ -95,7 +95,7 @@ impl<C: CharSet, A: Allocator + Copy> RestrictedString<C, A> {
 
 impl<C: CharSet, A: Allocator + Copy> CloneEq for RestrictedString<C, A> {
     fn clone_eq(&self) -> Result<Self, AllocError> {
-        let bytes = Vec::from_slice(*self.bytes.allocator(), self.bytes.as_slice())?;
+        let bytes = Vec::from_slice(*self.bytes.allocator(), &self.bytes)?;
         Ok(RestrictedString::from_allowed(bytes))
     }
 }
@@ -179,7 +179,7 @@ impl<C: CharSet, A: Allocator + Copy> RestrictedStringAsn1<C, A> {
     pub fn clone(&self) -> Result<Self, AllocError>
         ensures { IfOk result (λ copy. copy ≡ self.now) }
     {
-        self.clone_eq()
+        Ok(RestrictedStringAsn1(self.0.clone()?))
     }
 }
 
@@ -261,7 +261,7 @@ impl<C: CharSet, A: Allocator + Copy> Field<A> for RestrictedStringAsn1<C, A> {
     }
 
     fn known(&self) {
-        let _ = self.as_bytes();
+        self.known_body();
     }
 
     fn read(alloc: A, reader: &mut Reader<'_, A>) -> Result<Self, ReadError> {

@@ -62,7 +62,7 @@ impl<A: Allocator> Utf8String<A> {
         ensures bytes { result.now ≡ self.now }
         ensures utf8 { IsUtf8 self.now }
     {
-        self.0.as_str().as_bytes()
+        self.as_str().as_bytes()
     }
 }
 
@@ -179,7 +179,7 @@ impl<A: Allocator + Copy> Field<A> for Utf8String<A> {
     }
 
     fn known(&self) {
-        let _ = self.as_bytes();
+        self.known_body();
     }
 
     fn read(alloc: A, reader: &mut Reader<'_, A>) -> Result<Self, ReadError> {
