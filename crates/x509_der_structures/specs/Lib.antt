@@ -5,3 +5,5 @@ pub mod ChoiceFacts
 pub mod Kinds
 pub mod KindFacts
 pub mod Nulls
+pub mod Contacts
+pub mod ContactFacts

@@ -7,10 +7,12 @@ ghost use Rattle.x509_der.specs.Around.{around};
 ghost use Rattle.x509_der.specs.Writing.{Measures};
 ghost use Rattle.x509_der.specs.Calls.{WholeRead};
 ghost use Rattle.x509_der_structures.specs.Optionals.{optionals, FieldsAt as OptionalsAt};
+ghost use Rattle.x509_der_structures.specs.Contacts.{contact, FieldsAt as ContactAt};
 ghost use Rattle.x509_der_structures.specs.Choices.{mark, AlternativeAt};
 ghost use Rattle.x509_der_structures.specs.Kinds.{preference, FieldsAt as PreferenceAt};
 
 use crate::choice::Mark;
+use crate::contact::Contact;
 use crate::kinds::Preference;
 use crate::optionals::Optionals;
 use std::alloc::Allocator;
@@ -21,6 +23,11 @@ use x509_der::{
 /// The law of fields of `Optionals`.
 pub fn optionals_fields<A: Allocator>()
     ensures { (v : Optionals A) (string : List ℕ) (y : Tally) → optionals.spelled v string y → OptionalsAt v string y }
+{}
+
+/// The law of fields of `Contact`.
+pub fn contact_fields<A: Allocator>()
+    ensures { (v : Contact A) (string : List ℕ) (y : Tally) → contact.spelled v string y → ContactAt v string y }
 {}
 
 /// The law of fields of `Mark`.

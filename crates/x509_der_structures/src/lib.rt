@@ -2,10 +2,12 @@
 #![tactic(auto)]
 
 pub mod choice;
+pub mod contact;
 pub mod kinds;
 pub mod laws;
 pub mod optionals;
 
 pub use crate::choice::Mark;
+pub use crate::contact::Contact;
 pub use crate::kinds::{Preference, Setting};
 pub use crate::optionals::Optionals;
