@@ -1,9 +1,9 @@
 //! Laws of the types of this crate. A function here does nothing when it runs: its contract is the law.
 
-use crate::generalized_time::GeneralizedTimeAsn1;
-use crate::utc_time::UtcTimeAsn1;
 use std::alloc::Allocator;
 use x509_der::parts::Field;
+use x509_prim_parts::generalized_time::GeneralizedTimeAsn1;
+use x509_prim_parts::utc_time::UtcTimeAsn1;
 
 /// Reading UTCTime takes no memory, so that `from_bytes`, `read_counted` and `read_metered` never answer want of it.
 pub fn utc_time_takes_no_memory<A: Allocator + Copy>()

@@ -2,21 +2,18 @@
 #![tactic(auto)]
 
 pub mod bmp_string;
-mod calendar;
 pub mod errors;
-pub mod generalized_time;
 pub mod ia5_string;
 pub mod laws;
 pub mod printable_string;
 pub mod restricted_string;
-pub mod utc_time;
 pub mod utf8_string;
 
 pub use crate::bmp_string::{BmpCharSet, BmpString, BmpStringAsn1};
 pub use crate::errors::CharSetError;
-pub use crate::generalized_time::{GeneralizedTime, GeneralizedTimeAsn1};
 pub use crate::ia5_string::{Ia5CharSet, Ia5String, Ia5StringAsn1};
 pub use crate::printable_string::{PrintableCharSet, PrintableString, PrintableStringAsn1};
 pub use crate::restricted_string::{CharSet, RestrictedString, RestrictedStringAsn1};
-pub use crate::utc_time::{UTCTime, UtcTimeAsn1};
 pub use crate::utf8_string::Utf8String;
+pub use x509_prim_parts::generalized_time::{GeneralizedTime, GeneralizedTimeAsn1};
+pub use x509_prim_parts::utc_time::{UTCTime, UtcTimeAsn1};

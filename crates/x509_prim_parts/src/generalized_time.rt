@@ -4,9 +4,9 @@ ghost use Rattle.std.specs.Prelude.{◌≡◌, ℕ, SomeIff, IfSome, IfNone, Ok,
 ghost use Rattle.std.proofs.Common.{lit<};
 ghost use Rattle.x509_der.specs.Element.{element};
 ghost use Rattle.x509_der.specs.Around.{around, around_lawful, around_element};
-ghost use Rattle.x509_prim.specs.Calendar.{IsMoment, Moment, moment};
-ghost use Rattle.x509_prim.specs.Times.{IsGeneralizedText, generalized_text, generalized_times};
-ghost use Rattle.x509_prim.specs.TimeFacts.{generalized_lawful};
+ghost use Rattle.x509_prim_parts.specs.Calendar.{IsMoment, Moment, moment};
+ghost use Rattle.x509_prim_parts.specs.Times.{IsGeneralizedText, generalized_text, generalized_times};
+ghost use Rattle.x509_prim_parts.specs.TimeFacts.{generalized_lawful};
 
 use crate::calendar::{DateTime, TwoDigits, split_two};
 use std::alloc::{AllocError, Allocator};
@@ -24,7 +24,7 @@ pub struct GeneralizedTime {
 }
 
 impl Model for GeneralizedTime {
-    ghost use Rattle.x509_prim.specs.Calendar.{Moment, IsMoment};
+    ghost use Rattle.x509_prim_parts.specs.Calendar.{Moment, IsMoment};
 
     ghost Value = { Moment };
 
@@ -143,7 +143,7 @@ fn generalized_time_of(content: &[u8]) -> Option<GeneralizedTime>
 pub struct GeneralizedTimeAsn1(pub GeneralizedTime);
 
 impl Model for GeneralizedTimeAsn1 {
-    ghost use Rattle.x509_prim.specs.Calendar.{Moment};
+    ghost use Rattle.x509_prim_parts.specs.Calendar.{Moment};
 
     ghost Value = { Moment };
 

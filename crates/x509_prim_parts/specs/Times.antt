@@ -2,7 +2,7 @@
 use Rattle.std.specs.Prelude.{◌≡◌, ℕ, ◌+◌, ◌/◌, ◌%◌, ◌<◌, ◌≤◌, List, [], ◌∷◌, ◌++◌, nat_lt, if◌then◌else◌}
 use Rattle.x509_der.specs.Shape.{Shape}
 use Rattle.x509_der.specs.Contents.{plain}
-use Rattle.x509_prim.specs.Calendar.{Moment, IsMoment}
+use Rattle.x509_prim_parts.specs.Calendar.{Moment, IsMoment}
 
 -- a number below 100 as two decimal digits
 abbrev pub two_digits : ℕ → List ℕ

@@ -1,7 +1,7 @@
 use Rattle.std.proofs.Common.{Option, Some, None, IfNone, sym, ◌∙◌, arith}
-use Rattle.x509_prim.specs.Times.{from_day, from_hour, from_minute, from_second}
-use Rattle.x509_prim.specs.TimeFacts.{same_digits}
-use Rattle.x509_prim.proofs.calendar.DateTime.in_year.Goals as goal
+use Rattle.x509_prim_parts.specs.Times.{from_day, from_hour, from_minute, from_second}
+use Rattle.x509_prim_parts.specs.TimeFacts.{same_digits}
+use Rattle.x509_prim_parts.proofs.calendar.DateTime.in_year.Goals as goal
 
 none_holds : {T P : Type 0} (o : Option T) → P → IfNone o P
 none_holds None p = p

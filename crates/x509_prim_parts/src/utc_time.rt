@@ -4,9 +4,9 @@ ghost use Rattle.std.specs.Prelude.{◌≡◌, ℕ, SomeIff, IfSome, IfNone, Ok,
 ghost use Rattle.std.proofs.Common.{lit<};
 ghost use Rattle.x509_der.specs.Element.{element};
 ghost use Rattle.x509_der.specs.Around.{around, around_lawful, around_element};
-ghost use Rattle.x509_prim.specs.Calendar.{Moment, moment};
-ghost use Rattle.x509_prim.specs.Times.{IsUtc, IsUtcText, full_year as year_of, utc_text, utc_times};
-ghost use Rattle.x509_prim.specs.TimeFacts.{utc_lawful};
+ghost use Rattle.x509_prim_parts.specs.Calendar.{Moment, moment};
+ghost use Rattle.x509_prim_parts.specs.Times.{IsUtc, IsUtcText, full_year as year_of, utc_text, utc_times};
+ghost use Rattle.x509_prim_parts.specs.TimeFacts.{utc_lawful};
 
 use crate::calendar::{DateTime, TwoDigits, split_two};
 use std::alloc::{AllocError, Allocator};
@@ -23,8 +23,8 @@ pub struct UTCTime {
 }
 
 impl Model for UTCTime {
-    ghost use Rattle.x509_prim.specs.Calendar.{Moment};
-    ghost use Rattle.x509_prim.specs.Times.{IsUtc};
+    ghost use Rattle.x509_prim_parts.specs.Calendar.{Moment};
+    ghost use Rattle.x509_prim_parts.specs.Times.{IsUtc};
 
     ghost Value = { Moment };
 
@@ -149,7 +149,7 @@ fn utc_time_of(content: &[u8]) -> Option<UTCTime>
 pub struct UtcTimeAsn1(pub UTCTime);
 
 impl Model for UtcTimeAsn1 {
-    ghost use Rattle.x509_prim.specs.Calendar.{Moment};
+    ghost use Rattle.x509_prim_parts.specs.Calendar.{Moment};
 
     ghost Value = { Moment };
 

@@ -3,8 +3,8 @@ use Rattle.std.proofs.Common.{◌≡◌, ℕ, ◌+◌, ◌/◌, ◌%◌, ◌<◌
 use Rattle.std.proofs.lemmas.Bool.Decides.{nat_tests}
 use Rattle.x509_der.specs.Shape.{Lawful}
 use Rattle.x509_der.specs.Contents.{IsPlain, plain_lawful}
-use Rattle.x509_prim.specs.Calendar.{Moment, IsMoment, moment}
-use Rattle.x509_prim.specs.Times.{two_digits, from_second, from_minute, from_hour, from_day, from_month, full_year, IsUtcText, IsUtc, utc_text, utc_times, IsGeneralizedText, generalized_text, generalized_times}
+use Rattle.x509_prim_parts.specs.Calendar.{Moment, IsMoment, moment}
+use Rattle.x509_prim_parts.specs.Times.{two_digits, from_second, from_minute, from_hour, from_day, from_month, full_year, IsUtcText, IsUtc, utc_text, utc_times, IsGeneralizedText, generalized_text, generalized_times}
 
 -- two digits say one number, and where they end is known
 pub record SameDigits (a b : ℕ) (r q : List ℕ) : Type 0 where

@@ -1,7 +1,7 @@
 use Rattle.x509_der.specs.ContentReads.{plain_accepts, plain_refuses}
-use Rattle.x509_prim.specs.Times.{IsUtc, IsUtcText, utc_text}
-use Rattle.x509_prim.specs.TimeFacts.{utc_plain}
-use Rattle.x509_prim.proofs.utc_time.UtcTimeAsn1Content.read_body.Goals as goal
+use Rattle.x509_prim_parts.specs.Times.{IsUtc, IsUtcText, utc_text}
+use Rattle.x509_prim_parts.specs.TimeFacts.{utc_plain}
+use Rattle.x509_prim_parts.proofs.utc_time.UtcTimeAsn1Content.read_body.Goals as goal
 
 pub returns-in-Some : goal.returns-in-Some
 returns-in-Some g c = plain_accepts IsUtcText utc_text IsUtc (Unit {0}) utc_plain c.args.reader.now c.take_rest-content.new.self c.take_rest-content.result.now c.in-Some.time c.requires c.take_rest-content.ensures c.in-Some.ensures.some

@@ -1,8 +1,8 @@
 //! Seconds of the Gregorian calendar, and what the texts of times have in common.
 
 ghost use Rattle.std.specs.Prelude.{◌≡◌, ◌<◌, ◌≤◌, ◌↔◌, ◌++◌, ℕ, List, IsTrue, SomeIff, IfSome, IfNone};
-ghost use Rattle.x509_prim.specs.Calendar.{IsDay, IsMoment, Moment, moment};
-ghost use Rattle.x509_prim.specs.Times.{two_digits, from_month};
+ghost use Rattle.x509_prim_parts.specs.Calendar.{IsDay, IsMoment, Moment, moment};
+ghost use Rattle.x509_prim_parts.specs.Times.{two_digits, from_month};
 
 use jiff::civil::Date;
 use std::marker::Model;
@@ -22,7 +22,7 @@ pub struct DateTime {
 }
 
 impl Model for DateTime {
-    ghost use Rattle.x509_prim.specs.Calendar.{Moment, IsMoment, moment};
+    ghost use Rattle.x509_prim_parts.specs.Calendar.{Moment, IsMoment, moment};
 
     ghost Value = { Moment };
 

@@ -1,0 +1,9 @@
+//! The times of ASN.1. No other crate lists this one: `x509_prim` passes all of it on.
+#![tactic(auto)]
+
+mod calendar;
+pub mod generalized_time;
+pub mod utc_time;
+
+pub use crate::generalized_time::{GeneralizedTime, GeneralizedTimeAsn1};
+pub use crate::utc_time::{UTCTime, UtcTimeAsn1};
