@@ -11,3 +11,5 @@ mod raw_algorithms;
 mod rows;
 mod strings;
 mod tables;
+mod texts;
+mod times;

@@ -10,6 +10,7 @@ use x509_der::{
     OidError, from_bytes,
 };
 use x509_keys::RawAlgorithmIdentifier;
+use x509_prim::{BmpString, BmpStringAsn1, Ia5StringAsn1, PrintableStringAsn1, Utf8String};
 
 /// What a run of a maker showed.
 fn made_turn(is_right: Result<bool, AllocError>) -> Turn {
@@ -183,4 +184,25 @@ fn values_in_wrappers_are_cloned(rt: HostRuntime) -> Result<(), Fail> {
     });
     assert_eq!(rt; requests, Some(1));
     Ok(())
+}
+
+#[test]
+fn restricted_strings_are_cloned(rt: HostRuntime) -> Result<(), Fail> {
+    let heap = Refusing::new(rt.alloc());
+    cloned!(rt, heap; PrintableStringAsn1<Heap<'_>>, b"\x13\x01a", 1);
+    cloned!(rt, heap; Ia5StringAsn1<Heap<'_>>, b"\x16\x01a", 1);
+    cloned!(rt, heap; BmpStringAsn1<Heap<'_>>, b"\x1E\x02\x00a", 1);
+    cloned!(rt, heap; Utf8String<Heap<'_>>, b"\x0C\x01a", 1);
+    Ok(())
+}
+
+/// The bytes of a text's units take memory as they come.
+#[test]
+fn units_are_made(rt: HostRuntime) {
+    let heap = Refusing::new(rt.alloc());
+    let requests = heap.in_turn(|| match BmpString::from_string(&heap, "\u{1F600}abcdef") {
+        Ok(made) => Turn::right(made.as_bytes().len() == 16),
+        Err(AllocError) => Turn::Refused,
+    });
+    assert!(rt; requests.is_some());
 }

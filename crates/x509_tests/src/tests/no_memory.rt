@@ -11,6 +11,10 @@ use x509_der::{
     OctetStringAsn1Container, ReadError, from_bytes, read_counted, read_metered,
 };
 use x509_keys::RawAlgorithmIdentifier;
+use x509_prim::{
+    BmpString, BmpStringAsn1, GeneralizedTimeAsn1, Ia5String, Ia5StringAsn1, PrintableString,
+    PrintableStringAsn1, UtcTimeAsn1, Utf8String,
+};
 
 /// No request was made since all were refused; none is refused any more.
 fn took_nothing(rt: &impl Abort, heap: Heap<'_>) {
@@ -154,6 +158,50 @@ fn values_are_wrapped(rt: HostRuntime) -> Result<(), Fail> {
         BitStringAsn1Container::from(5u8),
         BitStringAsn1Container(5)
     );
+    took_nothing(&rt, &heap);
+    Ok(())
+}
+
+#[test]
+fn times_are_read(rt: HostRuntime) -> Result<(), Fail> {
+    let heap = Refusing::new(rt.alloc());
+    let utc = "170d3530303130313030303030305a";
+    reads::<UtcTimeAsn1>(&rt, &heap, utc, None)?;
+    let no_day = "170d3139303232393030303030305a";
+    reads::<UtcTimeAsn1>(&rt, &heap, no_day, Some(ReadError::BadTime))?;
+    let generalized = "180f30303030303232393030303030305a";
+    reads::<GeneralizedTimeAsn1>(&rt, &heap, generalized, None)?;
+    let no_day = "180f31393030303232393030303030305a";
+    reads::<GeneralizedTimeAsn1>(&rt, &heap, no_day, Some(ReadError::BadTime))
+}
+
+#[test]
+fn strings_are_made_of_texts(rt: HostRuntime) -> Result<(), Fail> {
+    let heap = Refusing::new(rt.alloc());
+    let plain = String::from_str(&heap, "a")?;
+    let other = String::from_str(&heap, "*\u{E9}")?;
+    heap.refuse_all();
+    let printable = PrintableStringAsn1::from(PrintableString::from_string(plain)?);
+    assert_eq!(rt; printable.as_bytes(), b"a".as_slice());
+    let text = Utf8String::from(other);
+    assert_eq!(rt; text.as_str().as_bytes(), text.as_bytes());
+    assert!(rt; Ia5String::from_string(String::from(text)).is_err());
+    took_nothing(&rt, &heap);
+    Ok(())
+}
+
+#[test]
+fn strings_are_made_of_bytes(rt: HostRuntime) -> Result<(), Fail> {
+    let heap = Refusing::new(rt.alloc());
+    let star = Vec::from_slice(&heap, b"a*")?;
+    let odd = Vec::from_slice(&heap, b"abc")?;
+    let even = Vec::from_slice(&heap, b"\xD8\x3D")?;
+    heap.refuse_all();
+    let ia5 = Ia5StringAsn1::from(Ia5String::from_bytes(star)?);
+    assert_eq!(rt; Ia5String::from(ia5).as_bytes(), b"a*".as_slice());
+    assert!(rt; BmpString::from_bytes(odd).is_err());
+    let bmp = BmpStringAsn1::from(BmpString::from_bytes(even)?);
+    assert_eq!(rt; bmp.as_bytes(), b"\xD8\x3D".as_slice());
     took_nothing(&rt, &heap);
     Ok(())
 }

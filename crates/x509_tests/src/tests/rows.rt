@@ -195,11 +195,16 @@ pub fn writes<'h, T: FromDer<Heap<'h>>>(
     Ok(())
 }
 
-/// How many requests a clone makes where it is equal, and want of memory where one is refused. The two values are equal.
-fn copies_in_turn<T: CloneEq + PartialEq>(heap: Heap<'_>, pair: &[T; 2]) -> Option<u64> {
-    heap.in_turn(|| match pair[0].clone_eq() {
-        Ok(copy) => Turn::right(copy == pair[1]),
-        Err(AllocError) => Turn::stands(pair[0] == pair[1]),
+/// How many requests a clone of a value makes where it is equal, and want of memory where one is refused. The other value is
+/// as the first was before.
+fn copies_in_turn<'v, T: CloneEq + PartialEq>(
+    heap: Heap<'_>,
+    value: &'v T,
+    before: &'v T,
+) -> Option<u64> {
+    heap.in_turn(|| match value.clone_eq() {
+        Ok(copy) => Turn::right(copy == *before),
+        Err(AllocError) => Turn::stands(*value == *before),
     })
 }
 
@@ -209,11 +214,12 @@ fn copies<'h, T: FromDer<Heap<'h>> + CloneEq + PartialEq>(
     heap: Heap<'h>,
     input: &[u8],
 ) -> Result<(), Fail> {
-    let pair = [
-        from_bytes::<T, _>(heap, input)?,
-        from_bytes::<T, _>(heap, input)?,
-    ];
-    assert!(rt; copies_in_turn(heap, &pair).is_some(), "{input:?}");
+    let value = from_bytes::<T, _>(heap, input)?;
+    let before = from_bytes::<T, _>(heap, input)?;
+    assert!(rt;
+        copies_in_turn(heap, &value, &before).is_some(),
+        "{input:?}"
+    );
     Ok(())
 }
 
