@@ -13,8 +13,9 @@ pub struct Field<'a> {
     pub tags: &'a [u8],
 }
 
-/// The universal tags of one byte (X.680, 8.4), each with a content of its type; SEQUENCE, SET and the like are empty.
-pub const SAMPLES: [(u8, &[u8]); 28] = [
+/// The universal tags whose numbers fit in one byte (X.680, 8.4), each with a content of its type; SEQUENCE, SET and the
+/// types that are encoded like a SEQUENCE are empty.
+pub const SAMPLES: [(u8, &[u8]); 29] = [
     (0x01, b"\xFF"),
     (0x02, b"\x05"),
     (0x03, b"\x07\x80"),
@@ -38,17 +39,18 @@ pub const SAMPLES: [(u8, &[u8]); 28] = [
     (0x1A, b"a"),
     (0x1B, b"a"),
     (0x1C, b"\x00\x00\x00a"),
-    (0x1D, b"a"),
     (0x1E, b"\x00a"),
     (0x28, b""),
+    (0x2B, b""),
     (0x30, b""),
     (0x31, b""),
+    (0x3D, b""),
 ];
 
 /// The tags of all samples: what may stand in the place of any element.
 pub const ANY: &[u8] = &[
     0x01, 0x02, 0x03, 0x04, 0x05, 0x06, 0x07, 0x09, 0x0A, 0x0C, 0x0D, 0x0E, 0x12, 0x13, 0x14, 0x15,
-    0x16, 0x17, 0x18, 0x19, 0x1A, 0x1B, 0x1C, 0x1D, 0x1E, 0x28, 0x30, 0x31,
+    0x16, 0x17, 0x18, 0x19, 0x1A, 0x1B, 0x1C, 0x1E, 0x28, 0x2B, 0x30, 0x31, 0x3D,
 ];
 
 /// Where the content of the element at a place begins and ends, whose length has at most two bytes behind the first.
@@ -73,7 +75,7 @@ fn element<'h>(heap: Heap<'h>, tag: u8, content: &[u8]) -> Result<Vec<u8, Heap<'
 }
 
 /// The input with another element in the place of the field, and the lengths around it as they then are.
-pub fn replaced<'h>(
+pub(super) fn replaced<'h>(
     heap: Heap<'h>,
     input: &[u8],
     field: &Field<'_>,

@@ -27,7 +27,7 @@ pub struct Row<'a> {
 
 impl<'a> Row<'a> {
     /// A strict spelling with so many headers and no fields.
-    pub fn strict(input: &'a str, headers: usize) -> Row<'a> {
+    pub(super) fn strict(input: &'a str, headers: usize) -> Row<'a> {
         Row {
             input,
             strict: input,
@@ -38,14 +38,14 @@ impl<'a> Row<'a> {
     }
 
     /// The row with these fields.
-    pub fn with_fields(self, fields: &'a [Field<'a>]) -> Row<'a> {
+    pub(super) fn with_fields(self, fields: &'a [Field<'a>]) -> Row<'a> {
         Row { fields, ..self }
     }
 }
 
 /// The row is read and written as it says, also where memory is refused, no front of it is read, and its neighbours are
 /// treated as the laws say.
-pub fn holds<'h, T: FromDer<Heap<'h>> + CloneEq + PartialEq>(
+pub(super) fn holds<'h, T: FromDer<Heap<'h>> + CloneEq + PartialEq>(
     rt: &impl Abort,
     heap: Heap<'h>,
     row: &Row<'_>,
@@ -67,7 +67,7 @@ pub fn holds<'h, T: FromDer<Heap<'h>> + CloneEq + PartialEq>(
 }
 
 /// Each of the rows holds.
-pub fn all_hold<'h, T: FromDer<Heap<'h>> + CloneEq + PartialEq>(
+pub(super) fn all_hold<'h, T: FromDer<Heap<'h>> + CloneEq + PartialEq>(
     rt: &impl Abort,
     heap: Heap<'h>,
     rows: &[Row<'_>],
@@ -142,7 +142,7 @@ fn pair_turn<T: ToDer + Drop, R: Drop>(
 }
 
 /// Each call that reads answers want of memory where a request of its own is refused, and the value where none is.
-pub fn reads_in_turn<'h, T: FromDer<Heap<'h>>>(
+pub(super) fn reads_in_turn<'h, T: FromDer<Heap<'h>>>(
     rt: &impl Abort,
     heap: Heap<'h>,
     input: &[u8],
@@ -175,7 +175,7 @@ fn writes_in_turn<T: ToDer>(heap: Heap<'_>, value: &T, strict: &[u8]) -> Option<
 
 /// Every call that writes gives the strict spelling and leaves what stands behind it; `to_vec` takes memory once, and the
 /// others never.
-pub fn writes<'h, T: FromDer<Heap<'h>>>(
+pub(super) fn writes<'h, T: FromDer<Heap<'h>>>(
     rt: &impl Abort,
     heap: Heap<'h>,
     input: &[u8],
@@ -232,7 +232,7 @@ fn is_refusal<T: Drop>(answer: Result<T, ReadError>) -> bool {
 }
 
 /// No call reads the bytes, and the headers are bounded.
-pub fn refuses<'h, T: FromDer<Heap<'h>>>(
+pub(super) fn refuses<'h, T: FromDer<Heap<'h>>>(
     rt: &impl Abort,
     heap: Heap<'h>,
     input: &[u8],
@@ -252,7 +252,7 @@ pub fn refuses<'h, T: FromDer<Heap<'h>>>(
 }
 
 /// Each of these, in hexadecimal, is refused by every call.
-pub fn all_refused<'h, T: FromDer<Heap<'h>>>(
+pub(super) fn all_refused<'h, T: FromDer<Heap<'h>>>(
     rt: &impl Abort,
     heap: Heap<'h>,
     texts: &[&str],

@@ -62,7 +62,7 @@ const NONE: Checked = Checked {
 
 impl Checked {
     /// Compares a constant and what a value prints with a text.
-    pub fn line<A: Allocator>(
+    pub(super) fn line<A: Allocator>(
         &mut self,
         constant: &str,
         made: Result<ObjectIdentifier<A>, AllocError>,
