@@ -1,5 +1,6 @@
 //! Worked bytes, read and written by every call, and each request for memory refused.
 
+mod clones;
 mod elements;
 mod fields;
 mod identifiers;

@@ -1,6 +1,6 @@
 //! NULL, raw elements, and what no type reads.
 
-use super::rows::{Heap, Row, all_refused, holds, refuses};
+use super::rows::{Heap, refuses, strict_rows};
 use refusing::Refusing;
 use std::alloc::Global;
 use std::process::Abort;
@@ -13,43 +13,42 @@ use x509_keys::RawAlgorithmIdentifier;
 #[test]
 fn null(rt: HostRuntime) -> Result<(), Fail> {
     let heap = Refusing::new(rt.alloc());
-    holds::<()>(&rt, &heap, &Row::strict("0500", 1))?;
-    let texts = ["050100", "058100", "05", "050000", "0400", ""];
-    all_refused::<()>(&rt, &heap, &texts)?;
-    assert_eq!(rt; from_bytes::<(), Global>(rt.alloc(), &[5, 0]), Ok(()));
-    assert_eq!(rt; ().clone_eq(), Ok(()));
-    Ok(())
+    let refused = ["050100", "058100", "05", "050000", "0400", ""];
+    strict_rows::<()>(&rt, &heap, &["0500"], &refused)
+}
+
+#[test]
+fn null_is_as_stated(rt: HostRuntime) {
+    assert!(rt; from_bytes::<(), Global>(rt.alloc(), &[5, 0]) == Ok(()));
+    assert!(rt; ().clone_eq() == Ok(()));
 }
 
 #[test]
 fn raw_elements_are_read(rt: HostRuntime) -> Result<(), Fail> {
     let heap = Refusing::new(rt.alloc());
-    for text in ["0000", "3003020501", "0500"] {
-        holds::<Asn1RawDer<Heap<'_>>>(&rt, &heap, &Row::strict(text, 1))?;
-    }
-    let texts = ["1f00", "05", "", "050000", "ff810200", "308100"];
-    all_refused::<Asn1RawDer<Heap<'_>>>(&rt, &heap, &texts)
+    let strict = ["0000", "3003020501", "0500"];
+    let refused = ["1f00", "05", "", "050000", "ff810200", "308100"];
+    strict_rows::<Asn1RawDer<Heap<'_>>>(&rt, &heap, &strict, &refused)
 }
 
-/// Whether the bytes in hexadecimal are taken as one element; where not, they come back.
-fn is_taken(alloc: Global, text: &str) -> Result<bool, Fail> {
+/// The bytes in hexadecimal are taken as one element, or come back, as is said.
+fn is_taken(rt: &impl Abort, alloc: Global, text: &str, wanted: bool) -> Result<(), Fail> {
     let bytes = hex::decode(alloc, text)?;
-    let copy = Vec::from_slice(alloc, &bytes)?;
-    match Asn1RawDer::from_vec(bytes) {
-        Ok(element) => Ok(element.as_bytes() == copy.as_slice()),
-        Err(back) if back.as_slice() == copy.as_slice() => Ok(false),
-        Err(_other) => Err("other bytes came back")?,
+    match Asn1RawDer::from_vec(Vec::from_slice(alloc, &bytes)?) {
+        Ok(element) => assert!(rt; wanted && element.as_bytes() == bytes.as_slice(), "{text}"),
+        Err(back) => assert!(rt; !wanted && back.as_slice() == bytes.as_slice(), "{text}"),
     }
+    Ok(())
 }
 
 #[test]
 fn raw_elements_are_made(rt: HostRuntime) -> Result<(), Fail> {
     let alloc = rt.alloc();
     for text in ["0000", "3003020501", "0500"] {
-        assert!(rt; is_taken(alloc, text)?, "{text}");
+        is_taken(&rt, alloc, text, true)?;
     }
     for text in ["1f00", "05", "", "050000", "ff810200", "308100"] {
-        assert!(rt; !is_taken(alloc, text)?, "{text}");
+        is_taken(&rt, alloc, text, false)?;
     }
     Ok(())
 }

@@ -2,7 +2,6 @@
 
 use super::rows::Heap;
 use std::test::Fail;
-use x509_der::{OctetStringAsn1, to_vec};
 
 /// A part of an input that has a tag of its own: where the elements around it start, from the outermost in, where it
 /// starts, and the universal tags that may stand there.
@@ -65,12 +64,19 @@ fn content_of(input: &[u8], start: usize) -> Option<(usize, usize)> {
     Some((from, from.checked_add(len)?))
 }
 
-/// An element with this tag and content.
-fn element<'h>(heap: Heap<'h>, tag: u8, content: &[u8]) -> Result<Vec<u8, Heap<'h>>, Fail> {
-    let mut whole = to_vec(heap, &OctetStringAsn1(Vec::from_slice(heap, content)?))?;
-    if let Some(first) = whole.first_mut() {
-        *first = tag;
-    }
+/// The element with a tag around a content of at most 65535 bytes, by hand: stated bytes never come from the library.
+pub(super) fn element<'h>(
+    heap: Heap<'h>,
+    tag: u8,
+    content: &[u8],
+) -> Result<Vec<u8, Heap<'h>>, Fail> {
+    let [high, low] = u16::try_from(content.len())?.to_be_bytes();
+    let mut whole = match (high, low) {
+        (0, 0..=127) => Vec::from_slice(heap, &[tag, low])?,
+        (0, _) => Vec::from_slice(heap, &[tag, 0x81, low])?,
+        _ => Vec::from_slice(heap, &[tag, 0x82, high, low])?,
+    };
+    whole.extend_from_slice(content)?;
     Ok(whole)
 }
 

@@ -1,6 +1,6 @@
 //! Object identifiers.
 
-use super::rows::{Heap, Row, all_refused, holds};
+use super::rows::{Heap, strict_rows};
 use refusing::Refusing;
 use std::alloc::Global;
 use std::process::Abort;
@@ -10,7 +10,7 @@ use x509_der::{ObjectIdentifier, ObjectIdentifierAsn1, OidError, from_bytes, to_
 #[test]
 fn rows_hold(rt: HostRuntime) -> Result<(), Fail> {
     let heap = Refusing::new(rt.alloc());
-    for text in [
+    let strict = [
         "06028837",
         "060a81ffffffffffffffff7f",
         "0603550403",
@@ -19,16 +19,8 @@ fn rows_hold(rt: HostRuntime) -> Result<(), Fail> {
         "06014f",
         "060150",
         "060b2a81ffffffffffffffff7f",
-    ] {
-        holds::<ObjectIdentifierAsn1<Heap<'_>>>(&rt, &heap, &Row::strict(text, 1))?;
-    }
-    Ok(())
-}
-
-#[test]
-fn other_contents_are_refused(rt: HostRuntime) -> Result<(), Fail> {
-    let heap = Refusing::new(rt.alloc());
-    let texts = [
+    ];
+    let refused = [
         "060a82808080808080808000",
         "06028001",
         "0600",
@@ -39,7 +31,7 @@ fn other_contents_are_refused(rt: HostRuntime) -> Result<(), Fail> {
         "0602883700",
         "0681028837",
     ];
-    all_refused::<ObjectIdentifierAsn1<Heap<'_>>>(&rt, &heap, &texts)
+    strict_rows::<ObjectIdentifierAsn1<Heap<'_>>>(&rt, &heap, &strict, &refused)
 }
 
 /// The bytes in hexadecimal are an identifier with these arcs.
@@ -52,17 +44,16 @@ fn reads(rt: &impl Abort, alloc: Global, text: &str, arcs: &[u64]) -> Result<(),
 
 #[test]
 fn arcs_are_as_stated(rt: HostRuntime) -> Result<(), Fail> {
-    let alloc = rt.alloc();
-    reads(&rt, alloc, "06028837", &[2, 999])?;
-    reads(
-        &rt,
-        alloc,
-        "060a81ffffffffffffffff7f",
-        &[2, 18446744073709551535],
-    )?;
-    reads(&rt, alloc, "060100", &[0, 0])?;
-    reads(&rt, alloc, "06014f", &[1, 39])?;
-    reads(&rt, alloc, "060150", &[2, 0])
+    for (text, first, second) in [
+        ("06028837", 2u64, 999u64),
+        ("060a81ffffffffffffffff7f", 2, 18446744073709551535),
+        ("060100", 0, 0),
+        ("06014f", 1, 39),
+        ("060150", 2, 0),
+    ] {
+        reads(&rt, rt.alloc(), text, &[first, second])?;
+    }
+    Ok(())
 }
 
 #[test]

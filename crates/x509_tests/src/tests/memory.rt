@@ -1,17 +1,9 @@
-//! Makers, clones and changes, with each request for memory refused in turn.
+//! Makers and changes, with each request for memory refused in turn.
 
-use super::rows::Heap;
 use refusing::{Refusing, Turn};
 use std::alloc::{AllocError, Allocator};
-use std::process::Abort;
-use std::test::Fail;
-use x509_der::{
-    Asn1RawDer, Asn1SequenceOf, Asn1SetOf, BitString, BitStringAsn1, BitStringAsn1Container,
-    FromDer, IntegerAsn1, ObjectIdentifier, ObjectIdentifierAsn1, OctetStringAsn1,
-    OctetStringAsn1Container, OidError, from_bytes,
-};
-use x509_keys::RawAlgorithmIdentifier;
-use x509_prim::{BmpString, BmpStringAsn1, Ia5StringAsn1, PrintableStringAsn1, Utf8String};
+use x509_der::{BitString, IntegerAsn1, ObjectIdentifier, OidError};
+use x509_prim::BmpString;
 
 /// What a run of a maker showed.
 fn made_turn(is_right: Result<bool, AllocError>) -> Turn {
@@ -95,147 +87,26 @@ fn bit_strings_are_made(rt: HostRuntime) {
     );
 }
 
-/// What a run of `set_num_bits` showed of the first of two equal values.
-fn resize_turn<A: Allocator>(pair: &mut [BitString<A>; 2], len: usize) -> Turn {
-    let outcome = pair[0].set_num_bits(len);
-    let [bits, before] = &*pair;
-    match outcome {
+/// What a run showed in which a byte's bits should be grown, which stay as they were where memory is refused.
+fn growth_turn<A: Allocator>(bytes: Result<Vec<u8, A>, AllocError>) -> Turn {
+    let Ok(bytes) = bytes else {
+        return Turn::Refused;
+    };
+    let mut bits = BitString::with_bytes(bytes);
+    match bits.set_num_bits(1000) {
         Ok(()) => Turn::right(bits.get_num_bits() == 1000 && bits.is_set(0) && !bits.is_set(8)),
-        Err(AllocError) => Turn::stands(*bits == *before),
+        Err(AllocError) => Turn::stands(
+            bits.get_num_bits() == 8 && bits.payload_view() == b"\xA5".as_slice(),
+        ),
     }
 }
 
 /// A refused `set_num_bits` leaves the bits as they were.
 #[test]
-fn bit_strings_are_grown(rt: HostRuntime) -> Result<(), Fail> {
+fn bit_strings_are_grown(rt: HostRuntime) {
     let heap = Refusing::new(rt.alloc());
-    let mut pair = [
-        BitString::with_bytes(Vec::from_slice(&heap, b"\xA5")?),
-        BitString::with_bytes(Vec::from_slice(&heap, b"\xA5")?),
-    ];
-    let requests = heap.in_turn(|| resize_turn(&mut pair, 1000));
-    assert_eq!(rt; requests, Some(1));
-    Ok(())
-}
-
-/// How many requests a clone by this call makes where it is equal, and want of memory where one is refused. The other value
-/// is as the first was before.
-fn clones_in_turn<'v, T: PartialEq + Drop, F: Fn(&T) -> Result<T, AllocError>>(
-    heap: Heap<'_>,
-    value: &'v T,
-    before: &'v T,
-    clone: F,
-) -> Option<u64>
-    requires { F.IsAlwaysCallable clone }
-{
-    heap.in_turn(|| match clone(value) {
-        Ok(copy) => Turn::right(copy == *before),
-        Err(AllocError) => Turn::stands(*value == *before),
-    })
-}
-
-/// The value that these bytes are read as is cloned by its own call: as itself, also where memory is refused first.
-fn cloned<'h, T: FromDer<Heap<'h>> + PartialEq + Drop, F: Fn(&T) -> Result<T, AllocError>>(
-    rt: &impl Abort,
-    heap: Heap<'h>,
-    clone: F,
-    bytes: &[u8],
-    requests: u64,
-) -> Result<(), Fail>
-    requires { F.IsAlwaysCallable clone }
-{
-    let value = from_bytes::<T, _>(heap, bytes)?;
-    let before = from_bytes::<T, _>(heap, bytes)?;
-    let made = clones_in_turn(heap, &value, &before, clone);
-    assert_eq!(rt; made, Some(requests), "{bytes:?}");
-    Ok(())
-}
-
-/// An item that takes memory.
-type Number<'h> = IntegerAsn1<Heap<'h>>;
-
-#[test]
-fn strings_are_cloned(rt: HostRuntime) -> Result<(), Fail> {
-    let heap = Refusing::new(rt.alloc());
-    cloned(&rt, &heap, IntegerAsn1::clone, b"\x02\x01\x05", 1)?;
-    cloned(&rt, &heap, OctetStringAsn1::clone, b"\x04\x01\x05", 1)?;
-    cloned(&rt, &heap, BitStringAsn1::clone, b"\x03\x02\x07\x80", 1)?;
-    cloned(&rt, &heap, Asn1RawDer::clone, b"\x05\x00", 1)?;
-    Ok(())
-}
-
-#[test]
-fn identifiers_are_cloned(rt: HostRuntime) -> Result<(), Fail> {
-    let heap = Refusing::new(rt.alloc());
-    cloned(&rt, &heap, ObjectIdentifierAsn1::clone, b"\x06\x01\x2A", 1)?;
-    cloned(
-        &rt,
-        &heap,
-        RawAlgorithmIdentifier::clone,
-        b"\x30\x06\x06\x01\x2A\x02\x01\x05",
-        2,
-    )?;
-    Ok(())
-}
-
-#[test]
-fn lists_and_containers_are_cloned(rt: HostRuntime) -> Result<(), Fail> {
-    let heap = Refusing::new(rt.alloc());
-    cloned(
-        &rt,
-        &heap,
-        Asn1SequenceOf::<u8, _>::clone,
-        b"\x30\x03\x02\x01\x05",
-        1,
-    )?;
-    cloned(
-        &rt,
-        &heap,
-        Asn1SetOf::<u8, _>::clone,
-        b"\x31\x03\x02\x01\x05",
-        1,
-    )?;
-    cloned(
-        &rt,
-        &heap,
-        OctetStringAsn1Container::<Number<'_>>::clone,
-        b"\x04\x03\x02\x01\x05",
-        1,
-    )?;
-    cloned(
-        &rt,
-        &heap,
-        BitStringAsn1Container::<Number<'_>>::clone,
-        b"\x03\x04\x00\x02\x01\x05",
-        1,
-    )?;
-    Ok(())
-}
-
-/// The values within the wrappers have a clone of their own.
-#[test]
-fn values_in_wrappers_are_cloned(rt: HostRuntime) -> Result<(), Fail> {
-    let heap = Refusing::new(rt.alloc());
-    let arcs = [2, 5, 4, 3];
-    let value = ObjectIdentifier::from_arcs(&heap, &arcs)?;
-    let before = ObjectIdentifier::from_arcs(&heap, &arcs)?;
-    let requests = clones_in_turn(&heap, &value, &before, ObjectIdentifier::clone);
-    assert_eq!(rt; requests, Some(1));
-    let value = BitString::with_bytes(Vec::from_slice(&heap, b"\xA5")?);
-    let before = BitString::with_bytes(Vec::from_slice(&heap, b"\xA5")?);
-    let requests = clones_in_turn(&heap, &value, &before, BitString::clone);
-    assert_eq!(rt; requests, Some(1));
-    Ok(())
-}
-
-#[test]
-fn restricted_strings_are_cloned(rt: HostRuntime) -> Result<(), Fail> {
-    let heap = Refusing::new(rt.alloc());
-    cloned(&rt, &heap, PrintableStringAsn1::clone, b"\x13\x01a", 1)?;
-    cloned(&rt, &heap, Ia5StringAsn1::clone, b"\x16\x01a", 1)?;
-    cloned(&rt, &heap, BmpStringAsn1::clone, b"\x1E\x02\x00a", 1)?;
-    cloned(&rt, &heap, Utf8String::clone, b"\x0C\x01a", 1)?;
-    Ok(())
+    let requests = heap.in_turn(|| growth_turn(Vec::from_slice(&heap, b"\xA5")));
+    assert_eq!(rt; requests, Some(2));
 }
 
 /// The bytes of a text's units take memory as they come.

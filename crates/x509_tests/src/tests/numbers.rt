@@ -1,6 +1,6 @@
 //! Truth values and integers.
 
-use super::rows::{Heap, Row, all_refused, holds};
+use super::rows::{Heap, strict_rows};
 use refusing::Refusing;
 use std::alloc::Global;
 use std::process::Abort;
@@ -10,17 +10,8 @@ use x509_der::{IntegerAsn1, from_bytes, to_vec};
 #[test]
 fn small_numbers(rt: HostRuntime) -> Result<(), Fail> {
     let heap = Refusing::new(rt.alloc());
-    for (text, number) in [
-        ("020100", 0u8),
-        ("02017f", 127),
-        ("02020080", 128),
-        ("020200ff", 255),
-    ] {
-        holds::<u8>(&rt, &heap, &Row::strict(text, 1))?;
-        let bytes = hex::decode(&heap, text)?;
-        assert_eq!(rt; from_bytes::<u8, _>(&heap, &bytes), Ok(number), "{text}");
-    }
-    let texts = [
+    let strict = ["020100", "02017f", "02020080", "020200ff"];
+    let refused = [
         "020180",
         "0202007f",
         "02020100",
@@ -28,26 +19,36 @@ fn small_numbers(rt: HostRuntime) -> Result<(), Fail> {
         "0203000080",
         "030101",
     ];
-    all_refused::<u8>(&rt, &heap, &texts)
+    strict_rows::<u8>(&rt, &heap, &strict, &refused)
+}
+
+#[test]
+fn small_numbers_are_as_stated(rt: HostRuntime) {
+    let alloc = rt.alloc();
+    assert!(rt; from_bytes::<u8, Global>(alloc, &[2, 1, 0]) == Ok(0));
+    assert!(rt; from_bytes::<u8, Global>(alloc, &[2, 1, 127]) == Ok(127));
+    assert!(rt; from_bytes::<u8, Global>(alloc, &[2, 2, 0, 128]) == Ok(128));
+    assert!(rt; from_bytes::<u8, Global>(alloc, &[2, 2, 0, 255]) == Ok(255));
 }
 
 #[test]
 fn truth_values(rt: HostRuntime) -> Result<(), Fail> {
     let heap = Refusing::new(rt.alloc());
-    for text in ["0101ff", "010100"] {
-        holds::<bool>(&rt, &heap, &Row::strict(text, 1))?;
-    }
-    let texts = ["010101", "01020000", "0100", "0101", "0201ff"];
-    all_refused::<bool>(&rt, &heap, &texts)?;
-    assert_eq!(rt; from_bytes::<bool, _>(&heap, &[1, 1, 255]), Ok(true));
-    assert_eq!(rt; from_bytes::<bool, _>(&heap, &[1, 1, 0]), Ok(false));
-    Ok(())
+    let refused = ["010101", "01020000", "0100", "0101", "0201ff"];
+    strict_rows::<bool>(&rt, &heap, &["0101ff", "010100"], &refused)
+}
+
+#[test]
+fn truth_values_are_as_stated(rt: HostRuntime) {
+    let alloc = rt.alloc();
+    assert!(rt; from_bytes::<bool, Global>(alloc, &[1, 1, 255]) == Ok(true));
+    assert!(rt; from_bytes::<bool, Global>(alloc, &[1, 1, 0]) == Ok(false));
 }
 
 #[test]
 fn integers(rt: HostRuntime) -> Result<(), Fail> {
     let heap = Refusing::new(rt.alloc());
-    for text in [
+    let strict = [
         "020100",
         "02017f",
         "020180",
@@ -55,10 +56,8 @@ fn integers(rt: HostRuntime) -> Result<(), Fail> {
         "02020080",
         "0202ff7f",
         "02050100000000",
-    ] {
-        holds::<IntegerAsn1<Heap<'_>>>(&rt, &heap, &Row::strict(text, 1))?;
-    }
-    let texts = [
+    ];
+    let refused = [
         "0200",
         "0202007f",
         "0202ff80",
@@ -66,7 +65,7 @@ fn integers(rt: HostRuntime) -> Result<(), Fail> {
         "0301ff",
         "020200",
     ];
-    all_refused::<IntegerAsn1<Heap<'_>>>(&rt, &heap, &texts)
+    strict_rows::<IntegerAsn1<Heap<'_>>>(&rt, &heap, &strict, &refused)
 }
 
 /// The bytes in hexadecimal, as a signed number, are held as the others.

@@ -16,51 +16,58 @@ const WITH_NULL: &str = "300c06082a864886f70d02090500";
 
 const WITHOUT: &str = "300a06082a864886f70d0209";
 
-/// An identifier, and behind it any element.
-const FIELDS: &[Field<'static>] = &[
-    Field {
-        around: &[0],
-        start: 2,
-        tags: &[0x06],
-    },
-    Field {
-        around: &[0],
-        start: 12,
-        tags: ANY,
-    },
-];
-
 /// A name's attribute has this shape too: 2.5.4.3 and a UTF8String.
 const ATTRIBUTE: &str = "301606035504030c0f696e7465726d6564696174655f6361";
 
-const ATTRIBUTE_FIELDS: &[Field<'static>] = &[
-    Field {
-        around: &[0],
-        start: 2,
-        tags: &[0x06],
+/// The identifier, which comes first.
+const IDENTIFIER: Field<'static> = Field {
+    around: &[0],
+    start: 2,
+    tags: &[0x06],
+};
+
+/// Any element behind the identifier of `WITH_NULL`.
+const PARAMETERS: Field<'static> = Field {
+    around: &[0],
+    start: 12,
+    tags: ANY,
+};
+
+/// Any element behind the identifier of `ATTRIBUTE`.
+const ATTRIBUTE_VALUE: Field<'static> = Field {
+    around: &[0],
+    start: 7,
+    tags: ANY,
+};
+
+const ROWS: &[Row<'static>] = &[
+    Row {
+        input: WITH_NULL,
+        strict: WITH_NULL,
+        places: &[],
+        headers: 3,
+        fields: &[IDENTIFIER, PARAMETERS],
     },
-    Field {
-        around: &[0],
-        start: 7,
-        tags: ANY,
+    Row {
+        input: WITHOUT,
+        strict: WITH_NULL,
+        places: &[(Deviation::RawParametersAbsent, 0, 12)],
+        headers: 2,
+        fields: &[IDENTIFIER],
+    },
+    Row {
+        input: ATTRIBUTE,
+        strict: ATTRIBUTE,
+        places: &[],
+        headers: 3,
+        fields: &[IDENTIFIER, ATTRIBUTE_VALUE],
     },
 ];
 
 #[test]
 fn rows_hold(rt: HostRuntime) -> Result<(), Fail> {
     let heap = Refusing::new(rt.alloc());
-    let rows = [
-        Row::strict(WITH_NULL, 3).with_fields(FIELDS),
-        Row {
-            input: WITHOUT,
-            strict: WITH_NULL,
-            places: &[(Deviation::RawParametersAbsent, 0, 12)],
-            headers: 2,
-            fields: &FIELDS[..1],
-        },
-        Row::strict(ATTRIBUTE, 3).with_fields(ATTRIBUTE_FIELDS),
-    ];
-    all_hold::<RawAlgorithmIdentifier<Heap<'_>>>(&rt, &heap, &rows)
+    all_hold::<RawAlgorithmIdentifier<Heap<'_>>>(&rt, &heap, ROWS)
 }
 
 /// The value that the bytes in hexadecimal are read as.
@@ -86,23 +93,37 @@ fn values_are_as_stated(rt: HostRuntime) -> Result<(), Fail> {
     Ok(())
 }
 
-#[test]
-fn null_is_held_as_none(rt: HostRuntime) -> Result<(), Fail> {
-    let alloc = rt.alloc();
-    let made = made_of(alloc, &[1, 2, 840, 113549, 2, 9], "0500")?;
-    let read = value_of(alloc, WITHOUT)?;
-    assert_eq!(rt; made, read);
+/// What is made of these arcs and of the element in hexadecimal is the value that the text is read as.
+fn made_is_read(
+    rt: &impl Abort,
+    alloc: Global,
+    arcs: &[u64],
+    element: &str,
+    text: &str,
+) -> Result<(), Fail> {
+    let made = made_of(alloc, arcs, element)?;
+    let read = value_of(alloc, text)?;
+    are_same(rt, &made, &read, element == "0500");
     Ok(())
 }
 
+/// The two are the same, with parameters or without.
+fn are_same(
+    rt: &impl Abort,
+    made: &RawAlgorithmIdentifier,
+    read: &RawAlgorithmIdentifier,
+    is_bare: bool,
+) {
+    assert!(rt; *made == *read);
+    assert_eq!(rt; made.parameters().is_none(), is_bare);
+}
+
+/// NULL is held as none, and any other element as it is.
 #[test]
 fn parameters_are_kept(rt: HostRuntime) -> Result<(), Fail> {
     let alloc = rt.alloc();
-    let made = made_of(alloc, &[2, 5, 4, 3], "0c0161")?;
-    let read = value_of(alloc, "300806035504030c0161")?;
-    assert_eq!(rt; made, read);
-    assert!(rt; made.parameters().is_some());
-    Ok(())
+    made_is_read(&rt, alloc, &[1, 2, 840, 113549, 2, 9], "0500", WITHOUT)?;
+    made_is_read(&rt, alloc, &[2, 5, 4, 3], "0c0161", "300806035504030c0161")
 }
 
 /// Writing into so many bytes EE gives this answer, and these bytes in hexadecimal.

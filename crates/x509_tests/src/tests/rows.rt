@@ -1,14 +1,15 @@
 //! What every row goes through: all calls, with each request for memory refused in turn; the cuts at each byte; each byte
 //! raised and lowered by one; and an element of each universal tag in the place of each field.
 
+use super::clones::{OwnClone, clones_in_turn};
 use super::fields::{Field, SAMPLES, replaced};
 use refusing::{Refusing, Turn};
 use std::alloc::{AllocError, Global};
 use std::process::Abort;
 use std::test::Fail;
 use x509_der::{
-    CloneEq, Deviation, FromDer, Place, ReadError, ToDer, WriteError, encoded_len, from_bytes,
-    read_counted, read_located, read_metered, to_vec, write_to_slice,
+    CloneEq, Deviation, Deviations, FromDer, Place, ReadError, ToDer, WriteError, encoded_len,
+    from_bytes, read_counted, read_located, read_metered, to_vec, write_to_slice,
 };
 
 /// The allocator of every row: it refuses what it is told to.
@@ -36,16 +37,11 @@ impl<'a> Row<'a> {
             fields: &[],
         }
     }
-
-    /// The row with these fields.
-    pub(super) fn with_fields(self, fields: &'a [Field<'a>]) -> Row<'a> {
-        Row { fields, ..self }
-    }
 }
 
 /// The row is read and written as it says, also where memory is refused, no front of it is read, and its neighbours are
 /// treated as the laws say.
-pub(super) fn holds<'h, T: FromDer<Heap<'h>> + CloneEq + PartialEq>(
+pub(super) fn holds<'h, T: FromDer<Heap<'h>> + OwnClone + PartialEq>(
     rt: &impl Abort,
     heap: Heap<'h>,
     row: &Row<'_>,
@@ -67,7 +63,7 @@ pub(super) fn holds<'h, T: FromDer<Heap<'h>> + CloneEq + PartialEq>(
 }
 
 /// Each of the rows holds.
-pub(super) fn all_hold<'h, T: FromDer<Heap<'h>> + CloneEq + PartialEq>(
+pub(super) fn all_hold<'h, T: FromDer<Heap<'h>> + OwnClone + PartialEq>(
     rt: &impl Abort,
     heap: Heap<'h>,
     rows: &[Row<'_>],
@@ -78,7 +74,20 @@ pub(super) fn all_hold<'h, T: FromDer<Heap<'h>> + CloneEq + PartialEq>(
     Ok(())
 }
 
-/// Every call that reads answers the row's value, counts, headers and places.
+/// Each spelling in hexadecimal, which has one header, is strict, and none of the others is read.
+pub(super) fn strict_rows<'h, T: FromDer<Heap<'h>> + OwnClone + PartialEq>(
+    rt: &impl Abort,
+    heap: Heap<'h>,
+    strict: &[&str],
+    refused: &[&str],
+) -> Result<(), Fail> {
+    for text in strict {
+        holds::<T>(rt, heap, &Row::strict(*text, 1))?;
+    }
+    all_refused::<T>(rt, heap, refused)
+}
+
+/// Every call that reads answers the row's counts, headers and places.
 fn reads<'h, T: FromDer<Heap<'h>>>(
     rt: &impl Abort,
     heap: Heap<'h>,
@@ -86,32 +95,56 @@ fn reads<'h, T: FromDer<Heap<'h>>>(
     row: &Row<'_>,
 ) -> Result<(), Fail> {
     let (_value, deviations) = read_counted::<T, _>(heap, input)?;
-    assert_eq!(rt;
-        deviations.total(),
-        row.places.len(),
-        "deviations in {}",
-        row.input
-    );
-    assert_eq!(rt; deviations.is_none(), row.places.is_empty());
+    counts(rt, deviations, row);
+    meters::<T>(rt, heap, input, row, deviations)?;
+    locates::<T>(rt, heap, input, row)
+}
+
+/// The counts are those of the row's places.
+fn counts(rt: &impl Abort, deviations: Deviations, row: &Row<'_>) {
+    let total = row.places.len();
+    assert_eq!(rt; deviations.total(), total, "deviations in {}", row.input);
+    assert_eq!(rt; deviations.is_none(), total == 0);
     for (kind, _start, _end) in row.places {
         let alike = row.places.iter().filter(|place| place.0 == *kind).count();
         assert_eq!(rt; deviations.count(*kind), alike, "{kind:?} in {}", row.input);
     }
+}
+
+/// The headers are the row's, and the counts are these.
+fn meters<'h, T: FromDer<Heap<'h>>>(
+    rt: &impl Abort,
+    heap: Heap<'h>,
+    input: &[u8],
+    row: &Row<'_>,
+    deviations: Deviations,
+) -> Result<(), Fail> {
     let (metered, headers) = read_metered::<T, _>(heap, input);
     let (_value, again) = metered?;
     assert_eq!(rt; again, deviations);
     assert_eq!(rt; headers, row.headers, "headers of {}", row.input);
-    let (_value, places) = read_located::<T, _>(heap, input)?;
-    assert_eq!(rt; places.len(), row.places.len());
-    for (place, (kind, start, end)) in places.iter().zip(row.places.iter()) {
-        let stated = Place {
-            kind: *kind,
-            start: *start,
-            end: *end,
-        };
-        assert_eq!(rt; *place, stated, "in {}", row.input);
-    }
     Ok(())
+}
+
+/// The places are the row's.
+fn locates<'h, T: FromDer<Heap<'h>>>(
+    rt: &impl Abort,
+    heap: Heap<'h>,
+    input: &[u8],
+    row: &Row<'_>,
+) -> Result<(), Fail> {
+    let (_value, places) = read_located::<T, _>(heap, input)?;
+    places_are(rt, places.as_slice(), row);
+    Ok(())
+}
+
+/// These are the row's places.
+fn places_are(rt: &impl Abort, places: &[Place], row: &Row<'_>) {
+    assert_eq!(rt; places.len(), row.places.len());
+    for (place, stated) in places.iter().zip(row.places.iter()) {
+        let place = (place.kind, place.start, place.end);
+        assert_eq!(rt; place, *stated, "in {}", row.input);
+    }
 }
 
 /// What a read showed whose value should have this strict spelling, for which there is room.
@@ -208,16 +241,19 @@ fn copies_in_turn<'v, T: CloneEq + PartialEq>(
     })
 }
 
-/// A value is cloned as itself, also where memory is refused first.
-fn copies<'h, T: FromDer<Heap<'h>> + CloneEq + PartialEq>(
+/// A value is cloned as itself, by either call, also where memory is refused first.
+fn copies<'h, T: FromDer<Heap<'h>> + OwnClone + PartialEq>(
     rt: &impl Abort,
     heap: Heap<'h>,
     input: &[u8],
 ) -> Result<(), Fail> {
     let value = from_bytes::<T, _>(heap, input)?;
     let before = from_bytes::<T, _>(heap, input)?;
-    assert!(rt;
-        copies_in_turn(heap, &value, &before).is_some(),
+    let requests = copies_in_turn(heap, &value, &before);
+    assert!(rt; requests.is_some(), "{input:?}");
+    assert_eq!(rt;
+        clones_in_turn(heap, &value, &before),
+        requests,
         "{input:?}"
     );
     Ok(())

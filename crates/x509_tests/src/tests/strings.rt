@@ -1,6 +1,6 @@
 //! Octet strings and bit strings.
 
-use super::rows::{Heap, Row, all_refused, holds, reads_in_turn, refuses, writes};
+use super::rows::{Heap, reads_in_turn, refuses, strict_rows, writes};
 use refusing::Refusing;
 use std::alloc::Global;
 use std::process::Abort;
@@ -57,23 +57,27 @@ fn lengths_are_the_shortest(rt: HostRuntime) -> Result<(), Fail> {
     for head in ["04817f", "0480", "04820080"] {
         refuses_head(&rt, &heap, head, 131)?;
     }
-    for text in ["0400", "0403a1b2c3"] {
-        holds::<OctetStringAsn1<Heap<'_>>>(&rt, &heap, &Row::strict(text, 1))?;
-    }
     Ok(())
+}
+
+#[test]
+fn octets_are_read(rt: HostRuntime) -> Result<(), Fail> {
+    let heap = Refusing::new(rt.alloc());
+    strict_rows::<OctetStringAsn1<Heap<'_>>>(&rt, &heap, &["0400", "0403a1b2c3"], &["0300"])
 }
 
 #[test]
 fn bits_are_read(rt: HostRuntime) -> Result<(), Fail> {
     let heap = Refusing::new(rt.alloc());
-    for text in ["03020780", "030100", "030200a1", "030401ffff00"] {
-        holds::<BitStringAsn1<Heap<'_>>>(&rt, &heap, &Row::strict(text, 1))?;
-    }
-    let texts = ["0300", "030101", "03020800", "030201a1", "0403020780"];
-    all_refused::<BitStringAsn1<Heap<'_>>>(&rt, &heap, &texts)?;
+    let strict = ["03020780", "030100", "030200a1", "030401ffff00"];
+    let refused = ["0300", "030101", "03020800", "030201a1", "0403020780"];
+    strict_rows::<BitStringAsn1<Heap<'_>>>(&rt, &heap, &strict, &refused)
+}
+
+#[test]
+fn bits_are_as_stated(rt: HostRuntime) -> Result<(), Fail> {
     let BitStringAsn1(bits) = from_bytes::<BitStringAsn1, Global>(rt.alloc(), &[3, 2, 7, 0x80])?;
-    assert_eq!(rt; bits.get_num_bits(), 1);
-    assert!(rt; bits.is_set(0) && !bits.is_set(1));
+    assert!(rt; bits.get_num_bits() == 1 && bits.is_set(0) && !bits.is_set(1));
     Ok(())
 }
 

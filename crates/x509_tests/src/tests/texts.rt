@@ -1,42 +1,39 @@
 //! Printable, IA5, BMP and UTF-8 strings.
 
-use super::rows::{Heap, Row, all_refused, holds};
+use super::rows::{Heap, strict_rows};
 use refusing::Refusing;
 use std::alloc::Global;
 use std::process::Abort;
 use std::test::Fail;
-use x509_der::{CloneEq, FromDer};
 use x509_prim::{
     BmpString, BmpStringAsn1, Ia5String, Ia5StringAsn1, PrintableString, PrintableStringAsn1,
     Utf8String,
 };
 
-/// Each spelling in hexadecimal is strict, and none of the others is read.
-fn rows_hold<'h, T: FromDer<Heap<'h>> + CloneEq + PartialEq>(
-    rt: &impl Abort,
-    heap: Heap<'h>,
-    strict: &[&str],
-    refused: &[&str],
-) -> Result<(), Fail> {
-    for text in strict {
-        holds::<T>(rt, heap, &Row::strict(*text, 1))?;
-    }
-    all_refused::<T>(rt, heap, refused)
-}
-
-/// The texts are examples of RSA Laboratories' "A Layman's Guide to a Subset of ASN.1, BER, and DER", 5.8 and 5.13.
+/// The texts of these and of IA5 are examples of RSA Laboratories' "A Layman's Guide to a Subset of ASN.1, BER, and DER",
+/// 5.8 and 5.13.
 #[test]
-fn rows_of_restricted_strings(rt: HostRuntime) -> Result<(), Fail> {
+fn rows_of_printable_strings(rt: HostRuntime) -> Result<(), Fail> {
     let heap = Refusing::new(rt.alloc());
     let strict = ["1300", "130b5465737420557365722031"];
     let refused = ["13012a", "130140", "130180", "13024100ff", "0c0141"];
-    rows_hold::<PrintableStringAsn1<Heap<'_>>>(&rt, &heap, &strict, &refused)?;
+    strict_rows::<PrintableStringAsn1<Heap<'_>>>(&rt, &heap, &strict, &refused)
+}
+
+#[test]
+fn rows_of_ia5_strings(rt: HostRuntime) -> Result<(), Fail> {
+    let heap = Refusing::new(rt.alloc());
     let strict = ["1600", "160d7465737431407273612e636f6d", "1602007f"];
     let refused = ["160180", "160241ff", "130141", "36034101ff"];
-    rows_hold::<Ia5StringAsn1<Heap<'_>>>(&rt, &heap, &strict, &refused)?;
+    strict_rows::<Ia5StringAsn1<Heap<'_>>>(&rt, &heap, &strict, &refused)
+}
+
+#[test]
+fn rows_of_bmp_strings(rt: HostRuntime) -> Result<(), Fail> {
+    let heap = Refusing::new(rt.alloc());
     let strict = ["1e00", "1e04d83dde00", "1e02d800", "1e040061ffff"];
     let refused = ["1e0161", "1e03006100", "0c020061"];
-    rows_hold::<BmpStringAsn1<Heap<'_>>>(&rt, &heap, &strict, &refused)
+    strict_rows::<BmpStringAsn1<Heap<'_>>>(&rt, &heap, &strict, &refused)
 }
 
 /// The examples of RFC 3629, 7; and spellings that are too long, are surrogates, or pass U+10FFFF (RFC 3629, 3 and 10).
@@ -62,7 +59,7 @@ fn rows_of_utf8_strings(rt: HostRuntime) -> Result<(), Fail> {
         "0c02e289",
         "130141",
     ];
-    rows_hold::<Utf8String<Heap<'_>>>(&rt, &heap, &strict, &refused)
+    strict_rows::<Utf8String<Heap<'_>>>(&rt, &heap, &strict, &refused)
 }
 
 /// The characters of PrintableString (X.680, 41.4, table 10).

@@ -1,38 +1,56 @@
 //! Times.
 
+use super::clones::OwnClone;
+use super::fields::element;
 use super::rows::{Heap, Row, holds, refuses};
 use refusing::Refusing;
 use std::process::Abort;
 use std::test::Fail;
-use x509_der::{from_bytes, to_vec};
+use x509_der::{FromDer, from_bytes, to_vec};
 use x509_prim::{GeneralizedTime, GeneralizedTimeAsn1, UTCTime, UtcTimeAsn1};
 
 /// Year, month, day, hour, minute, second.
 type Numbers = (u16, u8, u8, u8, u8, u8);
 
-/// The element with a tag around a text of at most 127 bytes.
-fn element<'h>(heap: Heap<'h>, tag: u8, text: &str) -> Result<Vec<u8, Heap<'h>>, Fail> {
-    let size = u8::try_from(text.len())?;
-    let mut bytes = Vec::from_slice(heap, &[tag, size])?;
-    bytes.extend_from_slice(text.as_bytes())?;
-    Ok(bytes)
+/// The text under the tag is the strict spelling of a time, and is read as this one.
+fn is_time<'h, T: FromDer<Heap<'h>> + OwnClone + PartialEq>(
+    rt: &impl Abort,
+    heap: Heap<'h>,
+    tag: u8,
+    text: &str,
+    time: &T,
+) -> Result<(), Fail> {
+    let bytes = element(heap, tag, text.as_bytes())?;
+    let spelling = hex::encode(heap, bytes.as_slice())?;
+    holds::<T>(rt, heap, &Row::strict(&spelling, 1))?;
+    let read = from_bytes::<T, _>(heap, &bytes)?;
+    assert!(rt; read == *time, "{text}");
+    Ok(())
 }
 
-/// The text is the UTCTime of these numbers.
-fn is_utc_time(rt: &impl Abort, heap: Heap<'_>, text: &str, numbers: Numbers) -> Result<(), Fail> {
-    let bytes = element(heap, 0x17, text)?;
-    let spelling = hex::encode(heap, bytes.as_slice())?;
-    holds::<UtcTimeAsn1>(rt, heap, &Row::strict(&spelling, 1))?;
+/// None of the texts under the tag is a time.
+fn refused_times<'h, T: FromDer<Heap<'h>>>(
+    rt: &impl Abort,
+    heap: Heap<'h>,
+    tag: u8,
+    texts: &[&str],
+) -> Result<(), Fail> {
+    for text in texts {
+        let bytes = element(heap, tag, text.as_bytes())?;
+        refuses::<T>(rt, heap, &bytes)?;
+    }
+    Ok(())
+}
+
+/// The UTCTime of these numbers, which hands them out.
+fn utc_time(rt: &impl Abort, numbers: Numbers) -> Result<UtcTimeAsn1, Fail> {
     let (year, month, day, hour, minute, second) = numbers;
     let time = UTCTime::new(year, month, day, hour, minute, second).ok_or("no time")?;
-    let read = from_bytes::<UtcTimeAsn1, _>(heap, &bytes)?;
-    assert_eq!(rt; read, UtcTimeAsn1::from(time), "{text}");
-    let time = UTCTime::from(read);
     let first = (time.year(), time.month(), time.day());
-    assert_eq!(rt; first, (year, month, day), "{text}");
+    assert_eq!(rt; first, (year, month, day));
     let then = (time.hour(), time.minute(), time.second());
-    assert_eq!(rt; then, (hour, minute, second), "{text}");
-    Ok(())
+    assert_eq!(rt; then, (hour, minute, second));
+    Ok(UtcTimeAsn1::from(time))
 }
 
 #[test]
@@ -45,7 +63,7 @@ fn utc_times(rt: HostRuntime) -> Result<(), Fail> {
         ("000229000000Z", (2000, 2, 29, 0, 0, 0)),
         ("991130010203Z", (1999, 11, 30, 1, 2, 3)),
     ] {
-        is_utc_time(&rt, &heap, text, numbers)?;
+        is_time(&rt, &heap, 0x17, text, &utc_time(&rt, numbers)?)?;
     }
     Ok(())
 }
@@ -53,7 +71,7 @@ fn utc_times(rt: HostRuntime) -> Result<(), Fail> {
 #[test]
 fn refused_utc_times(rt: HostRuntime) -> Result<(), Fail> {
     let heap = Refusing::new(rt.alloc());
-    for text in [
+    let texts = [
         "190229000000Z",
         "191017174160Z",
         "191017240000Z",
@@ -72,34 +90,20 @@ fn refused_utc_times(rt: HostRuntime) -> Result<(), Fail> {
         "1910171741 9Z",
         "20191017174159Z",
         "",
-    ] {
-        let bytes = element(&heap, 0x17, text)?;
-        refuses::<UtcTimeAsn1>(&rt, &heap, &bytes)?;
-    }
-    let bytes = element(&heap, 0x18, "500101000000Z")?;
-    refuses::<UtcTimeAsn1>(&rt, &heap, &bytes)
+    ];
+    refused_times::<UtcTimeAsn1>(&rt, &heap, 0x17, &texts)?;
+    refused_times::<UtcTimeAsn1>(&rt, &heap, 0x18, &["500101000000Z"])
 }
 
-/// The text is the GeneralizedTime of these numbers.
-fn is_generalized_time(
-    rt: &impl Abort,
-    heap: Heap<'_>,
-    text: &str,
-    numbers: Numbers,
-) -> Result<(), Fail> {
-    let bytes = element(heap, 0x18, text)?;
-    let spelling = hex::encode(heap, bytes.as_slice())?;
-    holds::<GeneralizedTimeAsn1>(rt, heap, &Row::strict(&spelling, 1))?;
+/// The GeneralizedTime of these numbers, which hands them out.
+fn generalized_time(rt: &impl Abort, numbers: Numbers) -> Result<GeneralizedTimeAsn1, Fail> {
     let (year, month, day, hour, minute, second) = numbers;
     let time = GeneralizedTime::new(year, month, day, hour, minute, second).ok_or("no time")?;
-    let read = from_bytes::<GeneralizedTimeAsn1, _>(heap, &bytes)?;
-    assert_eq!(rt; read, GeneralizedTimeAsn1::from(time), "{text}");
-    let time = GeneralizedTime::from(read);
     let first = (time.year(), time.month(), time.day());
-    assert_eq!(rt; first, (year, month, day), "{text}");
+    assert_eq!(rt; first, (year, month, day));
     let then = (time.hour(), time.minute(), time.second());
-    assert_eq!(rt; then, (hour, minute, second), "{text}");
-    Ok(())
+    assert_eq!(rt; then, (hour, minute, second));
+    Ok(GeneralizedTimeAsn1::from(time))
 }
 
 #[test]
@@ -112,7 +116,7 @@ fn generalized_times(rt: HostRuntime) -> Result<(), Fail> {
         ("19000228235959Z", (1900, 2, 28, 23, 59, 59)),
         ("99991231235959Z", (9999, 12, 31, 23, 59, 59)),
     ] {
-        is_generalized_time(&rt, &heap, text, numbers)?;
+        is_time(&rt, &heap, 0x18, text, &generalized_time(&rt, numbers)?)?;
     }
     Ok(())
 }
@@ -120,7 +124,7 @@ fn generalized_times(rt: HostRuntime) -> Result<(), Fail> {
 #[test]
 fn refused_generalized_times(rt: HostRuntime) -> Result<(), Fail> {
     let heap = Refusing::new(rt.alloc());
-    for text in [
+    let texts = [
         "19000229000000Z",
         "20190229000000Z",
         "20191017174160Z",
@@ -135,12 +139,9 @@ fn refused_generalized_times(rt: HostRuntime) -> Result<(), Fail> {
         "+0191017174159Z",
         "500101000000Z",
         "",
-    ] {
-        let bytes = element(&heap, 0x18, text)?;
-        refuses::<GeneralizedTimeAsn1>(&rt, &heap, &bytes)?;
-    }
-    let bytes = element(&heap, 0x17, "20191017174159Z")?;
-    refuses::<GeneralizedTimeAsn1>(&rt, &heap, &bytes)
+    ];
+    refused_times::<GeneralizedTimeAsn1>(&rt, &heap, 0x18, &texts)?;
+    refused_times::<GeneralizedTimeAsn1>(&rt, &heap, 0x17, &["20191017174159Z"])
 }
 
 #[test]
@@ -200,10 +201,10 @@ fn generalized_times_are_made_of_lawful_numbers(rt: HostRuntime) -> Result<(), F
 fn written_bytes(rt: HostRuntime) -> Result<(), Fail> {
     let heap = Refusing::new(rt.alloc());
     let short = UTCTime::new(2019, 10, 17, 17, 41, 28).ok_or("no time")?;
-    let stated = element(&heap, 0x17, "191017174128Z")?;
+    let stated = element(&heap, 0x17, b"191017174128Z")?;
     assert_eq!(rt; to_vec(&heap, &UtcTimeAsn1(short))?, stated);
     let long = GeneralizedTime::new(2019, 10, 17, 17, 41, 28).ok_or("no time")?;
-    let stated = element(&heap, 0x18, "20191017174128Z")?;
+    let stated = element(&heap, 0x18, b"20191017174128Z")?;
     assert_eq!(rt; to_vec(&heap, &GeneralizedTimeAsn1(long))?, stated);
     Ok(())
 }

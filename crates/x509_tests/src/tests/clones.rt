@@ -1,0 +1,183 @@
+//! The clones that types have of their own, beside that of `CloneEq`, so that every row calls both.
+
+use super::rows::Heap;
+use refusing::{Refusing, Turn};
+use std::alloc::{AllocError, Allocator};
+use std::test::Fail;
+use x509_der::{
+    Asn1RawDer, Asn1SequenceOf, Asn1SetOf, BitString, BitStringAsn1, BitStringAsn1Container,
+    CloneEq, IntegerAsn1, ObjectIdentifier, ObjectIdentifierAsn1, OctetStringAsn1,
+    OctetStringAsn1Container,
+};
+use x509_keys::RawAlgorithmIdentifier;
+use x509_prim::{
+    CharSet, GeneralizedTimeAsn1, PrintableString, RestrictedString, RestrictedStringAsn1,
+    UtcTimeAsn1, Utf8String,
+};
+
+/// A type that is cloned by a call of its own.
+pub trait OwnClone: CloneEq {
+    /// What that call answers. A value that is copied is its own clone.
+    fn own_clone(&self) -> Result<Self, AllocError>;
+}
+
+impl OwnClone for () {
+    fn own_clone(&self) -> Result<Self, AllocError> {
+        Ok(*self)
+    }
+}
+
+impl OwnClone for bool {
+    fn own_clone(&self) -> Result<Self, AllocError> {
+        Ok(*self)
+    }
+}
+
+impl OwnClone for u8 {
+    fn own_clone(&self) -> Result<Self, AllocError> {
+        Ok(*self)
+    }
+}
+
+impl<A: Allocator + Copy> OwnClone for IntegerAsn1<A> {
+    fn own_clone(&self) -> Result<Self, AllocError> {
+        self.clone()
+    }
+}
+
+impl<A: Allocator + Copy> OwnClone for OctetStringAsn1<A> {
+    fn own_clone(&self) -> Result<Self, AllocError> {
+        self.clone()
+    }
+}
+
+impl<A: Allocator + Copy> OwnClone for BitString<A> {
+    fn own_clone(&self) -> Result<Self, AllocError> {
+        self.clone()
+    }
+}
+
+impl<A: Allocator + Copy> OwnClone for BitStringAsn1<A> {
+    fn own_clone(&self) -> Result<Self, AllocError> {
+        self.clone()
+    }
+}
+
+impl<A: Allocator + Copy> OwnClone for Asn1RawDer<A> {
+    fn own_clone(&self) -> Result<Self, AllocError> {
+        self.clone()
+    }
+}
+
+impl<A: Allocator + Copy> OwnClone for ObjectIdentifier<A> {
+    fn own_clone(&self) -> Result<Self, AllocError> {
+        self.clone()
+    }
+}
+
+impl<A: Allocator + Copy> OwnClone for ObjectIdentifierAsn1<A> {
+    fn own_clone(&self) -> Result<Self, AllocError> {
+        self.clone()
+    }
+}
+
+impl<A: Allocator + Copy> OwnClone for RawAlgorithmIdentifier<A> {
+    fn own_clone(&self) -> Result<Self, AllocError> {
+        self.clone()
+    }
+}
+
+impl<A: Allocator + Copy> OwnClone for Utf8String<A> {
+    fn own_clone(&self) -> Result<Self, AllocError> {
+        self.clone()
+    }
+}
+
+impl<C: CharSet, A: Allocator + Copy> OwnClone for RestrictedString<C, A> {
+    fn own_clone(&self) -> Result<Self, AllocError> {
+        self.clone()
+    }
+}
+
+impl<C: CharSet, A: Allocator + Copy> OwnClone for RestrictedStringAsn1<C, A> {
+    fn own_clone(&self) -> Result<Self, AllocError> {
+        self.clone()
+    }
+}
+
+impl OwnClone for UtcTimeAsn1 {
+    fn own_clone(&self) -> Result<Self, AllocError> {
+        self.clone()
+    }
+}
+
+impl OwnClone for GeneralizedTimeAsn1 {
+    fn own_clone(&self) -> Result<Self, AllocError> {
+        self.clone()
+    }
+}
+
+impl<T: CloneEq, A: Allocator + Copy> OwnClone for Asn1SequenceOf<T, A> {
+    fn own_clone(&self) -> Result<Self, AllocError> {
+        self.clone()
+    }
+}
+
+impl<T: CloneEq, A: Allocator + Copy> OwnClone for Asn1SetOf<T, A> {
+    fn own_clone(&self) -> Result<Self, AllocError> {
+        self.clone()
+    }
+}
+
+impl<T: CloneEq> OwnClone for OctetStringAsn1Container<T> {
+    fn own_clone(&self) -> Result<Self, AllocError> {
+        self.clone()
+    }
+}
+
+impl<T: CloneEq> OwnClone for BitStringAsn1Container<T> {
+    fn own_clone(&self) -> Result<Self, AllocError> {
+        self.clone()
+    }
+}
+
+/// How many requests a clone makes, by the type's own call, where it is equal, and want of memory where one is refused. The
+/// other value is as the first was before.
+pub(super) fn clones_in_turn<'v, T: OwnClone + PartialEq>(
+    heap: Heap<'_>,
+    value: &'v T,
+    before: &'v T,
+) -> Option<u64> {
+    heap.in_turn(|| match value.own_clone() {
+        Ok(copy) => Turn::right(copy == *before),
+        Err(AllocError) => Turn::stands(*value == *before),
+    })
+}
+
+#[test]
+fn identifiers_are_cloned(rt: HostRuntime) -> Result<(), Fail> {
+    let heap = Refusing::new(rt.alloc());
+    let arcs = [2, 5, 4, 3];
+    let value = ObjectIdentifier::from_arcs(&heap, &arcs)?;
+    let before = ObjectIdentifier::from_arcs(&heap, &arcs)?;
+    assert_eq!(rt; clones_in_turn(&heap, &value, &before), Some(1));
+    Ok(())
+}
+
+#[test]
+fn bits_are_cloned(rt: HostRuntime) -> Result<(), Fail> {
+    let heap = Refusing::new(rt.alloc());
+    let value = BitString::with_bytes(Vec::from_slice(&heap, b"\xA5")?);
+    let before = BitString::with_bytes(Vec::from_slice(&heap, b"\xA5")?);
+    assert_eq!(rt; clones_in_turn(&heap, &value, &before), Some(1));
+    Ok(())
+}
+
+#[test]
+fn characters_are_cloned(rt: HostRuntime) -> Result<(), Fail> {
+    let heap = Refusing::new(rt.alloc());
+    let value = PrintableString::from_bytes(Vec::from_slice(&heap, b"a")?)?;
+    let before = PrintableString::from_bytes(Vec::from_slice(&heap, b"a")?)?;
+    assert_eq!(rt; clones_in_turn(&heap, &value, &before), Some(1));
+    Ok(())
+}
