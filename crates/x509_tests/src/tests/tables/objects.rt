@@ -125,7 +125,7 @@ fn lines_6<A: Allocator + Copy>(alloc: A, checked: &mut Checked) {
 }
 
 /// Each line in turn.
-pub fn lines<A: Allocator + Copy>(alloc: A, checked: &mut Checked) {
+pub(super) fn lines<A: Allocator + Copy>(alloc: A, checked: &mut Checked) {
     lines_1(alloc, checked);
     lines_2(alloc, checked);
     lines_3(alloc, checked);
