@@ -5,7 +5,7 @@ ghost use Rattle.x509_tool.specs.Stops.{status_of_stop, line_of_stop};
 
 use crate::fault::ToolFault;
 use crate::run_text::run_text;
-use std::alloc::{AllocError, Global};
+use std::alloc::{AllocError, Allocator};
 use std::env;
 use std::io::{self, ErrorKind, Read, Write};
 
@@ -102,7 +102,10 @@ fn type_name(rt: &HostRuntime) -> Result<String, Stop> {
 }
 
 /// All of a reader's bytes, in at most `MOST_READS` reads.
-fn read_input<R: Read + Drop>(alloc: Global, mut reader: R) -> Result<Vec<u8>, Stop> {
+pub(crate) fn read_input<A: Allocator, R: Read + Drop>(
+    alloc: A,
+    mut reader: R,
+) -> Result<Vec<u8, A>, Stop> {
     let mut input = Vec::new(alloc);
     let mut buffer = [0u8; READ_SIZE];
     for _ in 0..MOST_READS {

@@ -1,10 +1,11 @@
 //! Worked inputs of the program, and the faults of its work.
 
-use crate::console::Stop;
+use crate::console::{Stop, read_input};
 use crate::fault::ToolFault;
 use crate::run_text::run_text;
 use refusing::{Refusing, Turn};
-use std::alloc::Global;
+use std::alloc::{AllocError, Allocator, Global};
+use std::io::{self, ErrorKind};
 use std::process::Abort;
 use std::test::Fail;
 
@@ -82,6 +83,18 @@ fn statuses_and_lines(rt: HostRuntime) -> Result<(), Fail> {
         (Stop::Fault(ToolFault::OutOfMemory), 3, "out of memory"),
         (Stop::Fault(ToolFault::TooLong), 4, "too long"),
         (Stop::Console, 5, "input or output failed"),
+        (Stop::from(ToolFault::OutOfMemory), 3, "out of memory"),
+        (Stop::from(AllocError), 3, "out of memory"),
+        (
+            Stop::from(io::Error::from(ErrorKind::OutOfMemory)),
+            3,
+            "out of memory",
+        ),
+        (
+            Stop::from(io::Error::from(ErrorKind::BrokenPipe)),
+            5,
+            "input or output failed",
+        ),
     ] {
         assert_eq!(rt; stop.status(), status);
         assert_eq!(rt; stop.line(), line);
@@ -89,4 +102,24 @@ fn statuses_and_lines(rt: HostRuntime) -> Result<(), Fail> {
     let shown = ToolFault::Usage.to_string(rt.alloc())?;
     assert_eq!(rt; shown.as_str(), ToolFault::Usage.line());
     Ok(())
+}
+
+/// What a run showed that should read these bytes.
+fn input_turn<A: Allocator>(answer: Result<Vec<u8, A>, Stop>, bytes: &[u8]) -> Turn {
+    match answer {
+        Ok(input) => Turn::right(input.as_slice() == bytes),
+        Err(Stop::Fault(ToolFault::OutOfMemory)) => Turn::Refused,
+        Err(_other) => Turn::Wrong,
+    }
+}
+
+/// An input of more than one read, also where memory is refused first; no bytes take no memory.
+#[test]
+fn inputs_are_read(rt: HostRuntime) {
+    let heap = Refusing::new(rt.alloc());
+    let bytes = [0xA5u8; 10000];
+    let requests = heap.in_turn(|| input_turn(read_input(&heap, bytes.as_slice()), &bytes));
+    assert!(rt; requests > Some(0));
+    let requests = heap.in_turn(|| input_turn(read_input(&heap, b"".as_slice()), b""));
+    assert!(rt; requests == Some(0));
 }
