@@ -1,9 +1,9 @@
 //! The clones that types have of their own, beside that of `CloneEq`, so that every row calls both.
 
-use super::rows::Heap;
-use refusing::{Refusing, Turn};
+use super::rows::{Heap, copy_turn};
+use refusing::Refusing;
 use std::alloc::{AllocError, Allocator};
-use std::test::Fail;
+use std::process::Abort;
 use x509_der::{
     Asn1RawDer, Asn1SequenceOf, Asn1SetOf, BitString, BitStringAsn1, BitStringAsn1Container,
     CloneEq, IntegerAsn1, ObjectIdentifier, ObjectIdentifierAsn1, OctetStringAsn1,
@@ -148,36 +148,44 @@ pub(super) fn clones_in_turn<'v, T: OwnClone + PartialEq>(
     value: &'v T,
     before: &'v T,
 ) -> Option<u64> {
-    heap.in_turn(|| match value.own_clone() {
-        Ok(copy) => Turn::right(copy == *before),
-        Err(AllocError) => Turn::stands(*value == *before),
-    })
+    heap.in_turn(|| copy_turn(value.own_clone(), value, before))
+}
+
+/// A clone of the one makes one request and is equal to the other.
+fn is_cloned<T: OwnClone + PartialEq>(rt: &impl Abort, heap: Heap<'_>, value: T, before: T) {
+    assert!(rt; clones_in_turn(heap, &value, &before) == Some(1));
 }
 
 #[test]
-fn identifiers_are_cloned(rt: HostRuntime) -> Result<(), Fail> {
+fn identifiers_are_cloned(rt: HostRuntime) {
     let heap = Refusing::new(rt.alloc());
-    let arcs = [2, 5, 4, 3];
-    let value = ObjectIdentifier::from_arcs(&heap, &arcs)?;
-    let before = ObjectIdentifier::from_arcs(&heap, &arcs)?;
-    assert_eq!(rt; clones_in_turn(&heap, &value, &before), Some(1));
-    Ok(())
+    let value = ObjectIdentifier::from_arcs(&heap, &[2, 5, 4, 3]).expect(&rt, "lawful arcs");
+    let before = ObjectIdentifier::from_arcs(&heap, &[2, 5, 4, 3]).expect(&rt, "lawful arcs");
+    is_cloned(&rt, &heap, value, before);
 }
 
 #[test]
-fn bits_are_cloned(rt: HostRuntime) -> Result<(), Fail> {
+fn bits_are_cloned(rt: HostRuntime) {
     let heap = Refusing::new(rt.alloc());
-    let value = BitString::with_bytes(Vec::from_slice(&heap, b"\xA5")?);
-    let before = BitString::with_bytes(Vec::from_slice(&heap, b"\xA5")?);
-    assert_eq!(rt; clones_in_turn(&heap, &value, &before), Some(1));
-    Ok(())
+    let value = Vec::from_slice(&heap, b"\xA5").expect(&rt, "memory");
+    let before = Vec::from_slice(&heap, b"\xA5").expect(&rt, "memory");
+    let value = BitString::with_bytes(value);
+    is_cloned(&rt, &heap, value, BitString::with_bytes(before));
+}
+
+/// A string of one character.
+fn one_character<'h>(rt: &impl Abort, heap: Heap<'h>) -> PrintableString<Heap<'h>> {
+    let bytes = Vec::from_slice(heap, b"a").expect(rt, "memory");
+    PrintableString::from_bytes(bytes).expect(rt, "printable")
 }
 
 #[test]
-fn characters_are_cloned(rt: HostRuntime) -> Result<(), Fail> {
+fn characters_are_cloned(rt: HostRuntime) {
     let heap = Refusing::new(rt.alloc());
-    let value = PrintableString::from_bytes(Vec::from_slice(&heap, b"a")?)?;
-    let before = PrintableString::from_bytes(Vec::from_slice(&heap, b"a")?)?;
-    assert_eq!(rt; clones_in_turn(&heap, &value, &before), Some(1));
-    Ok(())
+    is_cloned(
+        &rt,
+        &heap,
+        one_character(&rt, &heap),
+        one_character(&rt, &heap),
+    );
 }

@@ -1,7 +1,7 @@
 //! Other elements in the places of fields.
 
 use super::rows::Heap;
-use std::test::Fail;
+use std::process::Abort;
 
 /// A part of an input that has a tag of its own: where the elements around it start, from the outermost in, where it
 /// starts, and the universal tags that may stand there.
@@ -14,7 +14,7 @@ pub struct Field<'a> {
 
 /// The universal tags whose numbers fit in one byte (X.680, 8.4), each with a content of its type; SEQUENCE, SET and the
 /// types that are encoded like a SEQUENCE are empty.
-pub const SAMPLES: [(u8, &[u8]); 29] = [
+pub const SAMPLES: &[(u8, &[u8])] = &[
     (0x01, b"\xFF"),
     (0x02, b"\x05"),
     (0x03, b"\x07\x80"),
@@ -66,40 +66,59 @@ fn content_of(input: &[u8], start: usize) -> Option<(usize, usize)> {
 
 /// The element with a tag around a content of at most 65535 bytes, by hand: stated bytes never come from the library.
 pub(super) fn element<'h>(
+    rt: &impl Abort,
     heap: Heap<'h>,
     tag: u8,
     content: &[u8],
-) -> Result<Vec<u8, Heap<'h>>, Fail> {
-    let [high, low] = u16::try_from(content.len())?.to_be_bytes();
-    let mut whole = match (high, low) {
-        (0, 0..=127) => Vec::from_slice(heap, &[tag, low])?,
-        (0, _) => Vec::from_slice(heap, &[tag, 0x81, low])?,
-        _ => Vec::from_slice(heap, &[tag, 0x82, high, low])?,
+) -> Vec<u8, Heap<'h>> {
+    let len = u16::try_from(content.len()).expect(rt, "a short content");
+    let whole = match len.to_be_bytes() {
+        [0, low @ 0..=127] => Vec::from_slice(heap, &[tag, low]),
+        [0, low] => Vec::from_slice(heap, &[tag, 0x81, low]),
+        [high, low] => Vec::from_slice(heap, &[tag, 0x82, high, low]),
     };
-    whole.extend_from_slice(content)?;
-    Ok(whole)
+    let mut whole = whole.expect(rt, "memory");
+    whole.extend_from_slice(content).expect(rt, "memory");
+    whole
+}
+
+/// The element at `outer` with another one in the place of what begins and ends within it.
+fn around<'h>(
+    rt: &impl Abort,
+    heap: Heap<'h>,
+    input: &[u8],
+    outer: usize,
+    place: (usize, usize),
+    inner: &[u8],
+) -> Vec<u8, Heap<'h>> {
+    let tag = *input.get(outer).expect(rt, "a tag");
+    let (from, to) = content_of(input, outer).expect(rt, "an element around it");
+    let before = input.get(from..place.0).expect(rt, "a field within");
+    let behind = input.get(place.1..to).expect(rt, "a field within");
+    let mut content = Vec::from_slice(heap, before).expect(rt, "memory");
+    content.extend_from_slice(inner).expect(rt, "memory");
+    content.extend_from_slice(behind).expect(rt, "memory");
+    element(rt, heap, tag, &content)
 }
 
 /// The input with another element in the place of the field, and the lengths around it as they then are.
 pub(super) fn replaced<'h>(
+    rt: &impl Abort,
     heap: Heap<'h>,
     input: &[u8],
     field: &Field<'_>,
     tag: u8,
     content: &[u8],
-) -> Result<Vec<u8, Heap<'h>>, Fail> {
-    let mut inner = element(heap, tag, content)?;
+) -> Vec<u8, Heap<'h>> {
+    let (_from, mut end) = content_of(input, field.start).expect(rt, "an element");
     let mut start = field.start;
-    let (_from, mut end) = content_of(input, start).ok_or("no element there")?;
+    let mut inner = element(rt, heap, tag, content);
     for outer in field.around.iter().rev() {
-        let (from, to) = content_of(input, *outer).ok_or("no element around it")?;
-        let mut content = Vec::from_slice(heap, input.get(from..start).ok_or("not within")?)?;
-        content.extend_from_slice(&inner)?;
-        content.extend_from_slice(input.get(end..to).ok_or("not within")?)?;
-        let outer_tag = input.get(*outer).ok_or("no element around it")?;
-        inner = element(heap, *outer_tag, &content)?;
+        inner = around(rt, heap, input, *outer, (start, end), &inner);
         start = *outer;
-        end = to;
+        end = content_of(input, start)
+            .expect(rt, "an element around it")
+            .1;
     }
-    Ok(inner)
+    inner
 }

@@ -6,10 +6,9 @@ use super::fields::{Field, SAMPLES, replaced};
 use refusing::{Refusing, Turn};
 use std::alloc::{AllocError, Global};
 use std::process::Abort;
-use std::test::Fail;
 use x509_der::{
-    CloneEq, Deviation, Deviations, FromDer, Place, ReadError, ToDer, WriteError, encoded_len,
-    from_bytes, read_counted, read_located, read_metered, to_vec, write_to_slice,
+    CloneEq, Deviation, Deviations, FromDer, Place, ReadError, SliceError, ToDer, WriteError,
+    encoded_len, from_bytes, read_counted, read_located, read_metered, to_vec, write_to_slice,
 };
 
 /// The allocator of every row: it refuses what it is told to.
@@ -39,65 +38,67 @@ impl<'a> Row<'a> {
     }
 }
 
-/// The row is read and written as it says, also where memory is refused, no front of it is read, and its neighbours are
-/// treated as the laws say.
-pub(super) fn holds<'h, T: FromDer<Heap<'h>> + OwnClone + PartialEq>(
-    rt: &impl Abort,
-    heap: Heap<'h>,
-    row: &Row<'_>,
-) -> Result<(), Fail> {
-    let input = hex::decode(heap, row.input)?;
-    let strict = hex::decode(heap, row.strict)?;
-    reads::<T>(rt, heap, &input, row)?;
-    reads_in_turn::<T>(rt, heap, &input, &strict)?;
-    writes::<T>(rt, heap, &input, &strict)?;
-    copies::<T>(rt, heap, &input)?;
-    for length in 0..input.len() {
-        refuses::<T>(rt, heap, &input[..length])?;
-    }
-    neighbours::<T>(rt, heap, &input)?;
-    for field in row.fields {
-        others::<T>(rt, heap, &input, field)?;
-    }
-    Ok(())
+/// What is stated of a type, in hexadecimal: strict spellings with their headers, other rows, and what isn't read.
+#[derive(Clone, Copy)]
+pub struct Table<'a> {
+    pub strict: &'a [(&'a str, usize)],
+    pub rows: &'a [Row<'a>],
+    pub refused: &'a [&'a str],
 }
 
-/// Each of the rows holds.
+/// The row is read and written as it says, also where memory is refused, no front of it is read, and its neighbours are
+/// treated as the laws say.
+fn is_coded<'h, T: FromDer<Heap<'h>>>(rt: &impl Abort, heap: Heap<'h>, row: &Row<'_>) {
+    let input = hex::decode(heap, row.input).expect(rt, "hexadecimal");
+    let strict = hex::decode(heap, row.strict).expect(rt, "hexadecimal");
+    reads::<T>(rt, heap, &input, row);
+    reads_in_turn::<T>(rt, heap, &input, &strict);
+    writes::<T>(rt, heap, &input, &strict);
+    for length in 0..input.len() {
+        refuses::<T>(rt, heap, &input[..length]);
+    }
+    neighbours::<T>(rt, heap, &input);
+    for field in row.fields {
+        others::<T>(rt, heap, &input, field);
+    }
+}
+
+/// Each row of the table is read and written as it says, and what is refused isn't read.
+pub(super) fn all_coded<'h, T: FromDer<Heap<'h>>>(
+    rt: &impl Abort,
+    heap: Heap<'h>,
+    table: &Table<'_>,
+) {
+    for (input, headers) in table.strict {
+        is_coded::<T>(rt, heap, &Row::strict(*input, *headers));
+    }
+    for row in table.rows {
+        is_coded::<T>(rt, heap, row);
+    }
+    all_refused::<T>(rt, heap, table.refused);
+}
+
+/// The same, and the value of each row is cloned.
 pub(super) fn all_hold<'h, T: FromDer<Heap<'h>> + OwnClone + PartialEq>(
     rt: &impl Abort,
     heap: Heap<'h>,
-    rows: &[Row<'_>],
-) -> Result<(), Fail> {
-    for row in rows {
-        holds::<T>(rt, heap, row)?;
+    table: &Table<'_>,
+) {
+    all_coded::<T>(rt, heap, table);
+    for (input, _headers) in table.strict {
+        copies::<T>(rt, heap, *input);
     }
-    Ok(())
-}
-
-/// Each spelling in hexadecimal, which has one header, is strict, and none of the others is read.
-pub(super) fn strict_rows<'h, T: FromDer<Heap<'h>> + OwnClone + PartialEq>(
-    rt: &impl Abort,
-    heap: Heap<'h>,
-    strict: &[&str],
-    refused: &[&str],
-) -> Result<(), Fail> {
-    for text in strict {
-        holds::<T>(rt, heap, &Row::strict(*text, 1))?;
+    for row in table.rows {
+        copies::<T>(rt, heap, row.input);
     }
-    all_refused::<T>(rt, heap, refused)
 }
 
 /// Every call that reads answers the row's counts, headers and places.
-fn reads<'h, T: FromDer<Heap<'h>>>(
-    rt: &impl Abort,
-    heap: Heap<'h>,
-    input: &[u8],
-    row: &Row<'_>,
-) -> Result<(), Fail> {
-    let (_value, deviations) = read_counted::<T, _>(heap, input)?;
+fn reads<'h, T: FromDer<Heap<'h>>>(rt: &impl Abort, heap: Heap<'h>, input: &[u8], row: &Row<'_>) {
+    let (_value, deviations) = read_counted::<T, _>(heap, input).expect(rt, row.input);
     counts(rt, deviations, row);
-    meters::<T>(rt, heap, input, row, deviations)?;
-    locates::<T>(rt, heap, input, row)
+    meters::<T>(rt, heap, input, row, deviations);
+    locates::<T>(rt, heap, input, row);
 }
 
 /// The counts are those of the row's places.
@@ -105,10 +106,21 @@ fn counts(rt: &impl Abort, deviations: Deviations, row: &Row<'_>) {
     let total = row.places.len();
     assert_eq!(rt; deviations.total(), total, "deviations in {}", row.input);
     assert_eq!(rt; deviations.is_none(), total == 0);
-    for (kind, _start, _end) in row.places {
-        let alike = row.places.iter().filter(|place| place.0 == *kind).count();
-        assert_eq!(rt; deviations.count(*kind), alike, "{kind:?} in {}", row.input);
+    for place in row.places {
+        let counted = deviations.count(place.0);
+        assert_eq!(rt; counted, alike(row, place.0), "in {}", row.input);
     }
+}
+
+/// How many of the row's places are of the kind.
+fn alike(row: &Row<'_>, kind: Deviation) -> usize {
+    let mut alike = 0usize;
+    for place in row.places {
+        if place.0 == kind {
+            alike = alike.saturating_add(1);
+        }
+    }
+    alike
 }
 
 /// The headers are the row's, and the counts are these.
@@ -118,32 +130,69 @@ fn meters<'h, T: FromDer<Heap<'h>>>(
     input: &[u8],
     row: &Row<'_>,
     deviations: Deviations,
-) -> Result<(), Fail> {
+) {
     let (metered, headers) = read_metered::<T, _>(heap, input);
-    let (_value, again) = metered?;
-    assert_eq!(rt; again, deviations);
-    assert_eq!(rt; headers, row.headers, "headers of {}", row.input);
-    Ok(())
+    let (_value, again) = metered.expect(rt, row.input);
+    assert!(rt; again == deviations);
+    assert!(rt;
+        headers == row.headers,
+        "{headers} headers of {}",
+        row.input
+    );
 }
 
 /// The places are the row's.
-fn locates<'h, T: FromDer<Heap<'h>>>(
-    rt: &impl Abort,
-    heap: Heap<'h>,
-    input: &[u8],
-    row: &Row<'_>,
-) -> Result<(), Fail> {
-    let (_value, places) = read_located::<T, _>(heap, input)?;
+fn locates<'h, T: FromDer<Heap<'h>>>(rt: &impl Abort, heap: Heap<'h>, input: &[u8], row: &Row<'_>) {
+    let (_value, places) = read_located::<T, _>(heap, input).expect(rt, row.input);
     places_are(rt, places.as_slice(), row);
-    Ok(())
 }
 
 /// These are the row's places.
 fn places_are(rt: &impl Abort, places: &[Place], row: &Row<'_>) {
-    assert_eq!(rt; places.len(), row.places.len());
-    for (place, stated) in places.iter().zip(row.places.iter()) {
+    assert!(rt; places.len() == row.places.len(), "places in {}", row.input);
+    for at in 0..row.places.len() {
+        let place = places[at];
         let place = (place.kind, place.start, place.end);
-        assert_eq!(rt; place, *stated, "in {}", row.input);
+        assert!(rt; place == row.places[at], "{place:?} in {}", row.input);
+    }
+}
+
+/// A call that reads.
+#[derive(Clone, Copy)]
+pub enum Reading {
+    Alone,
+    Counted,
+    Metered,
+    Located,
+}
+
+/// All of them.
+pub const READINGS: &[Reading] = &[
+    Reading::Alone,
+    Reading::Counted,
+    Reading::Metered,
+    Reading::Located,
+];
+
+/// The value that the call reads, without what it answers beside it.
+pub(super) fn read_by<'h, T: FromDer<Heap<'h>>>(
+    reading: Reading,
+    heap: Heap<'h>,
+    input: &[u8],
+) -> Result<T, ReadError> {
+    match reading {
+        Reading::Alone => from_bytes::<T, _>(heap, input),
+        Reading::Counted => first(read_counted::<T, _>(heap, input)),
+        Reading::Metered => first(read_metered::<T, _>(heap, input).0),
+        Reading::Located => first(read_located::<T, _>(heap, input)),
+    }
+}
+
+/// The first of two values that are answered.
+fn first<T: Drop, R: Drop>(answer: Result<(T, R), ReadError>) -> Result<T, ReadError> {
+    match answer {
+        Ok((value, _beside)) => Ok(value),
+        Err(error) => Err(error),
     }
 }
 
@@ -154,47 +203,49 @@ fn read_turn<T: ToDer + Drop>(
     room: &mut [u8],
 ) -> Turn {
     match answer {
-        Ok(value) => Turn::right(
-            write_to_slice(&value, room) == Ok(strict.len()) && &*room == strict,
-        ),
+        Ok(value) => {
+            let is_written = write_to_slice(&value, room) == Ok(strict.len());
+            Turn::right(is_written && &*room == strict)
+        }
         Err(ReadError::OutOfMemory) => Turn::Refused,
         Err(_other) => Turn::Wrong,
     }
 }
 
-/// What a read showed that answers something beside the value.
-fn pair_turn<T: ToDer + Drop, R: Drop>(
-    answer: Result<(T, R), ReadError>,
+/// How many requests the call makes where it reads the value of this strict spelling, and want of memory where one is
+/// refused.
+fn requests_of<'h, T: FromDer<Heap<'h>>>(
+    reading: Reading,
+    heap: Heap<'h>,
+    input: &[u8],
     strict: &[u8],
     room: &mut [u8],
-) -> Turn {
-    match answer {
-        Ok((value, _beside)) => read_turn(Ok(value), strict, room),
-        Err(error) => read_turn::<T>(Err(error), strict, room),
-    }
+) -> Option<u64> {
+    heap.in_turn(|| read_turn(read_by::<T>(reading, heap, input), strict, room))
 }
 
-/// Each call that reads answers want of memory where a request of its own is refused, and the value where none is.
+/// Each call that reads answers want of memory where a request of its own is refused, and the value where none is. Places
+/// alone take memory beside the value's.
 pub(super) fn reads_in_turn<'h, T: FromDer<Heap<'h>>>(
     rt: &impl Abort,
     heap: Heap<'h>,
     input: &[u8],
     strict: &[u8],
-) -> Result<(), Fail> {
-    let mut room = Vec::from_elem(heap, 0u8, strict.len())?;
+) {
+    let mut room = Vec::from_elem(heap, 0u8, strict.len()).expect(rt, "memory");
     let room = room.as_mut_slice();
-    let alone = heap.in_turn(|| read_turn(from_bytes::<T, _>(heap, input), strict, room));
-    assert!(rt; alone.is_some(), "{input:?}");
-    let counted = heap.in_turn(|| pair_turn(read_counted::<T, _>(heap, input), strict, room));
-    assert_eq!(rt; counted, alone);
-    let metered = heap.in_turn(|| {
-        let (answer, _headers) = read_metered::<T, _>(heap, input);
-        pair_turn(answer, strict, room)
-    });
-    assert_eq!(rt; metered, alone);
-    let located = heap.in_turn(|| pair_turn(read_located::<T, _>(heap, input), strict, room));
-    assert!(rt; located >= alone);
-    Ok(())
+    let alone = requests_of::<T>(Reading::Alone, heap, input, strict, room);
+    let counted = requests_of::<T>(Reading::Counted, heap, input, strict, room);
+    let metered = requests_of::<T>(Reading::Metered, heap, input, strict, room);
+    let located = requests_of::<T>(Reading::Located, heap, input, strict, room);
+    assert!(rt;
+        alone.is_some() && counted == alone && metered == alone,
+        "{input:?}"
+    );
+    assert!(rt;
+        located >= alone && (located == alone) == (input == strict),
+        "{input:?}"
+    );
 }
 
 /// How many requests `to_vec` makes where it gives these bytes, and want of memory where one is refused.
@@ -213,19 +264,41 @@ pub(super) fn writes<'h, T: FromDer<Heap<'h>>>(
     heap: Heap<'h>,
     input: &[u8],
     strict: &[u8],
-) -> Result<(), Fail> {
-    let value = from_bytes::<T, _>(heap, input)?;
-    assert_eq!(rt; writes_in_turn(heap, &value, strict), Some(1), "{strict:?}");
-    let mut room = Vec::from_elem(heap, 0xEEu8, strict.len() + 6)?;
+) {
+    let value = from_bytes::<T, _>(heap, input).expect(rt, "a value");
+    let mut room = Vec::from_elem(heap, 0xEEu8, strict.len() + 6).expect(rt, "memory");
+    assert!(rt;
+        writes_in_turn(heap, &value, strict) == Some(1),
+        "{strict:?}"
+    );
     heap.refuse_all();
-    assert_eq!(rt; encoded_len(&value), Ok(strict.len()));
-    let written = write_to_slice(&value, room.as_mut_slice());
-    assert_eq!(rt; written, Ok(strict.len()));
-    assert_eq!(rt; heap.requests(), 0);
+    assert!(rt; encoded_len(&value) == Ok(strict.len()));
+    fills(rt, &value, strict, room.as_mut_slice());
+    assert!(rt; heap.requests() == 0);
     heap.refuse(0);
-    assert!(rt; room.as_slice().starts_with(strict));
-    assert!(rt; room.as_slice().ends_with(&[0xEE; 6]));
-    Ok(())
+}
+
+/// The value is written in front of six bytes EE; a slice of EE that is too short by one stays as it was.
+fn fills<T: ToDer>(rt: &impl Abort, value: &T, strict: &[u8], room: &mut [u8]) {
+    let short = room.get_mut(1..strict.len()).expect(rt, "room");
+    let refused = write_to_slice(value, short) == Err(SliceError::TooShort);
+    for byte in short.iter() {
+        assert!(rt; refused && *byte == 0xEE);
+    }
+    assert!(rt; write_to_slice(value, room) == Ok(strict.len()));
+    assert!(rt; room.starts_with(strict) && room.ends_with(&[0xEE; 6]));
+}
+
+/// What a run showed that should clone the one value, where the other is as it was before.
+pub(super) fn copy_turn<T: CloneEq + PartialEq>(
+    answer: Result<T, AllocError>,
+    value: &T,
+    before: &T,
+) -> Turn {
+    match answer {
+        Ok(copy) => Turn::right(copy == *before),
+        Err(AllocError) => Turn::stands(*value == *before),
+    }
 }
 
 /// How many requests a clone of a value makes where it is equal, and want of memory where one is refused. The other value is
@@ -235,123 +308,115 @@ fn copies_in_turn<'v, T: CloneEq + PartialEq>(
     value: &'v T,
     before: &'v T,
 ) -> Option<u64> {
-    heap.in_turn(|| match value.clone_eq() {
-        Ok(copy) => Turn::right(copy == *before),
-        Err(AllocError) => Turn::stands(*value == *before),
-    })
+    heap.in_turn(|| copy_turn(value.clone_eq(), value, before))
 }
 
-/// A value is cloned as itself, by either call, also where memory is refused first.
+/// The value of the spelling is cloned as itself, by either call, also where memory is refused first.
 fn copies<'h, T: FromDer<Heap<'h>> + OwnClone + PartialEq>(
     rt: &impl Abort,
     heap: Heap<'h>,
-    input: &[u8],
-) -> Result<(), Fail> {
-    let value = from_bytes::<T, _>(heap, input)?;
-    let before = from_bytes::<T, _>(heap, input)?;
-    let requests = copies_in_turn(heap, &value, &before);
-    assert!(rt; requests.is_some(), "{input:?}");
-    assert_eq!(rt;
-        clones_in_turn(heap, &value, &before),
-        requests,
-        "{input:?}"
-    );
-    Ok(())
+    text: &str,
+) {
+    let input = hex::decode(heap, text).expect(rt, "hexadecimal");
+    let value = from_bytes::<T, _>(heap, &input).expect(rt, "a value");
+    let before = from_bytes::<T, _>(heap, &input).expect(rt, "a value");
+    copies_agree(rt, heap, &value, &before);
 }
 
-/// Whether a read was refused for what stands there, and not for memory.
-fn is_refusal<T: Drop>(answer: Result<T, ReadError>) -> bool {
-    match answer {
-        Ok(_value) => false,
-        Err(error) => error != ReadError::OutOfMemory,
-    }
-}
-
-/// No call reads the bytes, and the headers are bounded.
-pub(super) fn refuses<'h, T: FromDer<Heap<'h>>>(
+/// Both clones make as many requests.
+fn copies_agree<'v, T: OwnClone + PartialEq>(
     rt: &impl Abort,
-    heap: Heap<'h>,
-    input: &[u8],
-) -> Result<(), Fail> {
-    assert!(rt; is_refusal(read_counted::<T, _>(heap, input)), "{input:?}");
-    assert!(rt; is_refusal(read_located::<T, _>(heap, input)));
-    let (metered, headers) = read_metered::<T, _>(heap, input);
-    assert!(rt; is_refusal(metered));
-    assert!(rt; headers <= input.len() / 2 + 1);
-    let requests = heap.in_turn(|| match from_bytes::<T, _>(heap, input) {
+    heap: Heap<'_>,
+    value: &'v T,
+    before: &'v T,
+) {
+    let requests = copies_in_turn(heap, value, before);
+    let own = clones_in_turn(heap, value, before);
+    assert!(rt; requests.is_some() && own == requests);
+}
+
+/// What a run showed that should be refused for what stands there.
+fn refused_turn<T: Drop>(answer: Result<T, ReadError>) -> Turn {
+    match answer {
         Ok(_value) => Turn::Wrong,
         Err(ReadError::OutOfMemory) => Turn::Refused,
         Err(_other) => Turn::Granted,
-    });
-    assert!(rt; requests.is_some(), "{input:?} is read");
-    Ok(())
+    }
+}
+
+/// No call reads the bytes, also where memory is refused first, and the headers are bounded.
+pub(super) fn refuses<'h, T: FromDer<Heap<'h>>>(rt: &impl Abort, heap: Heap<'h>, input: &[u8]) {
+    for reading in READINGS {
+        let requests = heap.in_turn(|| refused_turn(read_by::<T>(*reading, heap, input)));
+        assert!(rt; requests.is_some(), "{input:?} is read");
+    }
+    assert!(rt;
+        headers_of::<T>(heap, input) <= input.len() / 2 + 1,
+        "{input:?}"
+    );
+}
+
+/// How many headers a read shows that should be refused.
+pub(super) fn headers_of<'h, T: FromDer<Heap<'h>>>(heap: Heap<'h>, input: &[u8]) -> usize {
+    let (_refused, headers) = read_metered::<T, _>(heap, input);
+    headers
 }
 
 /// Each of these, in hexadecimal, is refused by every call.
-pub(super) fn all_refused<'h, T: FromDer<Heap<'h>>>(
-    rt: &impl Abort,
-    heap: Heap<'h>,
-    texts: &[&str],
-) -> Result<(), Fail> {
+fn all_refused<'h, T: FromDer<Heap<'h>>>(rt: &impl Abort, heap: Heap<'h>, texts: &[&str]) {
     for text in texts {
-        let input = hex::decode(heap, *text)?;
-        refuses::<T>(rt, heap, &input)?;
+        let input = hex::decode(heap, *text).expect(rt, "hexadecimal");
+        refuses::<T>(rt, heap, &input);
     }
-    Ok(())
 }
 
 /// Each byte is raised and lowered by one, and the laws are kept.
-fn neighbours<'h, T: FromDer<Heap<'h>>>(
-    rt: &impl Abort,
-    heap: Heap<'h>,
-    input: &[u8],
-) -> Result<(), Fail> {
+fn neighbours<'h, T: FromDer<Heap<'h>>>(rt: &impl Abort, heap: Heap<'h>, input: &[u8]) {
     for place in 0..input.len() {
         for change in [1u8, 255] {
-            let mut near = Vec::from_slice(heap, input)?;
+            let mut near = Vec::from_slice(heap, input).expect(rt, "memory");
             if let Some(byte) = near.get_mut(place) {
                 *byte = byte.wrapping_add(change);
             }
-            keeps_laws::<T>(rt, heap, &near)?;
+            keeps_laws::<T>(rt, heap, &near);
         }
     }
-    Ok(())
+}
+
+/// Whether the value is rewritten to these bytes if they are strict, and to others if not.
+fn is_rewritten<T: ToDer>(heap: Heap<'_>, value: &T, bytes: &[u8], is_strict: bool) -> bool {
+    match to_vec(heap, value) {
+        Ok(strict) => (strict.as_slice() == bytes) == is_strict,
+        Err(_refused) => false,
+    }
 }
 
 /// The headers are bounded, and where the bytes are accepted they are rewritten to themselves exactly where the total is 0.
-fn keeps_laws<'h, T: FromDer<Heap<'h>>>(
-    rt: &impl Abort,
-    heap: Heap<'h>,
-    bytes: &[u8],
-) -> Result<(), Fail> {
+fn keeps_laws<'h, T: FromDer<Heap<'h>>>(rt: &impl Abort, heap: Heap<'h>, bytes: &[u8]) {
     let (outcome, headers) = read_metered::<T, _>(heap, bytes);
+    let is_lawful = match outcome {
+        Ok((value, deviations)) => is_rewritten(heap, &value, bytes, deviations.is_none()),
+        Err(error) => error != ReadError::OutOfMemory,
+    };
+    assert!(rt; is_lawful, "{bytes:?}");
     assert!(rt; headers <= bytes.len() / 2 + 1);
-    if let Ok((value, deviations)) = outcome {
-        let strict = to_vec(heap, &value)?;
-        assert_eq!(rt;
-            strict.as_slice() == bytes,
-            deviations.is_none(),
-            "{bytes:?}"
-        );
-    }
-    Ok(())
 }
 
-/// In the place of the field, an element of each universal tag that may not stand there is refused, and with any other the
-/// laws are kept.
+/// In the place of the field, an element of each universal tag that may not stand there is refused, and any other is read
+/// and keeps the laws.
 fn others<'h, T: FromDer<Heap<'h>>>(
     rt: &impl Abort,
     heap: Heap<'h>,
     input: &[u8],
     field: &Field<'_>,
-) -> Result<(), Fail> {
+) {
     for (tag, content) in SAMPLES {
-        let bytes = replaced(heap, input, field, tag, content)?;
-        if field.tags.contains(&tag) {
-            keeps_laws::<T>(rt, heap, &bytes)?;
+        let bytes = replaced(rt, heap, input, field, *tag, *content);
+        if field.tags.contains(tag) {
+            assert!(rt; from_bytes::<T, _>(heap, &bytes).is_ok(), "{bytes:?}");
+            keeps_laws::<T>(rt, heap, &bytes);
         } else {
-            refuses::<T>(rt, heap, &bytes)?;
+            refuses::<T>(rt, heap, &bytes);
         }
     }
-    Ok(())
 }

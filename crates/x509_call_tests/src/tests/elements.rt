@@ -1,0 +1,39 @@
+//! NULL and raw elements.
+
+use super::checks::same;
+use std::alloc::{Allocator, Global};
+use std::process::Abort;
+use x509_der::{Asn1RawDer, CloneEq, from_bytes};
+
+#[test]
+fn null_is_as_stated(rt: HostRuntime) {
+    assert!(rt; from_bytes::<(), Global>(rt.alloc(), &[5, 0]) == Ok(()));
+    assert!(rt; ().clone_eq() == Ok(()));
+}
+
+/// Whether the bytes are taken as one element; those that aren't come back.
+fn is_taken<A: Allocator + Copy>(given: Vec<u8, A>, bytes: &[u8]) -> Option<bool> {
+    match Asn1RawDer::from_vec(given) {
+        Ok(element) => (element.as_bytes() == bytes).then_some(true),
+        Err(back) => (back.as_slice() == bytes).then_some(false),
+    }
+}
+
+/// The bytes in hexadecimal are taken, or come back, as is said.
+fn all_taken(rt: &impl Abort, alloc: Global, texts: &[&str], wanted: bool) {
+    for text in texts {
+        let bytes = hex::decode(alloc, *text).expect(rt, "hexadecimal");
+        let given = Vec::from_slice(alloc, &bytes).expect(rt, "memory");
+        same(rt, &is_taken(given, &bytes), &Some(wanted), *text);
+    }
+}
+
+const ELEMENTS: &[&str] = &["0000", "3003020501", "0500"];
+
+const NO_ELEMENTS: &[&str] = &["1f00", "05", "", "050000", "ff810200", "308100"];
+
+#[test]
+fn raw_elements_are_made(rt: HostRuntime) {
+    all_taken(&rt, rt.alloc(), ELEMENTS, true);
+    all_taken(&rt, rt.alloc(), NO_ELEMENTS, false);
+}

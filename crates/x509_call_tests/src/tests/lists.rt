@@ -1,0 +1,77 @@
+//! Lists and containers.
+
+use super::Heap;
+use refusing::{Refusing, Turn};
+use std::alloc::Global;
+use std::process::Abort;
+use x509_der::parts::{Content, Reader};
+use x509_der::{
+    Asn1SequenceOf, Asn1SetOf, BitStringAsn1Container, FromDer, IntegerAsn1,
+    OctetStringAsn1Container, ReadError, from_bytes,
+};
+
+#[test]
+fn items_of_sequences_are_as_stated(rt: HostRuntime) {
+    let bytes = [0x30, 6, 2, 1, 1, 2, 1, 2];
+    let list = from_bytes::<Asn1SequenceOf<u8>, Global>(rt.alloc(), &bytes).expect(&rt, "a value");
+    assert!(rt; list.0.as_slice() == [1u8, 2].as_slice());
+}
+
+#[test]
+fn items_of_sets_are_as_stated(rt: HostRuntime) {
+    let bytes = [0x31, 6, 2, 1, 2, 2, 1, 1];
+    let set = from_bytes::<Asn1SetOf<u8>, Global>(rt.alloc(), &bytes).expect(&rt, "a value");
+    assert!(rt; set.0.as_slice() == [2u8, 1].as_slice());
+}
+
+#[test]
+fn contained_values_are_as_stated(rt: HostRuntime) {
+    let octets = from_bytes::<OctetStringAsn1Container<u8>, Global>(rt.alloc(), &[4, 3, 2, 1, 5]);
+    assert!(rt; octets == Ok(OctetStringAsn1Container(5)));
+    let bits = from_bytes::<BitStringAsn1Container<u8>, Global>(rt.alloc(), &[3, 4, 0, 2, 1, 5]);
+    assert!(rt; bits == Ok(BitStringAsn1Container(5)));
+}
+
+/// What a run showed that should read a content as that of this value.
+fn content_turn<'h, T: Content<Heap<'h>> + PartialEq>(
+    heap: Heap<'h>,
+    content: &[u8],
+    stated: &T,
+) -> Turn {
+    match T::read_body(heap, &mut Reader::new(content)) {
+        Ok(value) => Turn::right(value == *stated),
+        Err(ReadError::OutOfMemory) => Turn::Refused,
+        Err(_other) => Turn::Wrong,
+    }
+}
+
+/// The content of an element, which begins at a place, is read as under an implicit tag, also where memory is refused first.
+fn content_is_read<'h, T: FromDer<Heap<'h>> + Content<Heap<'h>> + PartialEq>(
+    rt: &impl Abort,
+    heap: Heap<'h>,
+    element: &[u8],
+    start: usize,
+) {
+    let stated = from_bytes::<T, _>(heap, element).expect(rt, "a value");
+    let content = element.get(start..).expect(rt, "a content");
+    let requests = heap.in_turn(|| content_turn(heap, content, &stated));
+    assert!(rt; requests.is_some(), "{element:?}");
+}
+
+#[test]
+fn contents_are_read(rt: HostRuntime) {
+    let heap = Refusing::new(rt.alloc());
+    let list = [0x30, 6, 2, 1, 1, 2, 1, 2];
+    content_is_read::<Asn1SequenceOf<u8, Heap<'_>>>(&rt, &heap, &list, 2);
+    let set = [0x31, 6, 2, 1, 2, 2, 1, 1];
+    content_is_read::<Asn1SetOf<u8, Heap<'_>>>(&rt, &heap, &set, 2);
+}
+
+#[test]
+fn contents_of_containers_are_read(rt: HostRuntime) {
+    let heap = Refusing::new(rt.alloc());
+    let octets = [4, 3, 2, 1, 5];
+    content_is_read::<OctetStringAsn1Container<IntegerAsn1<Heap<'_>>>>(&rt, &heap, &octets, 2);
+    let bits = [3, 4, 0, 2, 1, 5];
+    content_is_read::<BitStringAsn1Container<IntegerAsn1<Heap<'_>>>>(&rt, &heap, &bits, 2);
+}

@@ -1,0 +1,257 @@
+//! Calls that take no memory, run with every request refused.
+
+use super::Heap;
+use refusing::Refusing;
+use std::alloc::{AllocError, Allocator};
+use std::process::Abort;
+use x509_der::{
+    Asn1RawDer, Asn1SequenceOf, Asn1SetOf, BitString, BitStringAsn1, BitStringAsn1Container,
+    IntegerAsn1, ObjectIdentifier, ObjectIdentifierAsn1, OctetStringAsn1, OctetStringAsn1Container,
+    OidError,
+};
+use x509_keys::RawAlgorithmIdentifier;
+use x509_prim::{
+    BmpString, BmpStringAsn1, CharSetError, Ia5String, Ia5StringAsn1, PrintableString,
+    PrintableStringAsn1, Utf8String,
+};
+
+/// The answers are as stated, and no request was made since all were refused; none is refused any more.
+fn took_nothing(rt: &impl Abort, heap: Heap<'_>, is_right: bool) {
+    assert!(rt; is_right);
+    assert_eq!(rt; heap.requests(), 0);
+    heap.refuse(0);
+}
+
+/// The bytes in their own memory; from here on each request is refused.
+fn last_bytes<'h>(rt: &impl Abort, heap: Heap<'h>, bytes: &[u8]) -> Vec<u8, Heap<'h>> {
+    let owned = Vec::from_slice(heap, bytes).expect(rt, "memory");
+    heap.refuse_all();
+    owned
+}
+
+/// The text in its own memory; from here on each request is refused.
+fn last_text<'h>(rt: &impl Abort, heap: Heap<'h>, text: &str) -> String<Heap<'h>> {
+    let owned = String::from_str(heap, text).expect(rt, "memory");
+    heap.refuse_all();
+    owned
+}
+
+/// Wrapped and unwrapped, 2.5.4.3 answers as stated.
+fn identifier_answers<A: Allocator>(value: ObjectIdentifier<A>) -> bool {
+    let value = ObjectIdentifier::from(ObjectIdentifierAsn1::from(value));
+    let are_arcs = value.len() == 4 && value.arc(3) == Some(3);
+    are_arcs && value.is_arcs(&[2, 5, 4, 3]) && value.starts_under(&[2, 5])
+}
+
+#[test]
+fn identifiers_are_looked_at(rt: HostRuntime) {
+    let heap = Refusing::new(rt.alloc());
+    let value = ObjectIdentifier::from_arcs(&heap, &[2, 5, 4, 3]).expect(&rt, "lawful arcs");
+    heap.refuse_all();
+    took_nothing(&rt, &heap, identifier_answers(value));
+}
+
+#[test]
+fn other_arcs_are_bad(rt: HostRuntime) {
+    let heap = Refusing::new(rt.alloc());
+    heap.refuse_all();
+    let refused = ObjectIdentifier::from_arcs(&heap, &[1, 40]).err();
+    took_nothing(&rt, &heap, refused == Some(OidError::Bad));
+}
+
+/// The bytes of 128 are taken as a content, and handed out as they are and without the sign.
+fn content_answers<A: Allocator>(bytes: Vec<u8, A>) -> bool {
+    match IntegerAsn1::from_signed_content(bytes) {
+        Ok(number) => {
+            let is_held = number.as_bytes() == b"\x00\x80".as_slice();
+            is_held && number.as_unsigned_bytes_be() == b"\x80".as_slice()
+        }
+        Err(_back) => false,
+    }
+}
+
+/// What was refused comes back as it was.
+fn is_back<T: Drop, A: Allocator>(answer: Result<T, Vec<u8, A>>, bytes: &[u8]) -> bool {
+    match answer {
+        Ok(_taken) => false,
+        Err(back) => back.as_slice() == bytes,
+    }
+}
+
+#[test]
+fn numbers_are_looked_at(rt: HostRuntime) {
+    let heap = Refusing::new(rt.alloc());
+    let minimal = last_bytes(&rt, &heap, b"\x00\x80");
+    took_nothing(&rt, &heap, content_answers(minimal));
+    let padded = last_bytes(&rt, &heap, b"\x00\x7F");
+    let refused = IntegerAsn1::from_signed_content(padded);
+    took_nothing(&rt, &heap, is_back(refused, b"\x00\x7F"));
+}
+
+/// A number was made, and is held as these bytes.
+fn is_held<A: Allocator>(answer: Result<IntegerAsn1<A>, AllocError>, bytes: &[u8]) -> bool {
+    match answer {
+        Ok(number) => number.as_bytes() == bytes,
+        Err(AllocError) => false,
+    }
+}
+
+/// A number that is padded is made minimal in its own memory.
+#[test]
+fn numbers_are_cut(rt: HostRuntime) {
+    let heap = Refusing::new(rt.alloc());
+    let signed = last_bytes(&rt, &heap, b"\xFF\xFF\x7F");
+    let number = IntegerAsn1::from_bytes_be_signed(signed);
+    took_nothing(&rt, &heap, is_held(number, b"\xFF\x7F"));
+    let unsigned = last_bytes(&rt, &heap, b"\x00\x00\x7F");
+    let number = IntegerAsn1::from_bytes_be_unsigned(unsigned);
+    took_nothing(&rt, &heap, is_held(number, b"\x7F"));
+}
+
+/// Wrapped and unwrapped, cut to twelve bits and changed, sixteen set bits answer as stated.
+fn bits_answer<A: Allocator + Copy>(bytes: Vec<u8, A>) -> bool {
+    let mut bits = BitString::from(BitStringAsn1::from(BitString::with_bytes(bytes)));
+    let is_cut = bits.set_num_bits(12).is_ok();
+    let is_changed = bits.set(0, false) && bits.is_set(11) && !bits.set(12, true);
+    let are_counted = bits.get_num_bits() == 12 && bits.get_num_unused_bits() == 4;
+    is_cut && is_changed && are_counted && bits.payload_view() == b"\x7F\xF0".as_slice()
+}
+
+#[test]
+fn bits_are_cut_and_set(rt: HostRuntime) {
+    let heap = Refusing::new(rt.alloc());
+    let bytes = last_bytes(&rt, &heap, b"\xFF\xFF");
+    took_nothing(&rt, &heap, bits_answer(bytes));
+}
+
+/// NULL is taken as an element.
+fn null_is_taken<A: Allocator + Copy>(bytes: Vec<u8, A>) -> bool {
+    match Asn1RawDer::from_vec(bytes) {
+        Ok(element) => element.as_bytes() == b"\x05\x00".as_slice(),
+        Err(_back) => false,
+    }
+}
+
+#[test]
+fn raw_elements_are_taken_or_handed_back(rt: HostRuntime) {
+    let heap = Refusing::new(rt.alloc());
+    let one = last_bytes(&rt, &heap, b"\x05\x00");
+    took_nothing(&rt, &heap, null_is_taken(one));
+    let two = last_bytes(&rt, &heap, b"\x05\x00\x05\x00");
+    let refused = Asn1RawDer::from_vec(two);
+    took_nothing(&rt, &heap, is_back(refused, b"\x05\x00\x05\x00"));
+}
+
+/// What is put together of 2.5.4.3 and an element, or none, has these parameters; NULL is held as none.
+fn is_put_together(rt: &impl Abort, heap: Heap<'_>, element: &[u8], parameters: Option<&[u8]>) {
+    let algorithm = ObjectIdentifier::from_arcs(heap, &[2, 5, 4, 3]).expect(rt, "lawful arcs");
+    let element = Asn1RawDer::from_vec(last_bytes(rt, heap, element)).ok();
+    let value = RawAlgorithmIdentifier::from_parts(algorithm, element);
+    let held = value.parameters().map(Asn1RawDer::as_bytes);
+    took_nothing(
+        rt,
+        heap,
+        held == parameters && value.algorithm().is_arcs(&[2, 5, 4, 3]),
+    );
+}
+
+#[test]
+fn algorithms_are_put_together(rt: HostRuntime) {
+    let heap = Refusing::new(rt.alloc());
+    is_put_together(&rt, &heap, b"", None);
+    is_put_together(&rt, &heap, b"\x05\x00", None);
+    is_put_together(&rt, &heap, b"\x0C\x01a", Some(b"\x0C\x01a"));
+}
+
+/// The bytes stay through each type that they are wrapped in.
+fn bytes_stay<A: Allocator>(bytes: Vec<u8, A>) -> bool {
+    let octets = Vec::from(OctetStringAsn1::from(bytes));
+    let list = Vec::from(Asn1SequenceOf::from(octets));
+    let set = Vec::from(Asn1SetOf::from(list));
+    let OctetStringAsn1Container(inner) = OctetStringAsn1Container::from(set);
+    let BitStringAsn1Container(inner) = BitStringAsn1Container::from(inner);
+    inner.as_slice() == b"octets".as_slice()
+}
+
+#[test]
+fn values_are_wrapped(rt: HostRuntime) {
+    let heap = Refusing::new(rt.alloc());
+    let bytes = last_bytes(&rt, &heap, b"octets");
+    took_nothing(&rt, &heap, bytes_stay(bytes));
+}
+
+/// The letter a is printable, and the same when it is wrapped.
+fn printable_answers<A: Allocator + Copy>(made: Result<PrintableString<A>, CharSetError>) -> bool {
+    match made {
+        Ok(string) => PrintableStringAsn1::from(string).as_bytes() == b"a".as_slice(),
+        Err(_other) => false,
+    }
+}
+
+#[test]
+fn printable_strings_are_made(rt: HostRuntime) {
+    let heap = Refusing::new(rt.alloc());
+    let made = PrintableString::from_string(last_text(&rt, &heap, "a"));
+    took_nothing(&rt, &heap, printable_answers(made));
+    let made = PrintableString::from_bytes(last_bytes(&rt, &heap, b"a"));
+    took_nothing(&rt, &heap, printable_answers(made));
+    let star = PrintableString::from_string(last_text(&rt, &heap, "a*"));
+    took_nothing(&rt, &heap, star.is_err());
+    let star = PrintableString::from_bytes(last_bytes(&rt, &heap, b"a*"));
+    took_nothing(&rt, &heap, star.is_err());
+}
+
+/// An asterisk is a character of IA5, and the same when it is wrapped and unwrapped.
+fn ia5_answers<A: Allocator + Copy>(made: Result<Ia5String<A>, CharSetError>) -> bool {
+    match made {
+        Ok(string) => {
+            let string = Ia5String::from(Ia5StringAsn1::from(string));
+            string.as_bytes() == b"a*".as_slice()
+        }
+        Err(_other) => false,
+    }
+}
+
+#[test]
+fn ia5_strings_are_made(rt: HostRuntime) {
+    let heap = Refusing::new(rt.alloc());
+    let made = Ia5String::from_string(last_text(&rt, &heap, "a*"));
+    took_nothing(&rt, &heap, ia5_answers(made));
+    let made = Ia5String::from_bytes(last_bytes(&rt, &heap, b"a*"));
+    took_nothing(&rt, &heap, ia5_answers(made));
+    let accent = Ia5String::from_string(last_text(&rt, &heap, "\u{E9}"));
+    took_nothing(&rt, &heap, accent.is_err());
+    let accent = Ia5String::from_bytes(last_bytes(&rt, &heap, b"\xC3\xA9"));
+    took_nothing(&rt, &heap, accent.is_err());
+}
+
+/// Half of a pair is kept, and the same when it is wrapped.
+fn units_answer<A: Allocator + Copy>(made: Result<BmpString<A>, CharSetError>) -> bool {
+    match made {
+        Ok(string) => BmpStringAsn1::from(string).as_bytes() == b"\xD8\x3D".as_slice(),
+        Err(_other) => false,
+    }
+}
+
+#[test]
+fn bmp_strings_are_made(rt: HostRuntime) {
+    let heap = Refusing::new(rt.alloc());
+    let made = BmpString::from_bytes(last_bytes(&rt, &heap, b"\xD8\x3D"));
+    took_nothing(&rt, &heap, units_answer(made));
+    let odd = BmpString::from_bytes(last_bytes(&rt, &heap, b"abc"));
+    took_nothing(&rt, &heap, odd.is_err());
+}
+
+/// A text is a UTF-8 string, and comes back from it.
+fn text_answers<A: Allocator + Copy>(text: String<A>) -> bool {
+    let string = Utf8String::from(text);
+    let is_same = string.as_str().as_bytes() == string.as_bytes();
+    is_same && String::from(string).as_str() == "*\u{E9}"
+}
+
+#[test]
+fn utf8_strings_are_made(rt: HostRuntime) {
+    let heap = Refusing::new(rt.alloc());
+    let text = last_text(&rt, &heap, "*\u{E9}");
+    took_nothing(&rt, &heap, text_answers(text));
+}

@@ -1,0 +1,73 @@
+//! Printable, IA5 and BMP strings.
+
+use super::checks::{is_so, same_bytes};
+use x509_prim::{BmpString, Ia5String, Ia5StringAsn1, PrintableString};
+
+/// The characters of PrintableString (X.680, 41.4, table 10).
+const PRINTABLE: &'static str =
+    "ABCDEFGHIJKLMNOPQRSTUVWXYZabcdefghijklmnopqrstuvwxyz0123456789 '()+,-./:=?";
+
+#[test]
+fn printable_bytes(rt: HostRuntime) {
+    for byte in 0..=u8::MAX {
+        let bytes = Vec::from_slice(rt.alloc(), &[byte]).expect(&rt, "memory");
+        let made = PrintableString::from_bytes(bytes).is_ok();
+        assert_eq!(rt; made, PRINTABLE.as_bytes().contains(&byte), "{byte}");
+    }
+}
+
+#[test]
+fn printable_texts(rt: HostRuntime) {
+    let text = String::from_str(rt.alloc(), PRINTABLE).expect(&rt, "memory");
+    let string = PrintableString::from_string(text)
+        .ok()
+        .expect(&rt, "printable");
+    same_bytes(&rt, string.as_bytes(), PRINTABLE.as_bytes(), "text");
+    let other = String::from_str(rt.alloc(), "a*b").expect(&rt, "memory");
+    assert!(rt; PrintableString::from_string(other).is_err());
+}
+
+#[test]
+fn ia5_bytes(rt: HostRuntime) {
+    for byte in 0..=u8::MAX {
+        let bytes = Vec::from_slice(rt.alloc(), &[byte]).expect(&rt, "memory");
+        assert_eq!(rt; Ia5String::from_bytes(bytes).is_ok(), byte < 0x80, "{byte}");
+    }
+}
+
+#[test]
+fn ia5_texts(rt: HostRuntime) {
+    let text = String::from_str(rt.alloc(), "test1@rsa.com").expect(&rt, "memory");
+    let string = Ia5String::from_string(text).ok().expect(&rt, "IA5");
+    let string = Ia5StringAsn1::from(string);
+    same_bytes(&rt, string.as_bytes(), b"test1@rsa.com", "text");
+    let other = String::from_str(rt.alloc(), "\u{E9}").expect(&rt, "memory");
+    assert!(rt; Ia5String::from_string(other).is_err());
+}
+
+/// Texts and their units in hexadecimal; the last but one is the example of RFC 2781, 5.
+const UNITS: &[(&str, &str)] = &[
+    ("", ""),
+    ("\u{1F600}", "d83dde00"),
+    ("\u{FFFF}\u{10000}", "ffffd800dc00"),
+    ("\u{12345}=Ra", "d808df45003d00520061"),
+    ("\u{10FFFF}", "dbffdfff"),
+];
+
+#[test]
+fn units_of_texts(rt: HostRuntime) {
+    let alloc = rt.alloc();
+    for (text, units) in UNITS {
+        let units = hex::decode(alloc, *units).expect(&rt, "hexadecimal");
+        let string = BmpString::from_string(alloc, *text).expect(&rt, "memory");
+        same_bytes(&rt, string.as_bytes(), &units, *text);
+        let same = BmpString::from_bytes(units).ok().expect(&rt, "units");
+        is_so(&rt, same == string, *text);
+    }
+}
+
+#[test]
+fn an_odd_byte_is_no_unit(rt: HostRuntime) {
+    let bytes = Vec::from_slice(rt.alloc(), &[0x61u8]).expect(&rt, "memory");
+    assert!(rt; BmpString::from_bytes(bytes).is_err());
+}

@@ -1,0 +1,185 @@
+//! Times.
+
+use super::checks::{is_so, same, same_bytes};
+use refusing::Refusing;
+use std::alloc::Global;
+use x509_der::{from_bytes, to_vec};
+use x509_prim::{GeneralizedTime, GeneralizedTimeAsn1, UTCTime, UtcTimeAsn1};
+
+/// Year, month, day, hour, minute, second.
+type Numbers = (u16, u8, u8, u8, u8, u8);
+
+/// The UTCTime of these numbers.
+fn utc_time(numbers: Numbers) -> Option<UTCTime> {
+    let (year, month, day, hour, minute, second) = numbers;
+    UTCTime::new(year, month, day, hour, minute, second)
+}
+
+/// The numbers that a UTCTime hands out.
+fn numbers_of_utc(time: &UTCTime) -> Numbers {
+    let (year, month, day) = (time.year(), time.month(), time.day());
+    (year, month, day, time.hour(), time.minute(), time.second())
+}
+
+/// Spellings and their numbers.
+const UTC_TIMES: &[(&str, Numbers)] = &[
+    // 500101000000Z
+    ("170d3530303130313030303030305a", (1950, 1, 1, 0, 0, 0)),
+    // 491231235959Z
+    ("170d3439313233313233353935395a", (2049, 12, 31, 23, 59, 59)),
+    // 191017174159Z
+    ("170d3139313031373137343135395a", (2019, 10, 17, 17, 41, 59)),
+    // 000229000000Z
+    ("170d3030303232393030303030305a", (2000, 2, 29, 0, 0, 0)),
+    // 991130010203Z
+    ("170d3939313133303031303230335a", (1999, 11, 30, 1, 2, 3)),
+    // 191017174128Z
+    ("170d3139313031373137343132385a", (2019, 10, 17, 17, 41, 28)),
+];
+
+#[test]
+fn utc_times(rt: HostRuntime) {
+    let alloc = rt.alloc();
+    for (spelling, numbers) in UTC_TIMES {
+        let bytes = hex::decode(alloc, *spelling).expect(&rt, "hexadecimal");
+        let read = from_bytes::<UtcTimeAsn1, Global>(alloc, &bytes).expect(&rt, "a time");
+        same(&rt, &numbers_of_utc(&read.0), numbers, *spelling);
+        let made = UtcTimeAsn1::from(utc_time(*numbers).expect(&rt, "a time"));
+        let written = to_vec(alloc, &made).expect(&rt, "memory");
+        same_bytes(&rt, &written, &bytes, *spelling);
+        is_so(&rt, read == made, *spelling);
+    }
+}
+
+/// The GeneralizedTime of these numbers.
+fn generalized_time(numbers: Numbers) -> Option<GeneralizedTime> {
+    let (year, month, day, hour, minute, second) = numbers;
+    GeneralizedTime::new(year, month, day, hour, minute, second)
+}
+
+/// The numbers that a GeneralizedTime hands out.
+fn numbers_of_generalized(time: &GeneralizedTime) -> Numbers {
+    let (year, month, day) = (time.year(), time.month(), time.day());
+    (year, month, day, time.hour(), time.minute(), time.second())
+}
+
+/// Spellings and their numbers.
+const GENERALIZED_TIMES: &[(&str, Numbers)] = &[
+    // 00000229000000Z
+    ("180f30303030303232393030303030305a", (0, 2, 29, 0, 0, 0)),
+    // 00000101000000Z
+    ("180f30303030303130313030303030305a", (0, 1, 1, 0, 0, 0)),
+    // 20000229123456Z
+    (
+        "180f32303030303232393132333435365a",
+        (2000, 2, 29, 12, 34, 56),
+    ),
+    // 19000228235959Z
+    (
+        "180f31393030303232383233353935395a",
+        (1900, 2, 28, 23, 59, 59),
+    ),
+    // 99991231235959Z
+    (
+        "180f39393939313233313233353935395a",
+        (9999, 12, 31, 23, 59, 59),
+    ),
+    // 20191017174128Z
+    (
+        "180f32303139313031373137343132385a",
+        (2019, 10, 17, 17, 41, 28),
+    ),
+];
+
+#[test]
+fn generalized_times(rt: HostRuntime) {
+    let alloc = rt.alloc();
+    for (spelling, numbers) in GENERALIZED_TIMES {
+        let bytes = hex::decode(alloc, *spelling).expect(&rt, "hexadecimal");
+        let read = from_bytes::<GeneralizedTimeAsn1, Global>(alloc, &bytes).expect(&rt, "a time");
+        same(&rt, &numbers_of_generalized(&read.0), numbers, *spelling);
+        let made = GeneralizedTimeAsn1::from(generalized_time(*numbers).expect(&rt, "a time"));
+        let written = to_vec(alloc, &made).expect(&rt, "memory");
+        same_bytes(&rt, &written, &bytes, *spelling);
+        is_so(&rt, read == made, *spelling);
+    }
+}
+
+/// Numbers that no UTCTime has.
+const NO_UTC_TIMES: &[Numbers] = &[
+    (1949, 12, 31, 23, 59, 59),
+    (2050, 1, 1, 0, 0, 0),
+    (2019, 2, 29, 0, 0, 0),
+    (2019, 0, 1, 0, 0, 0),
+    (2019, 1, 0, 0, 0, 0),
+    (2019, 255, 255, 0, 0, 0),
+    (2019, 1, 1, 24, 0, 0),
+    (2019, 1, 1, 0, 60, 0),
+    (2019, 1, 1, 0, 0, 60),
+];
+
+#[test]
+fn utc_times_are_made_of_lawful_numbers(rt: HostRuntime) {
+    for numbers in NO_UTC_TIMES {
+        assert!(rt; utc_time(*numbers).is_none(), "{numbers:?}");
+    }
+}
+
+/// Numbers that no GeneralizedTime has.
+const NO_GENERALIZED_TIMES: &[Numbers] = &[
+    (10000, 1, 1, 0, 0, 0),
+    (65535, 1, 1, 0, 0, 0),
+    (1900, 2, 29, 0, 0, 0),
+    (2019, 4, 31, 0, 0, 0),
+    (2019, 13, 1, 0, 0, 0),
+    (2019, 1, 32, 0, 0, 0),
+    (2019, 1, 1, 24, 0, 0),
+    (2019, 1, 1, 0, 60, 0),
+    (2019, 1, 1, 0, 0, 60),
+];
+
+#[test]
+fn generalized_times_are_made_of_lawful_numbers(rt: HostRuntime) {
+    for numbers in NO_GENERALIZED_TIMES {
+        assert!(rt; generalized_time(*numbers).is_none(), "{numbers:?}");
+    }
+}
+
+/// A second, and the next.
+const SECONDS: (Numbers, Numbers) = ((2000, 2, 29, 0, 0, 0), (2000, 2, 29, 0, 0, 1));
+
+#[test]
+fn utc_times_are_made_and_wrapped_without_memory(rt: HostRuntime) {
+    let heap = Refusing::new(rt.alloc());
+    heap.refuse_all();
+    let time = utc_time(SECONDS.0).expect(&rt, "a time");
+    let time = UTCTime::from(UtcTimeAsn1::from(time));
+    same(&rt, &numbers_of_utc(&time), &SECONDS.0, "numbers");
+    same(&rt, &heap.requests(), &0, "requests");
+}
+
+#[test]
+fn generalized_times_are_made_and_wrapped_without_memory(rt: HostRuntime) {
+    let heap = Refusing::new(rt.alloc());
+    heap.refuse_all();
+    let time = generalized_time(SECONDS.0).expect(&rt, "a time");
+    let time = GeneralizedTime::from(GeneralizedTimeAsn1::from(time));
+    same(&rt, &numbers_of_generalized(&time), &SECONDS.0, "numbers");
+    same(&rt, &heap.requests(), &0, "requests");
+}
+
+#[test]
+fn utc_times_are_cloned_and_compared(rt: HostRuntime) {
+    let time = utc_time(SECONDS.0).expect(&rt, "a time");
+    let next = utc_time(SECONDS.1).expect(&rt, "a time");
+    let copy = time.clone().expect(&rt, "memory");
+    is_so(&rt, copy == time && time != next, "compared");
+}
+
+#[test]
+fn generalized_times_are_cloned_and_compared(rt: HostRuntime) {
+    let time = generalized_time(SECONDS.0).expect(&rt, "a time");
+    let next = generalized_time(SECONDS.1).expect(&rt, "a time");
+    let copy = time.clone().expect(&rt, "memory");
+    is_so(&rt, copy == time && time != next, "compared");
+}

@@ -1,0 +1,125 @@
+//! The structures that show the parts of `x509_der`: optional fields, a choice, a value whose kind an identifier says, and
+//! implicit tags.
+
+use super::fields::Field;
+use super::rows::{Heap, Row, Table, all_coded};
+use refusing::Refusing;
+use x509_der_structures::{Contact, Mark, Optionals, Preference};
+
+const CHOICES: Table<'static> = Table {
+    strict: &[("0101ff", 1), ("020105", 1), ("a003020105", 2)],
+    rows: &[],
+    refused: &["0400", "a103020105", "a0050201050500", "a000"],
+};
+
+#[test]
+fn choices(rt: HostRuntime) {
+    let heap = Refusing::new(rt.alloc());
+    all_coded::<Mark>(&rt, &heap, &CHOICES);
+}
+
+const OPTIONAL_FIELDS: Table<'static> = Table {
+    strict: &[
+        ("3000", 1),
+        ("3005a003020105", 3),
+        ("30048202a1b2", 2),
+        ("300ea003020105a1030101ff8202a1b2", 6),
+    ],
+    rows: &[],
+    refused: &[
+        "300aa1030101ffa003020105",
+        "300aa003020105a003020105",
+        "3005a203020105",
+        "30020500",
+    ],
+};
+
+#[test]
+fn optional_fields(rt: HostRuntime) {
+    let heap = Refusing::new(rt.alloc());
+    all_coded::<Optionals<Heap<'_>>>(&rt, &heap, &OPTIONAL_FIELDS);
+}
+
+/// The identifiers 1.2.3 and 1.2.4 ask for a value, 1.2.5 for none, and 1.2.6 isn't known.
+const PREFERENCES: Table<'static> = Table {
+    strict: &[
+        ("300706022a030101ff", 3),
+        ("300706022a04020105", 3),
+        ("300406022a05", 2),
+    ],
+    rows: &[],
+    refused: &[
+        "300706022a06020105",
+        "300406022a06",
+        "300406022a03",
+        "300706022a030201ff",
+        "300706022a05020105",
+    ],
+};
+
+#[test]
+fn values_of_known_kinds(rt: HostRuntime) {
+    let heap = Refusing::new(rt.alloc());
+    all_coded::<Preference<Heap<'_>>>(&rt, &heap, &PREFERENCES);
+}
+
+/// A number, the texts a, CH and a@b, the character a, and 17 October 2019 at 17:41:28 in both spellings.
+const CONTACT: &str =
+    "30330201050c01611302434880036140621e020061170d3139313031373137343132385a180f32303139313031373137343132385a";
+
+/// The fields; no universal tag may stand in the place of the implicit one.
+const FIELDS: &[Field<'static>] = &[
+    Field {
+        around: &[0],
+        start: 2,
+        tags: &[0x02],
+    },
+    Field {
+        around: &[0],
+        start: 5,
+        tags: &[0x0C],
+    },
+    Field {
+        around: &[0],
+        start: 8,
+        tags: &[0x13],
+    },
+    Field {
+        around: &[0],
+        start: 12,
+        tags: &[],
+    },
+    Field {
+        around: &[0],
+        start: 17,
+        tags: &[0x1E],
+    },
+    Field {
+        around: &[0],
+        start: 21,
+        tags: &[0x17],
+    },
+    Field {
+        around: &[0],
+        start: 36,
+        tags: &[0x18],
+    },
+];
+
+const CONTACTS: Table<'static> = Table {
+    strict: &[],
+    rows: &[Row {
+        input: CONTACT,
+        strict: CONTACT,
+        places: &[],
+        headers: 8,
+        fields: FIELDS,
+    }],
+    refused: &[],
+};
+
+#[test]
+fn contacts(rt: HostRuntime) {
+    let heap = Refusing::new(rt.alloc());
+    all_coded::<Contact<Heap<'_>>>(&rt, &heap, &CONTACTS);
+}
