@@ -2,7 +2,6 @@
 
 use crate::{Refusing, Turn};
 use std::alloc::{AllocError, Allocator};
-use std::test::Fail;
 
 /// Takes memory twice.
 fn two_requests<A: Allocator + Copy>(alloc: A) -> Result<(), AllocError> {

@@ -1,4 +1,4 @@
-//! Tests of calls that no table of rows covers: makers, changes, accessors, conversions, and the tables of object identifiers.
+//! Tests of single calls: makers, changes, accessors, conversions, stated values, and the tables of object identifiers.
 #![tactic(auto)]
 
 #[cfg(test)]

@@ -1,7 +1,10 @@
-//! Assertions as calls: in a function whose values are dropped, the macros cost a proof some five times as much.
+//! What tests share. An assertion as a call costs a proof less than the macro does in a function whose values are dropped,
+//! `assert_eq!` five times as much and more.
 
+use std::alloc::Global;
 use std::fmt::Debug;
 use std::process::Abort;
+use x509_der::ObjectIdentifier;
 
 /// The two are equal.
 pub(super) fn same<T: PartialEq + Debug>(rt: &impl Abort, left: &T, right: &T, what: &str) {
@@ -16,4 +19,14 @@ pub(super) fn same_bytes(rt: &impl Abort, bytes: &[u8], stated: &[u8], what: &st
 /// It is so.
 pub(super) fn is_so(rt: &impl Abort, is_right: bool, what: &str) {
     assert!(rt; is_right, "{what}");
+}
+
+/// What the text spells in hexadecimal.
+pub(super) fn bytes_of(rt: &impl Abort, alloc: Global, text: &str) -> Vec<u8> {
+    hex::decode(alloc, text).expect(rt, text)
+}
+
+/// The identifier 2.5.4.3.
+pub(super) fn common_name(rt: &impl Abort, alloc: Global) -> ObjectIdentifier {
+    ObjectIdentifier::from_arcs(alloc, &[2, 5, 4, 3]).expect(rt, "lawful arcs")
 }

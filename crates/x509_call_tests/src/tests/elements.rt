@@ -1,9 +1,9 @@
 //! NULL and raw elements.
 
-use super::checks::same;
+use super::checks::{bytes_of, same, same_bytes};
 use std::alloc::{Allocator, Global};
 use std::process::Abort;
-use x509_der::{Asn1RawDer, CloneEq, from_bytes};
+use x509_der::{Asn1RawDer, CloneEq, from_bytes, to_vec};
 
 #[test]
 fn null_is_as_stated(rt: HostRuntime) {
@@ -22,7 +22,7 @@ fn is_taken<A: Allocator + Copy>(given: Vec<u8, A>, bytes: &[u8]) -> Option<bool
 /// The bytes in hexadecimal are taken, or come back, as is said.
 fn all_taken(rt: &impl Abort, alloc: Global, texts: &[&str], wanted: bool) {
     for text in texts {
-        let bytes = hex::decode(alloc, *text).expect(rt, "hexadecimal");
+        let bytes = bytes_of(rt, alloc, *text);
         let given = Vec::from_slice(alloc, &bytes).expect(rt, "memory");
         same(rt, &is_taken(given, &bytes), &Some(wanted), *text);
     }
@@ -36,4 +36,12 @@ const NO_ELEMENTS: &[&str] = &["1f00", "05", "", "050000", "ff810200", "308100"]
 fn raw_elements_are_made(rt: HostRuntime) {
     all_taken(&rt, rt.alloc(), ELEMENTS, true);
     all_taken(&rt, rt.alloc(), NO_ELEMENTS, false);
+}
+
+#[test]
+fn raw_elements_are_written(rt: HostRuntime) {
+    let bytes = bytes_of(&rt, rt.alloc(), "3003020501");
+    let value = Asn1RawDer::from_vec(bytes).ok().expect(&rt, "an element");
+    let written = to_vec(rt.alloc(), &value).expect(&rt, "memory");
+    same_bytes(&rt, &written, value.as_bytes(), "written");
 }

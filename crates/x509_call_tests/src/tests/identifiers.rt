@@ -1,13 +1,13 @@
 //! Object identifiers.
 
-use super::checks::{is_so, same, same_bytes};
+use super::checks::{bytes_of, common_name, is_so, same, same_bytes};
 use std::alloc::Global;
 use std::process::Abort;
 use x509_der::{ObjectIdentifier, ObjectIdentifierAsn1, OidError, from_bytes, to_vec};
 
 /// The identifier that the bytes in hexadecimal are read as.
 fn identifier_of(rt: &impl Abort, alloc: Global, text: &str) -> ObjectIdentifier {
-    let bytes = hex::decode(alloc, text).expect(rt, "hexadecimal");
+    let bytes = bytes_of(rt, alloc, text);
     let wrapped = from_bytes::<ObjectIdentifierAsn1, Global>(alloc, &bytes);
     ObjectIdentifier::from(wrapped.expect(rt, text))
 }
@@ -27,11 +27,6 @@ fn arcs_are_as_stated(rt: HostRuntime) {
         let value = identifier_of(&rt, rt.alloc(), *text);
         is_so(&rt, value.is_arcs(&[*first, *second]), *text);
     }
-}
-
-/// The identifier 2.5.4.3.
-fn common_name(rt: &impl Abort, alloc: Global) -> ObjectIdentifier {
-    ObjectIdentifier::from_arcs(alloc, &[2, 5, 4, 3]).expect(rt, "lawful arcs")
 }
 
 #[test]
@@ -61,6 +56,7 @@ fn identifiers_are_wrapped(rt: HostRuntime) {
     let value = ObjectIdentifierAsn1::from(common_name(&rt, alloc));
     let written = to_vec(alloc, &value).expect(&rt, "memory");
     same_bytes(&rt, &written, b"\x06\x03\x55\x04\x03", "written");
+    is_so(&rt, value.0 == common_name(&rt, alloc), "wrapped");
 }
 
 /// What are no object identifier's arcs.

@@ -1,6 +1,7 @@
 //! Calls that take no memory, run with every request refused.
 
 use super::Heap;
+use super::checks::{is_so, same};
 use refusing::Refusing;
 use std::alloc::{AllocError, Allocator};
 use std::process::Abort;
@@ -15,10 +16,10 @@ use x509_prim::{
     PrintableStringAsn1, Utf8String,
 };
 
-/// The answers are as stated, and no request was made since all were refused; none is refused any more.
-fn took_nothing(rt: &impl Abort, heap: Heap<'_>, is_right: bool) {
-    assert!(rt; is_right);
-    assert_eq!(rt; heap.requests(), 0);
+/// The answer is the stated one, and no request was made since all were refused; none is refused any more.
+fn needs_none(rt: &impl Abort, heap: Heap<'_>, what: &str, is_right: bool) {
+    is_so(rt, is_right, what);
+    same(rt, &heap.requests(), &0, what);
     heap.refuse(0);
 }
 
@@ -48,7 +49,7 @@ fn identifiers_are_looked_at(rt: HostRuntime) {
     let heap = Refusing::new(rt.alloc());
     let value = ObjectIdentifier::from_arcs(&heap, &[2, 5, 4, 3]).expect(&rt, "lawful arcs");
     heap.refuse_all();
-    took_nothing(&rt, &heap, identifier_answers(value));
+    needs_none(&rt, &heap, "2.5.4.3", identifier_answers(value));
 }
 
 #[test]
@@ -56,7 +57,7 @@ fn other_arcs_are_bad(rt: HostRuntime) {
     let heap = Refusing::new(rt.alloc());
     heap.refuse_all();
     let refused = ObjectIdentifier::from_arcs(&heap, &[1, 40]).err();
-    took_nothing(&rt, &heap, refused == Some(OidError::Bad));
+    needs_none(&rt, &heap, "1.40", refused == Some(OidError::Bad));
 }
 
 /// The bytes of 128 are taken as a content, and handed out as they are and without the sign.
@@ -82,10 +83,15 @@ fn is_back<T: Drop, A: Allocator>(answer: Result<T, Vec<u8, A>>, bytes: &[u8]) -
 fn numbers_are_looked_at(rt: HostRuntime) {
     let heap = Refusing::new(rt.alloc());
     let minimal = last_bytes(&rt, &heap, b"\x00\x80");
-    took_nothing(&rt, &heap, content_answers(minimal));
+    needs_none(&rt, &heap, "a minimal content", content_answers(minimal));
     let padded = last_bytes(&rt, &heap, b"\x00\x7F");
     let refused = IntegerAsn1::from_signed_content(padded);
-    took_nothing(&rt, &heap, is_back(refused, b"\x00\x7F"));
+    needs_none(
+        &rt,
+        &heap,
+        "a padded content",
+        is_back(refused, b"\x00\x7F"),
+    );
 }
 
 /// A number was made, and is held as these bytes.
@@ -102,10 +108,15 @@ fn numbers_are_cut(rt: HostRuntime) {
     let heap = Refusing::new(rt.alloc());
     let signed = last_bytes(&rt, &heap, b"\xFF\xFF\x7F");
     let number = IntegerAsn1::from_bytes_be_signed(signed);
-    took_nothing(&rt, &heap, is_held(number, b"\xFF\x7F"));
+    needs_none(&rt, &heap, "a signed number", is_held(number, b"\xFF\x7F"));
     let unsigned = last_bytes(&rt, &heap, b"\x00\x00\x7F");
     let number = IntegerAsn1::from_bytes_be_unsigned(unsigned);
-    took_nothing(&rt, &heap, is_held(number, b"\x7F"));
+    needs_none(
+        &rt,
+        &heap,
+        "a number without a sign",
+        is_held(number, b"\x7F"),
+    );
 }
 
 /// Wrapped and unwrapped, cut to twelve bits and changed, sixteen set bits answer as stated.
@@ -121,7 +132,7 @@ fn bits_answer<A: Allocator + Copy>(bytes: Vec<u8, A>) -> bool {
 fn bits_are_cut_and_set(rt: HostRuntime) {
     let heap = Refusing::new(rt.alloc());
     let bytes = last_bytes(&rt, &heap, b"\xFF\xFF");
-    took_nothing(&rt, &heap, bits_answer(bytes));
+    needs_none(&rt, &heap, "bits", bits_answer(bytes));
 }
 
 /// NULL is taken as an element.
@@ -136,22 +147,30 @@ fn null_is_taken<A: Allocator + Copy>(bytes: Vec<u8, A>) -> bool {
 fn raw_elements_are_taken_or_handed_back(rt: HostRuntime) {
     let heap = Refusing::new(rt.alloc());
     let one = last_bytes(&rt, &heap, b"\x05\x00");
-    took_nothing(&rt, &heap, null_is_taken(one));
+    needs_none(&rt, &heap, "one element", null_is_taken(one));
     let two = last_bytes(&rt, &heap, b"\x05\x00\x05\x00");
     let refused = Asn1RawDer::from_vec(two);
-    took_nothing(&rt, &heap, is_back(refused, b"\x05\x00\x05\x00"));
+    needs_none(
+        &rt,
+        &heap,
+        "two elements",
+        is_back(refused, b"\x05\x00\x05\x00"),
+    );
 }
 
-/// What is put together of 2.5.4.3 and an element, or none, has these parameters; NULL is held as none.
-fn is_put_together(rt: &impl Abort, heap: Heap<'_>, element: &[u8], parameters: Option<&[u8]>) {
+/// What is put together of 2.5.4.3 and an element, or of no bytes none, has these parameters; NULL is held as none.
+fn is_put_together(rt: &impl Abort, heap: Heap<'_>, bytes: &[u8], parameters: Option<&[u8]>) {
     let algorithm = ObjectIdentifier::from_arcs(heap, &[2, 5, 4, 3]).expect(rt, "lawful arcs");
-    let element = Asn1RawDer::from_vec(last_bytes(rt, heap, element)).ok();
+    let element = Asn1RawDer::from_vec(last_bytes(rt, heap, bytes)).ok();
+    let is_taken = element.is_none() == bytes.is_empty();
     let value = RawAlgorithmIdentifier::from_parts(algorithm, element);
     let held = value.parameters().map(Asn1RawDer::as_bytes);
-    took_nothing(
+    let are_arcs = value.algorithm().is_arcs(&[2, 5, 4, 3]);
+    needs_none(
         rt,
         heap,
-        held == parameters && value.algorithm().is_arcs(&[2, 5, 4, 3]),
+        "parameters",
+        is_taken && are_arcs && held == parameters,
     );
 }
 
@@ -177,7 +196,7 @@ fn bytes_stay<A: Allocator>(bytes: Vec<u8, A>) -> bool {
 fn values_are_wrapped(rt: HostRuntime) {
     let heap = Refusing::new(rt.alloc());
     let bytes = last_bytes(&rt, &heap, b"octets");
-    took_nothing(&rt, &heap, bytes_stay(bytes));
+    needs_none(&rt, &heap, "wrapped", bytes_stay(bytes));
 }
 
 /// The letter a is printable, and the same when it is wrapped.
@@ -192,13 +211,13 @@ fn printable_answers<A: Allocator + Copy>(made: Result<PrintableString<A>, CharS
 fn printable_strings_are_made(rt: HostRuntime) {
     let heap = Refusing::new(rt.alloc());
     let made = PrintableString::from_string(last_text(&rt, &heap, "a"));
-    took_nothing(&rt, &heap, printable_answers(made));
+    needs_none(&rt, &heap, "a text", printable_answers(made));
     let made = PrintableString::from_bytes(last_bytes(&rt, &heap, b"a"));
-    took_nothing(&rt, &heap, printable_answers(made));
+    needs_none(&rt, &heap, "bytes", printable_answers(made));
     let star = PrintableString::from_string(last_text(&rt, &heap, "a*"));
-    took_nothing(&rt, &heap, star.is_err());
+    needs_none(&rt, &heap, "a text with a star", star.is_err());
     let star = PrintableString::from_bytes(last_bytes(&rt, &heap, b"a*"));
-    took_nothing(&rt, &heap, star.is_err());
+    needs_none(&rt, &heap, "bytes with a star", star.is_err());
 }
 
 /// An asterisk is a character of IA5, and the same when it is wrapped and unwrapped.
@@ -216,13 +235,13 @@ fn ia5_answers<A: Allocator + Copy>(made: Result<Ia5String<A>, CharSetError>) ->
 fn ia5_strings_are_made(rt: HostRuntime) {
     let heap = Refusing::new(rt.alloc());
     let made = Ia5String::from_string(last_text(&rt, &heap, "a*"));
-    took_nothing(&rt, &heap, ia5_answers(made));
+    needs_none(&rt, &heap, "a text", ia5_answers(made));
     let made = Ia5String::from_bytes(last_bytes(&rt, &heap, b"a*"));
-    took_nothing(&rt, &heap, ia5_answers(made));
+    needs_none(&rt, &heap, "bytes", ia5_answers(made));
     let accent = Ia5String::from_string(last_text(&rt, &heap, "\u{E9}"));
-    took_nothing(&rt, &heap, accent.is_err());
+    needs_none(&rt, &heap, "a text with an accent", accent.is_err());
     let accent = Ia5String::from_bytes(last_bytes(&rt, &heap, b"\xC3\xA9"));
-    took_nothing(&rt, &heap, accent.is_err());
+    needs_none(&rt, &heap, "bytes with an accent", accent.is_err());
 }
 
 /// Half of a pair is kept, and the same when it is wrapped.
@@ -237,9 +256,9 @@ fn units_answer<A: Allocator + Copy>(made: Result<BmpString<A>, CharSetError>) -
 fn bmp_strings_are_made(rt: HostRuntime) {
     let heap = Refusing::new(rt.alloc());
     let made = BmpString::from_bytes(last_bytes(&rt, &heap, b"\xD8\x3D"));
-    took_nothing(&rt, &heap, units_answer(made));
+    needs_none(&rt, &heap, "half of a pair", units_answer(made));
     let odd = BmpString::from_bytes(last_bytes(&rt, &heap, b"abc"));
-    took_nothing(&rt, &heap, odd.is_err());
+    needs_none(&rt, &heap, "an odd byte", odd.is_err());
 }
 
 /// A text is a UTF-8 string, and comes back from it.
@@ -253,5 +272,5 @@ fn text_answers<A: Allocator + Copy>(text: String<A>) -> bool {
 fn utf8_strings_are_made(rt: HostRuntime) {
     let heap = Refusing::new(rt.alloc());
     let text = last_text(&rt, &heap, "*\u{E9}");
-    took_nothing(&rt, &heap, text_answers(text));
+    needs_none(&rt, &heap, "a text", text_answers(text));
 }

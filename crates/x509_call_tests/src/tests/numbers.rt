@@ -1,6 +1,6 @@
 //! Truth values and integers.
 
-use super::checks::same_bytes;
+use super::checks::{bytes_of, same_bytes};
 use std::alloc::Global;
 use x509_der::{IntegerAsn1, from_bytes, to_vec};
 
@@ -33,8 +33,8 @@ const SIGNED: &[(&str, &str)] = &[
 #[test]
 fn signed_numbers_are_made_minimal(rt: HostRuntime) {
     for (given, held) in SIGNED {
-        let bytes = hex::decode(rt.alloc(), *given).expect(&rt, "hexadecimal");
-        let stated = hex::decode(rt.alloc(), *held).expect(&rt, "hexadecimal");
+        let bytes = bytes_of(&rt, rt.alloc(), *given);
+        let stated = bytes_of(&rt, rt.alloc(), *held);
         let number = IntegerAsn1::from_bytes_be_signed(bytes).expect(&rt, "memory");
         same_bytes(&rt, number.as_bytes(), &stated, *given);
     }
@@ -52,9 +52,9 @@ const UNSIGNED: &[(&str, &str, &str)] = &[
 #[test]
 fn unsigned_numbers_are_made_minimal(rt: HostRuntime) {
     for (given, held, digits) in UNSIGNED {
-        let bytes = hex::decode(rt.alloc(), *given).expect(&rt, "hexadecimal");
-        let held = hex::decode(rt.alloc(), *held).expect(&rt, "hexadecimal");
-        let digits = hex::decode(rt.alloc(), *digits).expect(&rt, "hexadecimal");
+        let bytes = bytes_of(&rt, rt.alloc(), *given);
+        let held = bytes_of(&rt, rt.alloc(), *held);
+        let digits = bytes_of(&rt, rt.alloc(), *digits);
         let number = IntegerAsn1::from_bytes_be_unsigned(bytes).expect(&rt, "memory");
         same_bytes(&rt, number.as_bytes(), &held, *given);
         same_bytes(&rt, number.as_unsigned_bytes_be(), &digits, *given);

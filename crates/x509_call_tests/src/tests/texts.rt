@@ -1,6 +1,6 @@
 //! Printable, IA5 and BMP strings.
 
-use super::checks::{is_so, same_bytes};
+use super::checks::{bytes_of, is_so, same_bytes};
 use x509_prim::{BmpString, Ia5String, Ia5StringAsn1, PrintableString};
 
 /// The characters of PrintableString (X.680, 41.4, table 10).
@@ -58,7 +58,7 @@ const UNITS: &[(&str, &str)] = &[
 fn units_of_texts(rt: HostRuntime) {
     let alloc = rt.alloc();
     for (text, units) in UNITS {
-        let units = hex::decode(alloc, *units).expect(&rt, "hexadecimal");
+        let units = bytes_of(&rt, alloc, *units);
         let string = BmpString::from_string(alloc, *text).expect(&rt, "memory");
         same_bytes(&rt, string.as_bytes(), &units, *text);
         let same = BmpString::from_bytes(units).ok().expect(&rt, "units");

@@ -1,6 +1,6 @@
 //! Times.
 
-use super::checks::{is_so, same, same_bytes};
+use super::checks::{bytes_of, is_so, same, same_bytes};
 use refusing::Refusing;
 use std::alloc::Global;
 use x509_der::{from_bytes, to_vec};
@@ -41,7 +41,7 @@ const UTC_TIMES: &[(&str, Numbers)] = &[
 fn utc_times(rt: HostRuntime) {
     let alloc = rt.alloc();
     for (spelling, numbers) in UTC_TIMES {
-        let bytes = hex::decode(alloc, *spelling).expect(&rt, "hexadecimal");
+        let bytes = bytes_of(&rt, alloc, *spelling);
         let read = from_bytes::<UtcTimeAsn1, Global>(alloc, &bytes).expect(&rt, "a time");
         same(&rt, &numbers_of_utc(&read.0), numbers, *spelling);
         let made = UtcTimeAsn1::from(utc_time(*numbers).expect(&rt, "a time"));
@@ -74,6 +74,8 @@ const GENERALIZED_TIMES: &[(&str, Numbers)] = &[
         "180f32303030303232393132333435365a",
         (2000, 2, 29, 12, 34, 56),
     ),
+    // 16000229000000Z
+    ("180f31363030303232393030303030305a", (1600, 2, 29, 0, 0, 0)),
     // 19000228235959Z
     (
         "180f31393030303232383233353935395a",
@@ -95,7 +97,7 @@ const GENERALIZED_TIMES: &[(&str, Numbers)] = &[
 fn generalized_times(rt: HostRuntime) {
     let alloc = rt.alloc();
     for (spelling, numbers) in GENERALIZED_TIMES {
-        let bytes = hex::decode(alloc, *spelling).expect(&rt, "hexadecimal");
+        let bytes = bytes_of(&rt, alloc, *spelling);
         let read = from_bytes::<GeneralizedTimeAsn1, Global>(alloc, &bytes).expect(&rt, "a time");
         same(&rt, &numbers_of_generalized(&read.0), numbers, *spelling);
         let made = GeneralizedTimeAsn1::from(generalized_time(*numbers).expect(&rt, "a time"));
@@ -148,8 +150,9 @@ fn generalized_times_are_made_of_lawful_numbers(rt: HostRuntime) {
 /// A second, and the next.
 const SECONDS: (Numbers, Numbers) = ((2000, 2, 29, 0, 0, 0), (2000, 2, 29, 0, 0, 1));
 
+/// No request is made: none of these calls has an allocator to ask.
 #[test]
-fn utc_times_are_made_and_wrapped_without_memory(rt: HostRuntime) {
+fn utc_times_are_wrapped(rt: HostRuntime) {
     let heap = Refusing::new(rt.alloc());
     heap.refuse_all();
     let time = utc_time(SECONDS.0).expect(&rt, "a time");
@@ -158,8 +161,9 @@ fn utc_times_are_made_and_wrapped_without_memory(rt: HostRuntime) {
     same(&rt, &heap.requests(), &0, "requests");
 }
 
+/// No request is made: none of these calls has an allocator to ask.
 #[test]
-fn generalized_times_are_made_and_wrapped_without_memory(rt: HostRuntime) {
+fn generalized_times_are_wrapped(rt: HostRuntime) {
     let heap = Refusing::new(rt.alloc());
     heap.refuse_all();
     let time = generalized_time(SECONDS.0).expect(&rt, "a time");

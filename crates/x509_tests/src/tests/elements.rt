@@ -1,6 +1,6 @@
 //! NULL, raw elements, and what no type reads.
 
-use super::rows::{Heap, Table, all_hold, headers_of, refuses};
+use super::rows::{Heap, Table, all_hold, bytes_of, headers_of, refuses};
 use refusing::Refusing;
 use std::process::Abort;
 use x509_der::{Asn1RawDer, FromDer, ObjectIdentifierAsn1};
@@ -43,9 +43,10 @@ const HOSTILE: &[(&str, usize)] = &[
 /// Hostile lengths are refused, with few headers.
 fn hostile<'h, T: FromDer<Heap<'h>>>(rt: &impl Abort, heap: Heap<'h>) {
     for (text, most) in HOSTILE {
-        let bytes = hex::decode(heap, *text).expect(rt, "hexadecimal");
+        let bytes = bytes_of(rt, heap, *text);
         refuses::<T>(rt, heap, &bytes);
-        assert!(rt; headers_of::<T>(heap, &bytes) <= *most, "headers of {text}");
+        let headers = headers_of::<T>(heap, &bytes);
+        assert!(rt; headers <= *most, "{headers} headers of {text}");
     }
 }
 

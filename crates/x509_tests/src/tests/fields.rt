@@ -65,12 +65,7 @@ fn content_of(input: &[u8], start: usize) -> Option<(usize, usize)> {
 }
 
 /// The element with a tag around a content of at most 65535 bytes, by hand: stated bytes never come from the library.
-pub(super) fn element<'h>(
-    rt: &impl Abort,
-    heap: Heap<'h>,
-    tag: u8,
-    content: &[u8],
-) -> Vec<u8, Heap<'h>> {
+fn element<'h>(rt: &impl Abort, heap: Heap<'h>, tag: u8, content: &[u8]) -> Vec<u8, Heap<'h>> {
     let len = u16::try_from(content.len()).expect(rt, "a short content");
     let whole = match len.to_be_bytes() {
         [0, low @ 0..=127] => Vec::from_slice(heap, &[tag, low]),

@@ -4,7 +4,7 @@ use super::rows::{Heap, Table, all_hold};
 use refusing::Refusing;
 use x509_der::ObjectIdentifierAsn1;
 
-const ROWS: Table<'static> = Table {
+const IDENTIFIERS: Table<'static> = Table {
     strict: &[
         ("06028837", 1),
         ("060a81ffffffffffffffff7f", 1),
@@ -32,5 +32,5 @@ const ROWS: Table<'static> = Table {
 #[test]
 fn rows_hold(rt: HostRuntime) {
     let heap = Refusing::new(rt.alloc());
-    all_hold::<ObjectIdentifierAsn1<Heap<'_>>>(&rt, &heap, &ROWS);
+    all_hold::<ObjectIdentifierAsn1<Heap<'_>>>(&rt, &heap, &IDENTIFIERS);
 }

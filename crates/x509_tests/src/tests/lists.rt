@@ -25,26 +25,15 @@ const TWO_INTEGERS: &[Field<'static>] = &[
     },
 ];
 
-const TWO_SEQUENCES: &[Row<'static>] = &[
-    Row {
-        input: "3000",
-        strict: "3000",
-        places: &[],
-        headers: 1,
-        fields: &[],
-    },
-    Row {
+const SEQUENCES: Table<'static> = Table {
+    strict: &[("3000", 1)],
+    rows: &[Row {
         input: "3006020101020102",
         strict: "3006020101020102",
         places: &[],
         headers: 3,
         fields: TWO_INTEGERS,
-    },
-];
-
-const SEQUENCES: Table<'static> = Table {
-    strict: &[],
-    rows: TWO_SEQUENCES,
+    }],
     refused: &["30050201010201", "3100", "3003010100"],
 };
 
@@ -158,8 +147,8 @@ fn headers_before_a_fault_are_counted(rt: HostRuntime) {
     refuses::<Asn1SequenceOf<Asn1SetOf<u8, Heap<'_>>, Heap<'_>>>(&rt, &heap, &cut);
 }
 
-/// The items' deviations are placed from the input's start; an item that is refused stands behind one with a place. Five items and five places need more room than the least that a
-/// `Vec` takes.
+/// The items' deviations are placed from the input's start; an item that is refused stands behind one with a place. Five items
+/// and five places need more room than the least that a `Vec` takes.
 const ITEMS_WITHOUT_PARAMETERS: Table<'static> = Table {
     strict: &[],
     rows: &[

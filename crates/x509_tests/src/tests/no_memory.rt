@@ -1,6 +1,6 @@
 //! Types whose values take no memory, read with every request refused.
 
-use super::rows::{Heap, READINGS, read_by};
+use super::rows::{Heap, READINGS, bytes_of, read_by};
 use refusing::Refusing;
 use std::process::Abort;
 use x509_der::{FromDer, ReadError};
@@ -13,7 +13,7 @@ fn reads<'h, T: FromDer<Heap<'h>>>(
     text: &str,
     refusal: Option<ReadError>,
 ) {
-    let bytes = hex::decode(heap, text).expect(rt, "hexadecimal");
+    let bytes = bytes_of(rt, heap, text);
     heap.refuse_all();
     for reading in READINGS {
         let refused = read_by::<T>(*reading, heap, &bytes).err();

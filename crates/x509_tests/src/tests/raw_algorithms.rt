@@ -1,7 +1,7 @@
 //! Algorithm identifiers whose parameters are any element.
 
 use super::fields::{ANY, Field};
-use super::rows::{Heap, Row, Table, all_hold};
+use super::rows::{Heap, Row, Table, all_hold, reads_in_turn};
 use refusing::Refusing;
 use x509_der::Deviation;
 use x509_keys::RawAlgorithmIdentifier;
@@ -59,7 +59,7 @@ const ROWS: &[Row<'static>] = &[
     },
 ];
 
-const TABLE: Table<'static> = Table {
+const ALGORITHMS: Table<'static> = Table {
     strict: &[],
     rows: ROWS,
     refused: &[
@@ -75,5 +75,15 @@ const TABLE: Table<'static> = Table {
 #[test]
 fn rows_hold(rt: HostRuntime) {
     let heap = Refusing::new(rt.alloc());
-    all_hold::<RawAlgorithmIdentifier<Heap<'_>>>(&rt, &heap, &TABLE);
+    all_hold::<RawAlgorithmIdentifier<Heap<'_>>>(&rt, &heap, &ALGORITHMS);
+}
+
+/// Any element comes second, whatever its content is: also where that is none of its type.
+#[test]
+fn any_element_comes_second(rt: HostRuntime) {
+    let heap = Refusing::new(rt.alloc());
+    for tag in ANY {
+        let bytes = [0x30, 0x06, 0x06, 0x01, 0x2A, *tag, 0x01, 0x00];
+        reads_in_turn::<RawAlgorithmIdentifier<Heap<'_>>>(&rt, &heap, &bytes, &bytes);
+    }
 }

@@ -46,11 +46,16 @@ pub struct Table<'a> {
     pub refused: &'a [&'a str],
 }
 
+/// What the text spells in hexadecimal.
+pub(super) fn bytes_of<'h>(rt: &impl Abort, heap: Heap<'h>, text: &str) -> Vec<u8, Heap<'h>> {
+    hex::decode(heap, text).expect(rt, text)
+}
+
 /// The row is read and written as it says, also where memory is refused, no front of it is read, and its neighbours are
 /// treated as the laws say.
 fn is_coded<'h, T: FromDer<Heap<'h>>>(rt: &impl Abort, heap: Heap<'h>, row: &Row<'_>) {
-    let input = hex::decode(heap, row.input).expect(rt, "hexadecimal");
-    let strict = hex::decode(heap, row.strict).expect(rt, "hexadecimal");
+    let input = bytes_of(rt, heap, row.input);
+    let strict = bytes_of(rt, heap, row.strict);
     reads::<T>(rt, heap, &input, row);
     reads_in_turn::<T>(rt, heap, &input, &strict);
     writes::<T>(rt, heap, &input, &strict);
@@ -133,7 +138,7 @@ fn meters<'h, T: FromDer<Heap<'h>>>(
 ) {
     let (metered, headers) = read_metered::<T, _>(heap, input);
     let (_value, again) = metered.expect(rt, row.input);
-    assert!(rt; again == deviations);
+    assert!(rt; again == deviations, "in {}", row.input);
     assert!(rt;
         headers == row.headers,
         "{headers} headers of {}",
@@ -282,10 +287,14 @@ pub(super) fn writes<'h, T: FromDer<Heap<'h>>>(
 fn fills<T: ToDer>(rt: &impl Abort, value: &T, strict: &[u8], room: &mut [u8]) {
     let short = room.get_mut(1..strict.len()).expect(rt, "room");
     let refused = write_to_slice(value, short) == Err(SliceError::TooShort);
+    assert!(rt; refused, "{strict:?}");
     for byte in short.iter() {
-        assert!(rt; refused && *byte == 0xEE);
+        assert!(rt; *byte == 0xEE, "{strict:?}");
     }
-    assert!(rt; write_to_slice(value, room) == Ok(strict.len()));
+    assert!(rt;
+        write_to_slice(value, room) == Ok(strict.len()),
+        "{strict:?}"
+    );
     assert!(rt; room.starts_with(strict) && room.ends_with(&[0xEE; 6]));
 }
 
@@ -317,10 +326,10 @@ fn copies<'h, T: FromDer<Heap<'h>> + OwnClone + PartialEq>(
     heap: Heap<'h>,
     text: &str,
 ) {
-    let input = hex::decode(heap, text).expect(rt, "hexadecimal");
-    let value = from_bytes::<T, _>(heap, &input).expect(rt, "a value");
-    let before = from_bytes::<T, _>(heap, &input).expect(rt, "a value");
-    copies_agree(rt, heap, &value, &before);
+    let input = bytes_of(rt, heap, text);
+    let value = from_bytes::<T, _>(heap, &input).expect(rt, text);
+    let before = from_bytes::<T, _>(heap, &input).expect(rt, text);
+    copies_agree(rt, heap, &value, &before, text);
 }
 
 /// Both clones make as many requests.
@@ -329,10 +338,11 @@ fn copies_agree<'v, T: OwnClone + PartialEq>(
     heap: Heap<'_>,
     value: &'v T,
     before: &'v T,
+    text: &str,
 ) {
     let requests = copies_in_turn(heap, value, before);
     let own = clones_in_turn(heap, value, before);
-    assert!(rt; requests.is_some() && own == requests);
+    assert!(rt; requests.is_some() && own == requests, "{text}");
 }
 
 /// What a run showed that should be refused for what stands there.
@@ -365,7 +375,7 @@ pub(super) fn headers_of<'h, T: FromDer<Heap<'h>>>(heap: Heap<'h>, input: &[u8])
 /// Each of these, in hexadecimal, is refused by every call.
 fn all_refused<'h, T: FromDer<Heap<'h>>>(rt: &impl Abort, heap: Heap<'h>, texts: &[&str]) {
     for text in texts {
-        let input = hex::decode(heap, *text).expect(rt, "hexadecimal");
+        let input = bytes_of(rt, heap, *text);
         refuses::<T>(rt, heap, &input);
     }
 }

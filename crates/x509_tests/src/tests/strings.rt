@@ -1,18 +1,19 @@
 //! Octet strings and bit strings.
 
-use super::rows::{Heap, Table, all_hold, reads_in_turn, refuses, writes};
+use super::rows::{Heap, Table, all_hold, bytes_of, reads_in_turn, refuses, writes};
 use refusing::Refusing;
 use std::process::Abort;
 use x509_der::{BitStringAsn1, OctetStringAsn1, encoded_len, to_vec};
 
 /// So many octets are written behind these bytes in hexadecimal, and read back.
 fn begins<'h>(rt: &impl Abort, heap: Heap<'h>, count: usize, head: &str, whole: usize) {
-    let head = hex::decode(heap, head).expect(rt, "hexadecimal");
+    let head = bytes_of(rt, heap, head);
     let octets = Vec::from_elem(heap, 0xA5u8, count).expect(rt, "memory");
     let value = OctetStringAsn1(octets);
     assert!(rt; encoded_len(&value) == Ok(whole), "{count}");
     let written = to_vec(heap, &value).expect(rt, "memory");
-    assert!(rt; written.as_slice().starts_with(&head), "{count}");
+    let is_headed = written.as_slice().starts_with(&head);
+    assert!(rt; is_headed && written.len() == whole, "{count}");
     reads_in_turn::<OctetStringAsn1<Heap<'h>>>(rt, heap, &written, &written);
     writes::<OctetStringAsn1<Heap<'h>>>(rt, heap, &written, &written);
 }
@@ -37,7 +38,7 @@ fn octets_of_each_length(rt: HostRuntime) {
 
 /// These bytes in hexadecimal are refused with up to so many octets behind them.
 fn refuses_head<'h>(rt: &impl Abort, heap: Heap<'h>, head: &str, most: usize) {
-    let mut bytes = hex::decode(heap, head).expect(rt, "hexadecimal");
+    let mut bytes = bytes_of(rt, heap, head);
     for _count in 0..most {
         refuses::<OctetStringAsn1<Heap<'h>>>(rt, heap, &bytes);
         bytes.push(0).expect(rt, "memory");

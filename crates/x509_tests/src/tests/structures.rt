@@ -7,8 +7,18 @@ use refusing::Refusing;
 use x509_der_structures::{Contact, Mark, Optionals, Preference};
 
 const CHOICES: Table<'static> = Table {
-    strict: &[("0101ff", 1), ("020105", 1), ("a003020105", 2)],
-    rows: &[],
+    strict: &[("0101ff", 1), ("020105", 1)],
+    rows: &[Row {
+        input: "a003020105",
+        strict: "a003020105",
+        places: &[],
+        headers: 2,
+        fields: &[Field {
+            around: &[0],
+            start: 2,
+            tags: &[0x02],
+        }],
+    }],
     refused: &["0400", "a103020105", "a0050201050500", "a000"],
 };
 
@@ -21,11 +31,20 @@ fn choices(rt: HostRuntime) {
 const OPTIONAL_FIELDS: Table<'static> = Table {
     strict: &[
         ("3000", 1),
-        ("3005a003020105", 3),
         ("30048202a1b2", 2),
         ("300ea003020105a1030101ff8202a1b2", 6),
     ],
-    rows: &[],
+    rows: &[Row {
+        input: "3005a003020105",
+        strict: "3005a003020105",
+        places: &[],
+        headers: 3,
+        fields: &[Field {
+            around: &[0, 2],
+            start: 4,
+            tags: &[0x02],
+        }],
+    }],
     refused: &[
         "300aa1030101ffa003020105",
         "300aa003020105a003020105",
@@ -40,14 +59,27 @@ fn optional_fields(rt: HostRuntime) {
     all_coded::<Optionals<Heap<'_>>>(&rt, &heap, &OPTIONAL_FIELDS);
 }
 
-/// The identifiers 1.2.3 and 1.2.4 ask for a value, 1.2.5 for none, and 1.2.6 isn't known.
+/// The identifiers 1.2.3 and 1.2.4 ask for a value, 1.2.5 for none, and 1.2.6 and 1.2 aren't known.
 const PREFERENCES: Table<'static> = Table {
-    strict: &[
-        ("300706022a030101ff", 3),
-        ("300706022a04020105", 3),
-        ("300406022a05", 2),
-    ],
-    rows: &[],
+    strict: &[("300706022a04020105", 3), ("300406022a05", 2)],
+    rows: &[Row {
+        input: "300706022a030101ff",
+        strict: "300706022a030101ff",
+        places: &[],
+        headers: 3,
+        fields: &[
+            Field {
+                around: &[0],
+                start: 2,
+                tags: &[],
+            },
+            Field {
+                around: &[0],
+                start: 6,
+                tags: &[0x01],
+            },
+        ],
+    }],
     refused: &[
         "300706022a06020105",
         "300406022a06",

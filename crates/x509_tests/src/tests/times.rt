@@ -1,6 +1,6 @@
 //! Times.
 
-use super::rows::{Heap, Table, all_hold};
+use super::rows::{Table, all_hold};
 use refusing::Refusing;
 use x509_prim::{GeneralizedTimeAsn1, UtcTimeAsn1};
 
