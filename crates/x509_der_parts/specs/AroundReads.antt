@@ -4,7 +4,7 @@ use Rattle.std.proofs.lemmas.List.{append_cancel_left, length-map}
 use Rattle.x509_der_parts.specs.Element.{element, header}
 use Rattle.x509_der_parts.specs.ElementFacts.{element_one, element_length, header_long}
 use Rattle.x509_der_parts.specs.Tally.{Tally, inside, moved}
-use Rattle.x509_der_parts.specs.TallyFacts.{inside_headers}
+use Rattle.x509_der_parts.specs.TallyFacts.{inside_headers, inside_is_clean}
 use Rattle.x509_der_parts.specs.Shape.{Shape, Lawful}
 use Rattle.x509_der_parts.specs.Around.{OwesInside, around}
 use Rattle.x509_der_parts.specs.Reading.{Cursor, Ready, Accepts, Refuses, Entered, Leaves}
@@ -52,7 +52,7 @@ module _ {V : Type 0} (t : ℕ) (s : Shape V) (l : Lawful s) where
     grows = omega arith;
     bound = omega arith;
     owes = λ m i j. ⊎_elim (λ k. omega (arith, k)) (λ k. absurd (n k.content k.after k.bytes)) j;
-    none = λ m w p q z b g f. n b.content q (g ∙ ap (λ x. x ++ q) b.bytes);
+    none = λ w p q z b g f. absurd (n b.content q (g ∙ ap (λ x. x ++ q) b.bytes));
   }
 
   -- its content is refused
@@ -62,9 +62,10 @@ module _ {V : Type 0} (t : ℕ) (s : Shape V) (l : Lawful s) where
     grows = omega (arith, a.grows, n.headers);
     bound = omega (arith, a.bound, n.headers, ap length n.bytes, length-append (element t inner.rest) after, element_length t inner.rest, header_long inner.rest);
     owes = λ m i j. ⊎_elim (λ k. omega (arith, k, a.grows, n.headers)) (λ k. let h2 = a.owes m k.inner (inner_least old inner after i n k) in omega (arith, h2, k.sum, n.headers)) j;
-    none = λ m w p q z b g f.
+    none = λ w p q z b g f.
         let k1 = element_one t t inner.rest b.content after q (sym n.bytes ∙ g ∙ ap (λ x. x ++ q) b.bytes) in
-        a.none m w b.content [] b.part b.spelled (k1.content ∙ sym (append-nil b.content)) tt;
+        let o = a.none w b.content [] b.part b.spelled (k1.content ∙ sym (append-nil b.content)) tt in
+        record { memory = o.memory; marked = λ i c. o.marked i (inside_is_clean (header b.content) b.part z b.tally c) };
   }
 
   -- bytes are left over in its content
@@ -76,9 +77,9 @@ module _ {V : Type 0} (t : ℕ) (s : Shape V) (l : Lawful s) where
         grows = omega (arith, m.headers, n.headers);
         bound = omega (arith, m.headers, n.headers, l.cost v a.bytes a.tally a.spelled, ap length m.rest, length-append a.bytes end.rest, ap length n.bytes, length-append (element t inner.rest) after, element_length t inner.rest, header_long inner.rest);
         owes = λ x i j. ⊎_elim (λ k. omega (arith, k, m.headers, n.headers)) (λ k. let h2 = a.owes k.inner (inner_least old inner after i n k) in omega (arith, h2, k.sum, m.headers, n.headers)) j;
-        none = λ x w p q z b g f.
+        none = λ w p q z b g f.
             let k1 = element_one t t inner.rest b.content after q (sym n.bytes ∙ g ∙ ap (λ x. x ++ q) b.bytes) in
             let o = a.only w b.content [] b.part b.spelled (k1.content ∙ sym (append-nil b.content)) tt in
             let e1 : a.bytes ++ end.rest ≡ a.bytes ++ [] = sym m.rest ∙ k1.content ∙ o.bytes ∙ sym (append-nil a.bytes) in
-            more (append_cancel_left a.bytes end.rest [] e1);
+            absurd (more (append_cancel_left a.bytes end.rest [] e1));
       }

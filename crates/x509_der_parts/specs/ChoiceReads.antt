@@ -59,9 +59,9 @@ module _ {V W : Type 0} (a : Shape V) (b : Shape W) (la : Lawful a) (lb : Lawful
     bound = i.bound;
     spares = λ f. i.spares f.0;
     owes = λ m n. elim [ inl z ↦ omega (arith, z, i.grows) | inr (inl k) ↦ i.owes m n k.1 | inr (inr k) ↦ absurd (not_both_begun a.starts b.starts old.rest apart h k.0) ];
-    none = λ m. elim [
-      | inl w ↦ λ p q z j g f. i.none m w p q z j g (follows_left a.avoids b.avoids q f)
-      | inr w ↦ λ p q z j g f. not_both_begun a.starts b.starts old.rest apart h (begun_right w p q old.rest z j g)
+    none = elim [
+      | inl w ↦ λ p q z j g f. let o = i.none w p q z j g (follows_left a.avoids b.avoids q f) in record { memory = o.memory; marked = λ t. o.marked t.0 }
+      | inr w ↦ λ p q z j g f. absurd (not_both_begun a.starts b.starts old.rest apart h (begun_right w p q old.rest z j g))
     ];
   }
 
@@ -71,9 +71,9 @@ module _ {V W : Type 0} (a : Shape V) (b : Shape W) (la : Lawful a) (lb : Lawful
     bound = i.bound;
     spares = λ f. i.spares f.1;
     owes = λ m n. elim [ inl z ↦ omega (arith, z, i.grows) | inr (inl k) ↦ absurd (not_both_begun a.starts b.starts old.rest apart k.0 h) | inr (inr k) ↦ i.owes m n k.1 ];
-    none = λ m. elim [
-      | inl v ↦ λ p q z j g f. not_both_begun a.starts b.starts old.rest apart (begun_left v p q old.rest z j g) h
-      | inr w ↦ λ p q z j g f. i.none m w p q z j g (follows_right a.avoids b.avoids q f)
+    none = elim [
+      | inl v ↦ λ p q z j g f. absurd (not_both_begun a.starts b.starts old.rest apart (begun_left v p q old.rest z j g) h)
+      | inr w ↦ λ p q z j g f. let o = i.none w p q z j g (follows_right a.avoids b.avoids q f) in record { memory = o.memory; marked = λ t. o.marked t.1 }
     ];
   }
 
@@ -83,9 +83,9 @@ module _ {V W : Type 0} (a : Shape V) (b : Shape W) (la : Lawful a) (lb : Lawful
     bound = omega arith;
     spares = λ f p. nm;
     owes = λ m n. elim [ inl z ↦ omega (arith, z) | inr (inl i) ↦ absurd (not_begun a.starts old.rest h i.0) | inr (inr i) ↦ absurd (not_begun b.starts old.rest k i.0) ];
-    none = λ m. elim [
-      | inl v ↦ λ p q z j g f. not_begun a.starts old.rest h (begun_left v p q old.rest z j g)
-      | inr w ↦ λ p q z j g f. not_begun b.starts old.rest k (begun_right w p q old.rest z j g)
+    none = elim [
+      | inl v ↦ λ p q z j g f. absurd (not_begun a.starts old.rest h (begun_left v p q old.rest z j g))
+      | inr w ↦ λ p q z j g f. absurd (not_begun b.starts old.rest k (begun_right w p q old.rest z j g))
     ];
   }
 

@@ -1,5 +1,5 @@
 -- Reading a content that has no elements in it, up to its end; and an element whose content isn't looked into.
-use Rattle.std.proofs.Common.{◌≡◌, ℕ, ◌+◌, false, List, ◌++◌, length, sum, refl, sym, ap, ◌∙◌, arith, append-nil, length-append}
+use Rattle.std.proofs.Common.{◌≡◌, ℕ, ◌+◌, false, ◌⊎◌, inl, inr, ⊎_elim, List, ◌++◌, length, sum, refl, sym, ap, ◌∙◌, arith, append-nil, length-append}
 use Rattle.x509_der_parts.specs.Tally.{none}
 use Rattle.x509_der_parts.specs.Contents.{ends, plain, IsPlain}
 use Rattle.x509_der_parts.specs.Raw.{Raw, raws, raws_lawful, one_header, follows_free}
@@ -7,6 +7,10 @@ use Rattle.x509_der_parts.specs.Reading.{Cursor, Ready, Moved, Accepts, Refuses,
 use Rattle.x509_der_parts.specs.Moving.{placed_none, ready_after}
 use Rattle.x509_der_parts.specs.declared.errors.ReadError.{ReadError}
 use Rattle.x509_der_parts.specs.declared.errors.ReadError.TheVariants.{OutOfMemory}
+
+memory_or_not : (e : ReadError) → (e ≡ OutOfMemory) ⊎ (e ≡ OutOfMemory → ⊥)
+memory_or_not OutOfMemory = inl refl
+memory_or_not _ = inr (λ h. cc)
 
 moved_rest : (old new : Cursor) (c : List ℕ) → TakesRest old new c → Moved old new old.rest none
 unfolding none
@@ -41,9 +45,10 @@ module _ {V : Type 0} (Is : V → List ℕ → Type 0) (of : V → List ℕ) (Ok
     grows = omega (arith, t.headers);
     bound = omega (arith, t.headers);
     owes = λ m k z. omega (arith, z, t.headers);
-    none = λ m w p q z b g f.
+    none = λ w p q z b g f.
         let e2 : c ≡ p = t.all ∙ g ∙ ap (λ x. p ++ x) (ends q f) ∙ append-nil p in
-        n m w (rw e2 b.0);
+        let m = ⊎_elim (λ h. h) (λ h. absurd (n h w (rw e2 b.0))) (memory_or_not e) in
+        record { memory = m; marked = λ i d. frugal i m };
   }
 
 pub raw_accepts : (old new : Cursor) (v p : List ℕ) → Ready old → RawTaken old new p → v ≡ p → new.headers ≡ old.headers + 1 → new.counts ≡ old.counts → new.at + length new.rest ≡ old.at + length old.rest → new.places ≡ old.places → Accepts raws old new v

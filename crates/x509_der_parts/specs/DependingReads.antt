@@ -3,6 +3,7 @@ use Rattle.std.proofs.Common.{◌≡◌, ℕ, Bool, ◌++◌, length, refl, subs
 use Rattle.std.proofs.lemmas.List.{append_cancel_left}
 use Rattle.x509_der_parts.specs.Lists.{behind}
 use Rattle.x509_der_parts.specs.Tally.{joined}
+use Rattle.x509_der_parts.specs.TallyFacts.{joined_is_clean}
 use Rattle.x509_der_parts.specs.Shape.{Shape, Lawful}
 use Rattle.x509_der_parts.specs.Depending.{depending, IsFamily, KeyApart, behind_key, behind_value}
 use Rattle.x509_der_parts.specs.Reading.{Cursor, Accepts, Refuses}
@@ -39,7 +40,9 @@ module _ {X K W : Type 0} (key : X → K) (value : X → W) (whole : (x y : X) �
     grows = i.grows;
     bound = i.bound;
     owes = λ m n z. omega (arith, z, i.grows);
-    none = λ m w p q z k g f. i.none m (key w) k.front (k.back ++ q) k.first k.fore (g ∙ behind p k.front k.back q k.bytes) (behind_key key value whole a shapes begins ends la family apart (key w) (value w) k.back q k.second k.aft f);
+    none = λ w p q z k g f.
+        let o = i.none (key w) k.front (k.back ++ q) k.first k.fore (g ∙ behind p k.front k.back q k.bytes) (behind_key key value whole a shapes begins ends la family apart (key w) (value w) k.back q k.second k.aft f) in
+        record { memory = o.memory; marked = λ t d. o.marked t.0 (joined_is_clean (length k.front) k.first k.second z k.tally d).0 };
   }
 
   -- the value is refused by the key's shape
@@ -51,9 +54,10 @@ module _ {X K W : Type 0} (key : X → K) (value : X → W) (whole : (x y : X) �
         grows = omega (arith, m.headers, j.grows);
         bound = omega (arith, m.headers, j.bound, la.cost c i.bytes i.tally i.spelled, ap length m.rest, length-append i.bytes mid.rest);
         owes = λ x n z. omega (arith, z, m.headers, j.grows);
-        none = λ x w p q z k g f.
+        none = λ w p q z k g f.
             let o = i.only (key w) k.front (k.back ++ q) k.first k.fore (g ∙ behind p k.front k.back q k.bytes) (behind_key key value whole a shapes begins ends la family apart (key w) (value w) k.back q k.second k.aft f) in
             let e2 : mid.rest ≡ k.back ++ q = append_cancel_left i.bytes mid.rest (k.back ++ q) (sym m.rest ∙ g ∙ behind p k.front k.back q k.bytes ∙ ap (λ y. y ++ (k.back ++ q)) o.bytes) in
             let P : K → Type 0 = λ d. (shapes d).spelled (value w) k.back k.second in
-            j.none x (value w) k.back q k.second (subst P o.value k.aft) e2 (behind_value key value whole a shapes begins ends la family apart c q f);
+            let r = j.none (value w) k.back q k.second (subst P o.value k.aft) e2 (behind_value key value whole a shapes begins ends la family apart c q f) in
+            record { memory = r.memory; marked = λ t d. r.marked (t.1 c) (joined_is_clean (length k.front) k.first k.second z k.tally d).1 };
       }

@@ -66,13 +66,13 @@ module _ {V : Type 0} (s : Shape V) (l : Lawful s) (full : Full s) (free : (c : 
         grows = omega (arith, m.headers, a.grows);
         bound = omega (arith, m.headers, a.bound, cost, ap length m.rest, length-append i.bytes now.rest);
         owes = λ x k o.
-            ⊎_elim (λ h. omega (arith, h, o.sum, m.headers, a.grows)) (λ h. absurd (a.none x h.value h.front h.after h.tally h.spelled h.bytes (follows_free s.avoids free h.after)))
+            ⊎_elim (λ h. omega (arith, h, o.sum, m.headers, a.grows)) (λ h. absurd (x (a.none h.value h.front h.after h.tally h.spelled h.bytes (follows_free s.avoids free h.after)).memory))
             (items_compare s l full free done o.list i.bytes o.front now.rest o.after i.tally o.tally i.spelled o.spelled (sym m.rest ∙ o.bytes));
-        none = λ x w p q z b g f.
+        none = λ w p q z b g f.
             let e1 : p ≡ i.bytes ++ now.rest = sym (append-nil p) ∙ ap (λ x. p ++ x) (sym (ends q f)) ∙ sym g ∙ m.rest in
             let k = items_split s l full free done w i.bytes p now.rest i.tally z i.spelled b e1 in
             let h = more_front k.more now.rest k.tally k.spelled n in
-            a.none x h.0 h.1 h.2 h.3 h.4 h.5 (follows_free s.avoids free h.2);
+            record { memory = (a.none h.0 h.1 h.2 h.3 h.4 h.5 (follows_free s.avoids free h.2)).memory; marked = λ t. absurd t };
       }
 
   -- no memory to keep one more item
@@ -86,5 +86,5 @@ module _ {V : Type 0} (s : Shape V) (l : Lawful s) (full : Full s) (free : (c : 
         grows = omega (arith, m.headers, n.headers);
         bound = omega (arith, m.headers, n.headers, cost, l.cost v j.bytes j.tally j.spelled, ap length m.rest, length-append i.bytes now.rest, ap length n.rest, length-append j.bytes new.rest);
         owes = λ x. absurd (x k);
-        none = λ x. absurd (x k);
+        none = λ w p q z b g f. record { memory = k; marked = λ t. absurd t };
       }

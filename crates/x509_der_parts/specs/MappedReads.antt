@@ -18,4 +18,10 @@ module _ {V W : Type 0} (view : W → V) (s : Shape V) (inj : (x y : W) → view
   }
 
   pub mapped_refuses : (old new : Cursor) (e : ReadError) → Refuses s old new e → Refuses (mapped view s) old new e
-  mapped_refuses old new e a = record { spares = a.spares; grows = a.grows; bound = a.bound; owes = a.owes; none = λ m x. a.none m (view x) }
+  mapped_refuses old new e a = record {
+    spares = a.spares;
+    grows = a.grows;
+    bound = a.bound;
+    owes = a.owes;
+    none = λ x p q z i g f. let o = a.none (view x) p q z i g f in record { memory = o.memory; marked = o.marked };
+  }

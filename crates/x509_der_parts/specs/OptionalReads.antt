@@ -65,10 +65,10 @@ module _ {V : Type 0} (s : Shape V) (l : Lawful s) (full : Full s) where
     grows = a.grows;
     bound = a.bound;
     owes = λ m n z. omega (arith, z, a.grows);
-    none = λ m. elim [
+    none = elim [
       | None ↦ λ p q z i h g.
           let e2 : q ≡ b ∷ r = sym (h ∙ ap (λ x. x ++ q) i.0) ∙ n in
-          begins_follows s.starts b r t (rw e2 at (follows_right s.avoids s.starts q g))
-      | Some w ↦ λ p q z i h g. a.none m w p q z i h (follows_left s.avoids s.starts q g)
+          absurd (begins_follows s.starts b r t (rw e2 at (follows_right s.avoids s.starts q g)))
+      | Some w ↦ λ p q z i h g. let o = a.none w p q z i h (follows_left s.avoids s.starts q g) in record { memory = o.memory; marked = o.marked }
     ];
   }

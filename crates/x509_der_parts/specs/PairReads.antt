@@ -3,6 +3,7 @@ use Rattle.std.proofs.Common.{◌≡◌, ℕ, ◌||◌, List, ◌++◌, length, 
 use Rattle.std.proofs.lemmas.List.{append_cancel_left}
 use Rattle.x509_der_parts.specs.Lists.{behind}
 use Rattle.x509_der_parts.specs.Tally.{Tally, joined}
+use Rattle.x509_der_parts.specs.TallyFacts.{joined_is_clean}
 use Rattle.x509_der_parts.specs.Shape.{Shape, Lawful, Follows}
 use Rattle.x509_der_parts.specs.Pair.{pair, Apart, follows_left, follows_right, follows_first}
 use Rattle.x509_der_parts.specs.Reading.{Cursor, Accepts, Refuses}
@@ -40,7 +41,9 @@ module _ {X V W : Type 0} (fst : X → V) (snd : X → W) (whole : (x y : X) →
     grows = i.grows;
     bound = i.bound;
     owes = λ m n z. omega (arith, z, i.grows);
-    none = λ m w p q z k g f. i.none m (fst w) k.front (k.back ++ q) k.first k.fore (g ∙ behind p k.front k.back q k.bytes) (before (snd w) k.back q k.second k.aft f);
+    none = λ w p q z k g f.
+        let o = i.none (fst w) k.front (k.back ++ q) k.first k.fore (g ∙ behind p k.front k.back q k.bytes) (before (snd w) k.back q k.second k.aft f) in
+        record { memory = o.memory; marked = λ t c. o.marked t.0 (joined_is_clean (length k.front) k.first k.second z k.tally c).0 };
   }
 
   pub pair_second : (old mid new : Cursor) (v : V) (e : ReadError) → Accepts a old mid v → Refuses b mid new e → Refuses (pair fst snd a b) old new e
@@ -51,8 +54,9 @@ module _ {X V W : Type 0} (fst : X → V) (snd : X → W) (whole : (x y : X) →
         grows = omega (arith, m.headers, j.grows);
         bound = omega (arith, m.headers, j.bound, la.cost v i.bytes i.tally i.spelled, ap length m.rest, length-append i.bytes mid.rest);
         owes = λ x n z. omega (arith, z, m.headers, j.grows);
-        none = λ x w p q z k g f.
+        none = λ w p q z k g f.
             let o = i.only (fst w) k.front (k.back ++ q) k.first k.fore (g ∙ behind p k.front k.back q k.bytes) (before (snd w) k.back q k.second k.aft f) in
             let e2 : mid.rest ≡ k.back ++ q = append_cancel_left i.bytes mid.rest (k.back ++ q) (sym m.rest ∙ g ∙ behind p k.front k.back q k.bytes ∙ ap (λ y. y ++ (k.back ++ q)) o.bytes) in
-            j.none x (snd w) k.back q k.second k.aft e2 (follows_right a.avoids b.avoids q f);
+            let r = j.none (snd w) k.back q k.second k.aft e2 (follows_right a.avoids b.avoids q f) in
+            record { memory = r.memory; marked = λ t c. r.marked t.1 (joined_is_clean (length k.front) k.first k.second z k.tally c).1 };
       }

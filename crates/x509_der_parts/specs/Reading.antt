@@ -78,13 +78,18 @@ pub record Accepts {V : Type 0} (s : Shape V) (old new : Cursor) (v : V) : Type 
   pub owes : (n : ℕ) → s.least old.rest n → n ≤ tally.headers
   pub only : (w : V) (p q : List ℕ) (z : Tally) → s.spelled w p z → old.rest ≡ p ++ q → Follows s.avoids q → Same w v p bytes z tally
 
+-- why a spelling was refused: memory was; and where a read takes none but for places, a mark stands in the spelling
+pub record ForMemory {V : Type 0} (s : Shape V) (e : ReadError) (z : Tally) : Type 0 where
+  pub memory : e ≡ OutOfMemory
+  pub marked : s.frugal → z.marks ≡ [] → ⊥
+
 -- a read was refused: for memory, or no spelling stands there
 pub record Refuses {V : Type 0} (s : Shape V) (old new : Cursor) (e : ReadError) : Type 0 where
   pub grows : old.headers ≤ new.headers
   pub bound : 2 * new.headers ≤ 2 * old.headers + length old.rest + 2
   pub owes : (e ≡ OutOfMemory → ⊥) → (n : ℕ) → s.least old.rest n → old.headers + n ≤ new.headers
   pub spares : s.frugal → old.places ≡ None → e ≡ OutOfMemory → ⊥
-  pub none : (e ≡ OutOfMemory → ⊥) → (w : V) (p q : List ℕ) (z : Tally) → s.spelled w p z → old.rest ≡ p ++ q → Follows s.avoids q → ⊥
+  pub none : (w : V) (p q : List ℕ) (z : Tally) → s.spelled w p z → old.rest ≡ p ++ q → Follows s.avoids q → ForMemory s e z
 
 -- what a read of a shape gives
 abbrev pub Reads : {V : Type 0} → Shape V → Cursor → Cursor → Result V ReadError → Type 0

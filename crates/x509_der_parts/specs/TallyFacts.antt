@@ -71,6 +71,9 @@ pub inside_clean : (n h : ℕ) → inside n (record { marks = []; headers = h })
 unfolding inside
 inside_clean n h = refl
 
+pub inside_is_clean : (n : ℕ) (a y : Tally) → y ≡ inside n a → y.marks ≡ [] → a.marks ≡ []
+inside_is_clean n a y e m = map_empty (moved n) a.marks (sym (inside_marks n a) ∙ ap (λ (x : Tally). x.marks) (sym e) ∙ m)
+
 -- marked
 
 pub marked_none : (n h : ℕ) → marked [] n (record { marks = []; headers = h }) ≡ record { marks = []; headers = h }
