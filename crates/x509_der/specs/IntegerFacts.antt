@@ -8,19 +8,7 @@ use Rattle.std.proofs.lemmas.Nat.{mul-le}
 use Rattle.std.proofs.lemmas.Bool.{cases_lt}
 use Rattle.std.proofs.lemmas.Bool.Decides.{nat_tests}
 use Rattle.x509_der_parts.specs.Shape.{Lawful}
-use Rattle.x509_der_parts.specs.Contents.{IsPlain, plain_lawful}
-use Rattle.x509_der.specs.Integers.{AreBytes, unsigned_value, signed_value, sign_bit, pads, is_minimal, IsInteger, integers}
-
-pub integer_plain : IsPlain IsInteger (λ v. v) (λ v. IsTrue (is_minimal v))
-integer_plain = record {
-  one = λ v w p a b. sym a.1 ∙ b.1;
-  written = λ v d. (d, refl);
-  strict = λ v p a. a.1;
-  valid = λ v p a. a.0;
-}
-
-pub integer_lawful : Lawful integers
-integer_lawful = plain_lawful IsInteger (λ v. v) (λ v. IsTrue (is_minimal v)) ⊥ integer_plain
+use Rattle.x509_der.specs.Integers.{AreBytes, unsigned_value, signed_value, sign_bit, pads, is_minimal}
 
 -- a byte in front that says nothing changes no number
 

@@ -1,11 +1,8 @@
 -- INTEGERs of any size, in two's complement (X.690, 8.3).
-use Rattle.std.specs.Prelude.{◌≡◌, ℕ, ◌<◌, slice_index, ◌+◌, ◌*◌, ◌/◌, ◌%◌, ◌^◌, ℤ, pos, ◌-ℤ◌, Bool, true, false, not, nat_lt, nat_le, ◌==◌, if◌then◌else◌, IsTrue, List, [], ◌∷◌, length}
+use Rattle.std.specs.Prelude.{◌≡◌, ℕ, ◌+◌, ◌*◌, ◌/◌, ◌%◌, ◌^◌, ℤ, pos, ◌-ℤ◌, Bool, true, false, not, nat_lt, nat_le, ◌==◌, if◌then◌else◌, IsTrue, List, [], ◌∷◌, length}
 use Rattle.x509_der_parts.specs.Shape.{Shape}
-use Rattle.x509_der_parts.specs.Contents.{plain}
-
--- each number is a byte
-abbrev pub AreBytes : List ℕ → Type 0
-AreBytes s = (k : ℕ) → slice_index s k < 256
+use Rattle.x509_der_parts.specs.Contents.{itself}
+pub use Rattle.x509_der_parts.specs.Element.{AreBytes}
 
 -- the number whose digits in base 256 the bytes are, the highest first
 abbrev pub unsigned_value : List ℕ → ℕ
@@ -38,9 +35,9 @@ without_zero [] = []
 without_zero (a ∷ []) = a ∷ []
 without_zero (a ∷ b ∷ r) = if a == 0 then b ∷ r else a ∷ b ∷ r
 
-abbrev pub IsInteger : List ℕ → List ℕ → Type 0
-IsInteger v p = IsTrue (is_minimal v) × (p ≡ v)
+abbrev pub IsMinimal : List ℕ → Type 0
+IsMinimal v = IsTrue (is_minimal v)
 
--- an INTEGER's content
+-- an INTEGER's content: bytes that are minimal
 abbrev pub integers : Shape (List ℕ)
-integers = plain IsInteger (λ v. v) (λ v. IsTrue (is_minimal v)) ⊥
+integers = itself IsMinimal

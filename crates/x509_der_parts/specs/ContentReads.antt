@@ -1,7 +1,7 @@
 -- Reading a content that has no elements in it, up to its end; and an element whose content isn't looked into.
 use Rattle.std.proofs.Common.{◌≡◌, ℕ, ◌+◌, false, ◌⊎◌, inl, inr, ⊎_elim, List, ◌++◌, length, sum, refl, sym, ap, ◌∙◌, arith, append-nil, length-append}
 use Rattle.x509_der_parts.specs.Tally.{none}
-use Rattle.x509_der_parts.specs.Contents.{ends, plain, IsPlain}
+use Rattle.x509_der_parts.specs.Contents.{ends, plain, IsPlain, IsItself, IsBytes, itself, itself_plain}
 use Rattle.x509_der_parts.specs.Raw.{Raw, raws, raws_lawful, one_header, follows_free}
 use Rattle.x509_der_parts.specs.Reading.{Cursor, Ready, Moved, Accepts, Refuses, TakesRest, RawTaken}
 use Rattle.x509_der_parts.specs.Moving.{placed_none, ready_after}
@@ -50,6 +50,10 @@ module _ {V : Type 0} (Is : V → List ℕ → Type 0) (of : V → List ℕ) (Ok
         let m = ⊎_elim (λ h. h) (λ h. absurd (n h w (rw e2 b.0))) (memory_or_not e) in
         record { memory = m; marked = λ i d. frugal i m };
   }
+
+-- bytes that are their own content
+pub itself_accepts : (Allowed : List ℕ → Type 0) (old new : Cursor) (c v : List ℕ) → Ready old → TakesRest old new c → c ≡ v → Allowed v → Accepts (itself Allowed) old new v
+itself_accepts Allowed old new c v r t e a = plain_accepts (IsItself Allowed) (λ v. v) (IsBytes Allowed) ⊥ (itself_plain Allowed) old new c v r t ((rw e at t.bytes, a), e)
 
 pub raw_accepts : (old new : Cursor) (v p : List ℕ) → Ready old → RawTaken old new p → v ≡ p → new.headers ≡ old.headers + 1 → new.counts ≡ old.counts → new.at + length new.rest ≡ old.at + length old.rest → new.places ≡ old.places → Accepts raws old new v
 raw_accepts old new v p r t e h c at places =

@@ -1,5 +1,5 @@
 -- Elements: one tag byte, length digits, content (X.690, 8.1 and 10.1).
-use Rattle.std.specs.Prelude.{◌≡◌, ◌<◌, Bool, true, not, ℕ, zero, suc, ◌+◌, ◌/◌, ◌*◌, ◌%◌, ◌==◌, nat_lt, if◌then◌else◌, List, [], ◌∷◌, ◌++◌, length}
+use Rattle.std.specs.Prelude.{◌≡◌, ◌<◌, Bool, true, not, ℕ, zero, suc, ◌+◌, ◌/◌, ◌*◌, ◌%◌, ◌==◌, nat_lt, if◌then◌else◌, List, [], ◌∷◌, ◌++◌, length, slice_index}
 
 -- the digits of n in base 256, the highest first, in front of tail; fuel is at least n
 abbrev pub base256 : ℕ → ℕ → List ℕ → List ℕ
@@ -13,6 +13,10 @@ digits n = if nat_lt n 128 then n ∷ [] else (128 + length (base256 n n [])) �
 -- tag, length digits, content (X.690, 8.1.1)
 unfoldable pub element : ℕ → List ℕ → List ℕ
 element t c = t ∷ (digits (length c) ++ c)
+
+-- each number is a byte
+abbrev pub AreBytes : List ℕ → Type 0
+AreBytes s = (k : ℕ) → slice_index s k < 256
 
 -- a tag is one byte, whose low five bits aren't all ones (8.1.2.4)
 abbrev pub is_tag : ℕ → Bool

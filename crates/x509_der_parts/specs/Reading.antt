@@ -1,7 +1,7 @@
 -- What reading does: the state of a reader, and what a read of a shape gives.
 use Rattle.std.specs.Prelude.{◌≡◌, ℕ, ◌+◌, ◌*◌, ◌≤◌, ◌<◌, ◌^◌, true, List, [], ◌∷◌, ◌++◌, length, map, take, drop, Option, Some, None, sum, slice_set, slice_index, Result, Ok, Err}
 use Rattle.std.specs.Borrow.{Bor}
-use Rattle.x509_der_parts.specs.Element.{element, header}
+use Rattle.x509_der_parts.specs.Element.{AreBytes, element, header}
 pub use Rattle.x509_der_parts.specs.Element.{is_tag, IsRaw}
 use Rattle.x509_der_parts.specs.Kinds.{kind_index}
 use Rattle.x509_der_parts.specs.Tally.{Tally, Mark, moved}
@@ -110,10 +110,10 @@ abbrev pub FirstElement : List ℕ → Result (ℕ × Bor (List ℕ) × Bor (Lis
 FirstElement string (Ok h) = IsFirst string h.0 h.1.now h.2.now
 FirstElement string (Err e) = NoFirst string
 
--- the same at a reader, which goes past the element
+-- the same at a reader, which goes past the element, and stays where there is none
 abbrev pub TakesElement : Cursor → Cursor → Result (ℕ × Bor (List ℕ)) ReadError → Type 0
 TakesElement old new (Ok h) = IsFirst old.rest h.0 h.1.now new.rest
-TakesElement old new (Err e) = NoFirst old.rest
+TakesElement old new (Err e) = NoFirst old.rest × (new.rest ≡ old.rest)
 
 pub record RawTaken (old new : Cursor) (p : List ℕ) : Type 0 where
   pub raw : IsRaw p
@@ -122,7 +122,7 @@ pub record RawTaken (old new : Cursor) (p : List ℕ) : Type 0 where
 -- the same, with the whole element
 abbrev pub TakesRaw : Cursor → Cursor → Result (Bor (List ℕ)) ReadError → Type 0
 TakesRaw old new (Ok p) = RawTaken old new p.now
-TakesRaw old new (Err e) = (p q : List ℕ) → IsRaw p → old.rest ≡ p ++ q → ⊥
+TakesRaw old new (Err e) = ((p q : List ℕ) → IsRaw p → old.rest ≡ p ++ q → ⊥) × (new.rest ≡ old.rest)
 
 -- the rest is the element's content, and behind the element comes what is after
 pub record Entered (t : ℕ) (old inner : Cursor) (after : List ℕ) : Type 0 where
@@ -145,8 +145,9 @@ pub record Leaves (end new : Cursor) (after : List ℕ) : Type 0 where
   pub counts : new.counts ≡ end.counts
   pub places : new.places ≡ end.places
 
--- all that was left is taken, and nothing else has changed
+-- all that was left is taken, which are bytes, and nothing else has changed
 pub record TakesRest (old new : Cursor) (taken : List ℕ) : Type 0 where
+  pub bytes : AreBytes taken
   pub all : taken ≡ old.rest
   pub rest : new.rest ≡ []
   pub at : new.at ≡ old.at + length old.rest
@@ -179,9 +180,13 @@ pub record Marked (old new : Cursor) (kind : Deviation) (spot : Spot) : Type 0 w
   pub counts : new.counts ≡ one_more old.counts (kind_index kind)
   pub places : new.places ≡ put_in spot.before (record { kind = kind; start = spot.start; end = old.at }) old.places
 
--- it is not, since a place was to be carried and memory was refused
+-- it is not, since a place was to be carried and memory was refused; nothing has changed
 pub record NotMarked (old new : Cursor) (e : ReadError) : Type 0 where
+  pub rest : new.rest ≡ old.rest
+  pub at : new.at ≡ old.at
   pub headers : new.headers ≡ old.headers
+  pub counts : new.counts ≡ old.counts
+  pub places : new.places ≡ old.places
   pub memory : e ≡ OutOfMemory
   pub carries : old.places ≡ None → ⊥
 

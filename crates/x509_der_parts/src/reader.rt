@@ -1,6 +1,7 @@
 //! A cursor over bytes, which counts the headers that it decodes and the deviations that it meets.
 
 ghost use Rattle.std.specs.Prelude.{◌≡◌, ◌+◌, ◌≤◌, ◌<◌, ◌*◌, ◌^◌, ◌++◌, ◌∷◌, [], ℕ, List, length, drop, true, ◌==◌, IfSome, IfNone, IfOk, IfErr, Option, Some, None, sum, slice_set, slice_index, replicate};
+ghost use Rattle.x509_der_parts.specs.Element.{AreBytes};
 ghost use Rattle.x509_der_parts.specs.Reading.{Cursor, Ready, TakesElement, TakesRaw, TakesRest, TakesNext, Enters, Leaves, IsSpot, Marks, carried, listed, is_tag};
 ghost use Rattle.x509_der_parts.specs.declared.errors.ReadError.TheVariants.{OutOfMemory};
 
@@ -9,6 +10,11 @@ use crate::errors::ReadError;
 use crate::header::first_element;
 use std::alloc::{Allocator, Global};
 use std::marker::Model;
+
+/// Says that each item is a byte. It does nothing when it runs.
+pub fn known_bytes(bytes: &[u8])
+    ensures { AreBytes bytes.now }
+{}
 
 /// Where an element begins, and how many places were carried before it.
 #[derive(Clone, Copy, Debug, PartialEq, Eq)]
@@ -40,43 +46,44 @@ impl<'a, A: Allocator> Model for Reader<'a, A> {
     ghost view = { λ r. record { rest = r.rest.now; at = r.at; headers = r.headers; counts = r.deviations; places = listed (λ v. v.items) r.places } };
 }
 
+/// A reader of a whole input. It is for the calls on whole values alone, and no crate above the core is given it: so what was
+/// read is never decoded and counted a second time.
+pub fn whole_reader<A: Allocator>(bytes: &[u8]) -> Reader<'_, A>
+    ensures rest { result.rest ≡ bytes.now }
+    ensures at { result.at ≡ 0 }
+    ensures places { result.places ≡ None }
+    ensures headers { result.headers ≡ 0 }
+    ensures counts { result.counts ≡ replicate 10 0 }
+    ensures ready { Ready result }
+{
+    Reader {
+        rest: bytes,
+        at: 0,
+        headers: 0,
+        deviations: Deviations::none(),
+        places: None,
+    }
+}
+
+/// A reader of a whole input that carries the places of deviations.
+pub fn locating_reader<A: Allocator>(alloc: A, bytes: &[u8]) -> Reader<'_, A>
+    ensures rest { result.rest ≡ bytes.now }
+    ensures at { result.at ≡ 0 }
+    ensures places { result.places ≡ Some [] }
+    ensures headers { result.headers ≡ 0 }
+    ensures counts { result.counts ≡ replicate 10 0 }
+    ensures ready { Ready result }
+{
+    Reader {
+        rest: bytes,
+        at: 0,
+        headers: 0,
+        deviations: Deviations::none(),
+        places: Some(Vec::new(alloc)),
+    }
+}
+
 impl<'a, A: Allocator> Reader<'a, A> {
-    /// A reader of a whole input.
-    pub fn new(bytes: &'a [u8]) -> Reader<'a, A>
-        ensures rest { result.rest ≡ bytes.now }
-        ensures at { result.at ≡ 0 }
-        ensures places { result.places ≡ None }
-        ensures headers { result.headers ≡ 0 }
-        ensures counts { result.counts ≡ replicate 10 0 }
-        ensures ready { Ready result }
-    {
-        Reader {
-            rest: bytes,
-            at: 0,
-            headers: 0,
-            deviations: Deviations::none(),
-            places: None,
-        }
-    }
-
-    /// A reader of a whole input that carries the places of deviations.
-    pub fn located(alloc: A, bytes: &'a [u8]) -> Reader<'a, A>
-        ensures rest { result.rest ≡ bytes.now }
-        ensures at { result.at ≡ 0 }
-        ensures places { result.places ≡ Some [] }
-        ensures headers { result.headers ≡ 0 }
-        ensures counts { result.counts ≡ replicate 10 0 }
-        ensures ready { Ready result }
-    {
-        Reader {
-            rest: bytes,
-            at: 0,
-            headers: 0,
-            deviations: Deviations::none(),
-            places: Some(Vec::new(alloc)),
-        }
-    }
-
     /// The places of deviations, where they were carried.
     pub fn into_places(self) -> Option<Vec<Place, A>>
         ensures { listed (λ v. v.items) result ≡ self.entry.places }
@@ -254,6 +261,7 @@ impl<'a, A: Allocator> Reader<'a, A> {
         ensures { TakesRest self.old self.new result.now }
     {
         let bytes = self.rest;
+        known_bytes(bytes);
         self.at += bytes.len();
         self.rest = &[];
         bytes

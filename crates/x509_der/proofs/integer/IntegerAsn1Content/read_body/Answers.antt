@@ -1,12 +1,11 @@
 use Rattle.std.proofs.Common.{◌∙◌, sym, ap}
 use Rattle.std.specs.Prelude.{IsTrue}
-use Rattle.x509_der_parts.specs.ContentReads.{plain_accepts}
-use Rattle.x509_der.specs.Integers.{IsInteger, is_minimal}
-use Rattle.x509_der.specs.IntegerFacts.{integer_plain}
+use Rattle.x509_der_parts.specs.ContentReads.{itself_accepts}
+use Rattle.x509_der.specs.Integers.{IsMinimal, is_minimal}
 use Rattle.x509_der.proofs.integer.IntegerAsn1Content.read_body.Goals as goal
 
 pub returns : goal.returns
 returns g c =
     let e = c.in_ok-bytes.ensures.items in
     let m : IsTrue (is_minimal c.in_ok-bytes.bytes.items) = ap is_minimal e ∙ sym c.is_shortest.ensures ∙ c.if-not-is_shortest.false in
-    plain_accepts IsInteger (λ v. v) (λ v. IsTrue (is_minimal v)) ⊥ integer_plain c.args.reader.now c.take_rest-bytes.new.self c.take_rest-bytes.result.now c.in_ok-bytes.bytes.items c.requires c.take_rest-bytes.ensures (m, sym e)
+    itself_accepts IsMinimal c.args.reader.now c.take_rest-bytes.new.self c.take_rest-bytes.result.now c.in_ok-bytes.bytes.items c.requires c.take_rest-bytes.ensures (sym e) m

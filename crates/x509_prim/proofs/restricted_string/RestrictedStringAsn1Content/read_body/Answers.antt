@@ -1,7 +1,7 @@
 use Rattle.std.proofs.Common.{◌∙◌, sym, ap}
 use Rattle.std.specs.Prelude.{IsTrue}
-use Rattle.x509_der.specs.ContentReads.{plain_accepts}
-use Rattle.x509_prim.specs.Texts.{IsText, Passes, text_plain}
+use Rattle.x509_der.specs.ContentReads.{itself_accepts}
+use Rattle.x509_prim.specs.Texts.{Passes}
 use Rattle.x509_prim.proofs.restricted_string.RestrictedStringAsn1Content.read_body.Goals as goal
 
 pub returns : goal.returns
@@ -9,4 +9,4 @@ returns g c =
     let e = c.in_ok-bytes.ensures.items in
     let P = Passes g.C.CharSet.allowed in
     let m : IsTrue (g.C.CharSet.allowed c.in_ok-bytes.bytes.items) = ap g.C.CharSet.allowed e ∙ sym c.allows.ensures ∙ c.if-not-allows.false in
-    rw c.from_allowed.ensures (plain_accepts (IsText P) (λ v. v) P ⊥ (text_plain P) c.args.reader.now c.take_rest-bytes.new.self c.take_rest-bytes.result.now c.in_ok-bytes.bytes.items c.requires c.take_rest-bytes.ensures (m, sym e))
+    rw c.from_allowed.ensures (itself_accepts P c.args.reader.now c.take_rest-bytes.new.self c.take_rest-bytes.result.now c.in_ok-bytes.bytes.items c.requires c.take_rest-bytes.ensures (sym e) m)
