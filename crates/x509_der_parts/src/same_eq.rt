@@ -1,6 +1,6 @@
 //! Equality that holds of the same value alone.
 
-use crate::deviation::{Deviation, Deviations};
+use crate::deviation::{Deviation, Deviations, Place};
 use crate::errors::{ReadError, SliceError, TooLong, WriteError};
 
 /// A type whose `==` answers true exactly where the two values are the same.
@@ -29,6 +29,12 @@ impl SameEq for Deviations {
     ghost use Rattle.std.specs.Cmp.Lexicographic.{bytes_decides};
 
     ghost decides = { Prim.search (rules, bytes_decides) };
+}
+
+impl SameEq for Place {
+    ghost use Rattle.std.proofs.Common.{rules};
+
+    ghost decides = { Prim.search (rules) };
 }
 
 impl SameEq for ReadError {

@@ -6,7 +6,7 @@ ghost use Rattle.x509_tool.specs.Faults.{status_of, line_of};
 use hex::FromHexError;
 use std::alloc::AllocError;
 use thiserror::Error;
-use x509_der::{ReadError, WriteError};
+use x509_der::{ReadError, SameEq, WriteError};
 
 /// Why a text gives no output.
 #[derive(Clone, Copy, Debug, PartialEq, Eq, Error)]
@@ -23,6 +23,12 @@ pub enum ToolFault {
     /// The strict spelling's length is above the greatest `usize`.
     #[error("too long")]
     TooLong,
+}
+
+impl SameEq for ToolFault {
+    ghost use Rattle.std.proofs.Common.{rules};
+
+    ghost decides = { Prim.search (rules) };
 }
 
 impl ToolFault {
