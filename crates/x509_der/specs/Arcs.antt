@@ -1,5 +1,5 @@
 -- Object identifiers: lists of arcs, spelled as numbers in base 128 (X.690, 8.19).
-use Rattle.std.specs.Prelude.{◌≡◌, ◌≢◌, ℕ, zero, suc, ◌+◌, ◌*◌, ◌/◌, ◌%◌, ◌<◌, ◌≤◌, ◌^◌, List, [], ◌∷◌, ◌++◌, length, slice_index, EachIndex, ◌==◌, if◌then◌else◌}
+use Rattle.std.specs.Prelude.{◌≡◌, ◌≢◌, Bool, true, false, nat_eq, ◌&&◌, ℕ, zero, suc, ◌+◌, ◌*◌, ◌/◌, ◌%◌, ◌<◌, ◌≤◌, ◌^◌, List, [], ◌∷◌, ◌++◌, length, slice_index, EachIndex, ◌==◌, if◌then◌else◌}
 use Rattle.std.specs.List.{flat_map}
 use Rattle.x509_der_parts.specs.Shape.{Shape}
 use Rattle.x509_der_parts.specs.Contents.{plain}
@@ -17,6 +17,13 @@ pub record IsUnder (front arcs : List ℕ) : Type 0 where
   pub more : List ℕ
   pub arcs_are : arcs ≡ front ++ more
   pub some : more ≢ []
+
+-- the same as a test
+abbrev pub is_strictly_under : List ℕ → List ℕ → Bool
+is_strictly_under [] [] = false
+is_strictly_under [] (b ∷ arcs) = true
+is_strictly_under (a ∷ front) [] = false
+is_strictly_under (a ∷ front) (b ∷ arcs) = nat_eq a b && is_strictly_under front arcs
 
 -- the digits of n in base 128, the highest first, each with the top bit; fuel is at least n
 unfoldable pub high : ℕ → ℕ → List ℕ

@@ -143,3 +143,7 @@ minimal_once s t h k m q e =
     (λ l. longer (length t - length s) s t (omega (arith, l)) h k m q e)
     (λ l. sym (longer (length s - length t) t s (omega (arith, l)) k h q m (sym e)))
     (cases_lt (length s) (length t))
+
+-- where the first bit is set, the number is negative
+pub sign_negative : (s : List ℕ) → AreBytes s → sign_bit s ≡ true → (n : ℕ) → signed_value s ≡ pos n → ⊥
+sign_negative s h e n p = mixed (signed_value s) (256 ^ length s) n (unsigned_value s) p (signed_value-high s h e) (unsigned_below s h)

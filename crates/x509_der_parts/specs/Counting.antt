@@ -105,7 +105,7 @@ same_place k i j h =
 count_next : (i : ℕ) (m : Mark) (a : List Mark) → count_of i (m ∷ a) ≡ cond (kind_index m.kind == i) 1 0 + count_of i a
 count_next i m a = sum_by-cons (λ (x : Mark). cond (kind_index x.kind == i) 1 0) m a
 
-tallied_at : (k : List ℕ) (i : ℕ) (a : List Mark) → i < length k → get_or (tallied k a) i 0 ≡ get_or k i 0 + count_of i a
+pub tallied_at : (k : List ℕ) (i : ℕ) (a : List Mark) → i < length k → get_or (tallied k a) i 0 ≡ get_or k i 0 + count_of i a
 tallied_at k i [] h = omega arith
 tallied_at k i (m ∷ a) h =
     let n = length-set k (kind_index m.kind) (get_or k (kind_index m.kind) 0 + 1) in

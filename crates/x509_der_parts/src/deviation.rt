@@ -1,6 +1,7 @@
 //! Spellings that are read and not written: which there are, how many of each were met, and where.
 
-ghost use Rattle.std.specs.Prelude.{◌≡◌, ◌+◌, ◌<◌, ◌^◌, ◌↔◌, IsTrue, sum, slice_set, slice_index, replicate};
+ghost use Rattle.std.specs.Prelude.{◌≡◌, ◌+◌, ◌<◌, ◌≤◌, ◌^◌, ◌↔◌, ℕ, IsTrue, sum, slice_set, slice_index, replicate, length};
+ghost use Rattle.x509_der_parts.specs.Counts.{Together};
 ghost use Rattle.x509_der_parts.specs.Kinds.{kind_index};
 
 use std::marker::Model;
@@ -51,6 +52,19 @@ impl Deviation {
     }
 }
 
+/// Counts less earlier ones, kind by kind.
+fn differences(later: [usize; 10], earlier: [usize; 10]) -> [usize; 10]
+    requires { (kind : ℕ) → slice_index earlier kind ≤ slice_index later kind }
+    ensures ten { length result ≡ 10 }
+    ensures each { Together result earlier later }
+{
+    let mut counts = later;
+    for kind in 0..10 {
+        counts[kind] -= earlier[kind];
+    }
+    counts
+}
+
 /// How many deviations of each kind stand in an input. Contracts see the ten counts, in the order of the kinds.
 #[derive(Clone, Copy, Debug, PartialEq, Eq)]
 pub struct Deviations {
@@ -84,6 +98,15 @@ impl Deviations {
         ensures { self.new ≡ slice_set self.old (kind_index kind) (slice_index self.old (kind_index kind) + 1) }
     {
         self.counts[kind.index()] += 1;
+    }
+
+    /// The counts less earlier ones, kind by kind.
+    pub(crate) fn since(&self, earlier: &Deviations) -> Deviations
+        requires { (kind : ℕ) → slice_index earlier.now kind ≤ slice_index self.now kind }
+        ensures { Together result earlier.now self.now }
+    {
+        let counts = differences(self.counts, earlier.counts);
+        Deviations { counts }
     }
 
     /// How many of a kind were met.

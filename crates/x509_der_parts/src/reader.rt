@@ -231,6 +231,7 @@ impl<'a, A: Allocator> Reader<'a, A> {
     ///
     /// # Errors
     /// Refused exactly where the rest begins with no element of that tag; never for memory.
+    #[inline(always)]
     pub fn enter(&mut self, tag: u8) -> Result<&'a [u8], ReadError>
         requires ready { Ready self.old }
         requires tag { is_tag tag ≡ true }

@@ -1,0 +1,90 @@
+//! A SEQUENCE that is read with the slice of its first field, as the part that a signature covers.
+
+ghost use Rattle.std.specs.Prelude.{◌≡◌, ◌+◌, ◌≤◌, IfOk, IfErr};
+ghost use Rattle.x509_der_parts.specs.Calls.{NoWhole};
+ghost use Rattle.x509_der_parts.specs.FirstField.{in_sequence, FirstPart, TakesBoth};
+ghost use Rattle.x509_der_parts.specs.Pair.{Apart};
+ghost use Rattle.x509_der_parts.specs.Reading.{Ready};
+
+use crate::deviation::Deviations;
+use crate::errors::ReadError;
+use crate::join::Join;
+use crate::reader::Reader;
+use crate::structure::Structure;
+use crate::tagged::{Sequence, Tagged};
+use crate::traits::Field;
+use std::alloc::Allocator;
+
+/// A value that was read from a SEQUENCE, with the bytes of its first field.
+#[derive(Drop)]
+pub struct FirstField<'a, T> {
+    /// The value.
+    pub value: T,
+    /// The bytes that spell the value's first field.
+    pub slice: &'a [u8],
+    /// How many deviations of each kind stand inside the slice.
+    pub inside: Deviations,
+    /// How many stand outside of it.
+    pub outside: Deviations,
+}
+
+/// Reads one field and then another, and answers where the first one ends, with the deviations that were counted there.
+///
+/// # Errors
+/// As the fields.
+fn read_both<F: Field<A>, G: Field<A>, A: Allocator + Copy>(
+    alloc: A,
+    reader: &mut Reader<'_, A>,
+) -> Result<(Join<F, G>, usize, Deviations), ReadError>
+    requires ready { Ready reader.old }
+    requires first { F.fits }
+    requires second { G.fits }
+    requires apart { Apart F.shape G.shape }
+    ensures { TakesBoth F.shape G.shape reader.old reader.new result }
+{
+    let first = F::read(alloc, reader)?;
+    let end = reader.spot().start;
+    let inside = reader.deviations();
+    let second = G::read(alloc, reader)?;
+    Ok((Join(first, second), end, inside))
+}
+
+/// Reads a value from the whole of the bytes, which are a SEQUENCE of the fields `F` and `G`, and answers the bytes of the
+/// first field with it, as a signature covers them. The deviations inside those bytes are counted apart from the others:
+/// where there are none inside, the bytes are the first field's strict spelling, and else they aren't.
+///
+/// # Errors
+/// Refused exactly where the grammar relates the bytes to no value, or memory is refused.
+pub fn read_first_field<
+    'a,
+    T: Structure<Tagged<Sequence, Join<F, G>>>,
+    F: Field<A>,
+    G: Field<A>,
+    A: Allocator + Copy,
+>(alloc: A, bytes: &'a [u8]) -> Result<FirstField<'a, T>, ReadError>
+    requires first { F.fits }
+    requires second { G.fits }
+    requires apart { Apart F.shape G.shape }
+    ensures ok { IfOk result (λ r. FirstPart T.fields F.shape G.shape bytes.now r.value r.slice.now r.inside r.outside) }
+    ensures err { IfErr result (NoWhole (in_sequence T.fields F.shape G.shape) bytes.now) }
+{
+    let mut reader = Reader::<A>::new(bytes);
+    let behind = reader.enter(0x30)?;
+    let start = reader.spot().start;
+    let (fields, end, inside) = read_both::<F, G, A>(alloc, &mut reader)?;
+    if !reader.is_empty() {
+        return Err(ReadError::LeftOver);
+    }
+    if !behind.is_empty() {
+        return Err(ReadError::LeftOver);
+    }
+    let slice = &bytes[start..end];
+    let outside = reader.deviations().since(&inside);
+    let value = T::from_fields(Tagged::new(fields));
+    Ok(FirstField {
+        value,
+        slice,
+        inside,
+        outside,
+    })
+}
