@@ -1,5 +1,5 @@
 -- What a list of fields means keeps the laws.
-use Rattle.std.proofs.Common.{◌≡◌, ℕ, ◌+◌, ◌≤◌, Bool, true, false, cond, List, [], ◌∷◌, ◌++◌, length, Option, Some, None, refl, ap, sym, ◌∙◌, arith, append-nil}
+use Rattle.std.proofs.Common.{◌≡◌, ℕ, ◌≤◌, Bool, true, false, cond, List, [], ◌∷◌, ◌++◌, length, Option, Some, None, refl, ap, sym, ◌∙◌, arith, append-nil}
 use Rattle.std.proofs.lemmas.Grind.{flat_map-append}
 use Rattle.std.specs.List.{flat_map, AllByRecursion}
 use Rattle.x509_der.specs.Types.{Deviation}
@@ -11,7 +11,7 @@ use Rattle.x509_der.specs.Optional.{optional, optional_strict, IfThere}
 use Rattle.x509_der.specs.Viewed.{some_one}
 use Rattle.x509_der.specs.Meaning.{IsMeaning}
 use Rattle.x509_der_structures_parts.specs.declared.key_reference.KeyReference.{KeyReference}
-use Rattle.x509_der_structures_parts.specs.KeyReferences.{Hint, hint, identifier_field, issuer_field, serial_field, reference_base, identifier_in, issuer_in, serial_in, later, last, ascends, ascends_from, order_kinds, reference_of, reference_means, there, back_of, reference_back, IsReference, reference_meaning, key_reference, reference_bytes, with_hint}
+use Rattle.x509_der_structures_parts.specs.KeyReferences.{Hint, hint, identifier_field, issuer_field, serial_field, reference_base, identifier_in, issuer_in, serial_in, later, last, ascends, ascends_from, order_kinds, reference_of, reference_means, there, back_of, reference_back, reference_meaning, key_reference, reference_bytes, with_hint}
 
 -- which is later
 

@@ -1,5 +1,5 @@
 -- A list of fields, each under its own tag, of which the last of each tag counts.
-use Rattle.std.specs.Prelude.{◌≡◌, ℕ, ◌+◌, ◌&&◌, Bool, true, nat_le, if◌then◌else◌, List, [], ◌∷◌, ◌++◌, Option, Some, None}
+use Rattle.std.specs.Prelude.{ℕ, ◌+◌, ◌&&◌, Bool, true, nat_le, if◌then◌else◌, List, [], ◌∷◌, ◌++◌, Option, Some, None}
 use Rattle.x509_der.specs.Types.{Choice, Deviation}
 use Rattle.x509_der.specs.Types.choice.{First, Second}
 use Rattle.x509_der.specs.Types.deviation

@@ -1,5 +1,5 @@
 -- The kinds of a notice's value keep the laws.
-use Rattle.std.proofs.Common.{◌≡◌, ℕ, ◌++◌, ◌||◌, eqb, true, false, List, Option, refl, ap}
+use Rattle.std.proofs.Common.{◌≡◌, ℕ, ◌++◌, true, false, List, refl, ap}
 use Rattle.x509_der.specs.Element.{element}
 use Rattle.x509_der.specs.Arcs.{oid_content}
 use Rattle.x509_der.specs.Shape.{Lawful}

@@ -13,18 +13,19 @@ use x509_der::parts::{
 };
 use x509_der::{FromDer, ReadError, ToDer, TooLong};
 
-/// A number, and a stamp that may be absent. The stamp stands under an implicit tag; since it is constructed, the tag's byte is A0.
+/// Which page of how many it is, with a stamp that may be absent. The stamp stands under an implicit tag; since it is constructed, the tag's byte is A0.
 ///
 /// # Encoding
-/// `SEQUENCE { stamp [0] IMPLICIT Stamp OPTIONAL, number INTEGER (0..255) }`
+/// `SEQUENCE { stamp [0] IMPLICIT Stamp OPTIONAL, page INTEGER (0..255), pages INTEGER (0..255) }`
 #[derive(Drop)]
 pub struct Letter<A: Allocator = Global> {
     pub stamp: Option<Stamp<A>>,
-    pub number: u8,
+    pub page: u8,
+    pub pages: u8,
 }
 
 /// The fields as they stand in the SEQUENCE, owned or borrowed.
-type Nest<S, N> = Tagged<Sequence, Join<Optional<Tagged<Explicit0, Body<S>>>, N>>;
+type Nest<S, N> = Tagged<Sequence, Join<Optional<Tagged<Explicit0, Body<S>>>, Join<N, N>>>;
 
 /// The fields, owned.
 type Fields<A> = Nest<Stamp<A>, u8>;
@@ -36,7 +37,10 @@ type Written<'a, A> = Nest<&'a Stamp<A>, &'a u8>;
 fn written<A: Allocator>(value: &Letter<A>) -> Written<'_, A>
     ensures { ⟦<Written<'static, A> as ToDer>⟧.strict result ≡ letter_base.strict (letter_parts value.now) }
 {
-    Tagged::new(Join(Optional::lent_body(&value.stamp), &value.number))
+    Tagged::new(Join(
+        Optional::lent_body(&value.stamp),
+        Join(&value.page, &value.pages),
+    ))
 }
 
 impl<A: Allocator> ToDer for Letter<A> {
@@ -55,10 +59,11 @@ impl<A: Allocator> Structure<Fields<A>> for Letter<A> {
     ghost fields = { letter_parts };
 
     fn from_fields(parts: Fields<A>) -> Self {
-        let Join(stamp, number) = parts.into_inner();
+        let Join(stamp, Join(page, pages)) = parts.into_inner();
         Letter {
             stamp: stamp.into_value(),
-            number,
+            page,
+            pages,
         }
     }
 
@@ -68,7 +73,7 @@ impl<A: Allocator> Structure<Fields<A>> for Letter<A> {
 impl<A: Allocator + Copy> Field<A> for Letter<A> {
     ghost shape = { letter };
 
-    ghost lawful = { λ h. mapped_lawful letter_parts letter_base letter_same (⟦<Fields<A> as Field<A>>⟧.lawful ((tt, tt), tt, stamp_apart)) };
+    ghost lawful = { λ h. mapped_lawful letter_parts letter_base letter_same (⟦<Fields<A> as Field<A>>⟧.lawful ((tt, tt), (tt, tt, λ c h. refl), stamp_apart)) };
 
     ghost elements = { λ h. mapped_element letter_parts letter_base (⟦<Fields<A> as Field<A>>⟧.elements tt) };
 
@@ -80,7 +85,8 @@ impl<A: Allocator + Copy> Field<A> for Letter<A> {
 
     fn known(&self) {
         known_there::<Stamp<A>, A>(&self.stamp);
-        let _number = self.number;
+        let _page = self.page;
+        let _pages = self.pages;
     }
 
     fn read(alloc: A, reader: &mut Reader<'_, A>) -> Result<Self, ReadError> {
