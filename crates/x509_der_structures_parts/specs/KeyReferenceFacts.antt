@@ -117,7 +117,7 @@ no_kinds : (t : Bool) → cond t [] (deviation.AuthorityKeyFieldOrder ∷ []) �
 no_kinds true e = refl
 no_kinds false e = cc
 
-means_one : {A : Type 0} (hs : List Hint) (v : KeyReference A) (ks : List Deviation) → reference_means hs ≡ Some (v, ks) → (reference_of hs ≡ v) × (order_kinds hs ≡ ks)
+pub means_one : {A : Type 0} (hs : List Hint) (v : KeyReference A) (ks : List Deviation) → reference_means hs ≡ Some (v, ks) → (reference_of hs ≡ v) × (order_kinds hs ≡ ks)
 means_one hs v ks e = some_one (reference_of hs) v (order_kinds hs) ks e
 
 pub reference_is : {A : Type 0} → IsMeaning (reference_meaning {A = A}) reference_base

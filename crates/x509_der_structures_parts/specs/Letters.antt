@@ -1,9 +1,12 @@
 -- A structure with another in it, under an implicit tag.
-use Rattle.std.proofs.Common.{◌≡◌, ap, ℕ, Option}
+use Rattle.std.proofs.Common.{◌≡◌, ap, ℕ, ◌+◌, List, ◌++◌, length, Option}
+use Rattle.x509_der.specs.Element.{element, header}
+use Rattle.x509_der.specs.Tally.{Tally}
 use Rattle.x509_der.specs.Shape.{Shape}
+use Rattle.x509_der.specs.Fields.{Stands}
 use Rattle.x509_der.specs.Around.{around}
 use Rattle.x509_der.specs.Pair.{pair}
-use Rattle.x509_der.specs.Optional.{optional}
+use Rattle.x509_der.specs.Optional.{optional, OptionalAt}
 use Rattle.x509_der.specs.Small.{smalls}
 use Rattle.x509_der.specs.Mapped.{mapped}
 use Rattle.x509_der_structures_parts.specs.Stamps.{stamp_content}
@@ -30,9 +33,23 @@ tagged_stamp = around 160 stamp_content
 abbrev pub count : Shape ℕ
 count = around 2 smalls
 
+-- INTEGER (0..255), INTEGER (0..255)
+abbrev pub two_counts : Shape (ℕ × ℕ)
+two_counts = pair (λ j. j.0) (λ j. j.1) count count
+
 -- SEQUENCE { [0] IMPLICIT Stamp OPTIONAL, INTEGER (0..255), INTEGER (0..255) }
 abbrev pub letter_base : {A : Type 0} → Shape (Fields A)
-letter_base = around 48 (pair (λ j. j.0) (λ j. j.1) (optional tagged_stamp) (pair (λ j. j.0) (λ j. j.1) count count))
+letter_base = around 48 (pair (λ j. j.0) (λ j. j.1) (optional tagged_stamp) two_counts)
 
 abbrev pub letter : {A : Type 0} → Shape (Letter A)
 letter = mapped letter_parts letter_base
+
+-- the fields one behind the other in the SEQUENCE, the stamp under its tag
+pub record LetterAt {A : Type 0} (v : Letter A) (string : List ℕ) (y : Tally) : Type 0 where
+  pub content : List ℕ
+  pub bytes : string ≡ element 48 content
+  pub stamps : List ℕ
+  pub counts : List ℕ
+  pub fields : content ≡ stamps ++ counts
+  pub stamp_at : OptionalAt tagged_stamp v.stamp (header content) stamps string y
+  pub counts_at : Stands two_counts (v.page, v.pages) (header content + length stamps) counts string y

@@ -2,6 +2,7 @@
 #![tactic(auto)]
 
 pub mod key_reference;
+pub mod laws2;
 pub mod letter;
 pub mod notice;
 pub mod stamp;
