@@ -1,5 +1,5 @@
 -- What a list of fields means keeps the laws.
-use Rattle.std.proofs.Common.{◌≡◌, ℕ, ◌≤◌, Bool, true, false, cond, List, [], ◌∷◌, ◌++◌, length, Option, Some, None, refl, ap, sym, ◌∙◌, arith, append-nil}
+use Rattle.std.proofs.Common.{◌≡◌, ℕ, ◌≤◌, Bool, true, false, cond, List, [], ◌∷◌, ◌++◌, length, Option, Some, None, refl, ap, ◌∙◌, arith, append-nil}
 use Rattle.std.proofs.lemmas.Grind.{flat_map-append}
 use Rattle.std.specs.List.{flat_map, AllByRecursion}
 use Rattle.x509_der.specs.Types.{Deviation}
@@ -10,34 +10,26 @@ use Rattle.x509_der.specs.Lists.{same_append}
 use Rattle.x509_der.specs.Optional.{optional, optional_strict, IfThere}
 use Rattle.x509_der.specs.Viewed.{some_one}
 use Rattle.x509_der.specs.Meaning.{IsMeaning}
+use Rattle.x509_der_structures_parts.specs.Lasts.{last, ascends, ascends_from}
+use Rattle.x509_der_structures_parts.specs.LastFacts.{later_none, last_push, kept_last}
 use Rattle.x509_der_structures_parts.specs.declared.key_reference.KeyReference.{KeyReference}
-use Rattle.x509_der_structures_parts.specs.KeyReferences.{Hint, hint, identifier_field, issuer_field, serial_field, reference_base, identifier_in, issuer_in, serial_in, later, last, ascends, ascends_from, order_kinds, reference_of, reference_means, there, back_of, reference_back, reference_meaning, key_reference, reference_bytes, with_hint}
-
--- which is later
-
-later_none : {V : Type 0} (a : Option V) → later a None ≡ a
-later_none (Some v) = refl
-later_none None = refl
-
-later_later : {V : Type 0} (a b c : Option V) → later (later a b) c ≡ later a (later b c)
-later_later (Some v) b c = refl
-later_later None b c = refl
+use Rattle.x509_der_structures_parts.specs.KeyReferences.{Hint, hint, identifier_field, issuer_field, serial_field, reference_base, identifier_in, issuer_in, serial_in, number, order_kinds, reference_of, reference_means, there, back_of, reference_back, reference_meaning, key_reference, reference_bytes, with_hint}
 
 -- fields that ascend are those that are written of what they mean
 
-none_behind : (hs : List Hint) → ascends_from 3 hs ≡ true → hs ≡ []
+none_behind : (hs : List Hint) → ascends_from number 3 hs ≡ true → hs ≡ []
 none_behind [] e = refl
 none_behind (First k ∷ hs) e = cc
 none_behind (Second (First n) ∷ hs) e = cc
 none_behind (Second (Second s) ∷ hs) e = cc
 
-serial_behind : (hs : List Hint) → ascends_from 2 hs ≡ true → (hs ≡ back_of None None (last serial_in hs)) × (last identifier_in hs ≡ None) × (last issuer_in hs ≡ None)
+serial_behind : (hs : List Hint) → ascends_from number 2 hs ≡ true → (hs ≡ back_of None None (last serial_in hs)) × (last identifier_in hs ≡ None) × (last issuer_in hs ≡ None)
 serial_behind [] e = (refl, refl, refl)
 serial_behind (First k ∷ hs) e = cc
 serial_behind (Second (First n) ∷ hs) e = cc
 serial_behind (Second (Second s) ∷ hs) e = rw (none_behind hs e) (refl, refl, refl)
 
-issuer_behind : (hs : List Hint) → ascends_from 1 hs ≡ true → (hs ≡ back_of None (last issuer_in hs) (last serial_in hs)) × (last identifier_in hs ≡ None)
+issuer_behind : (hs : List Hint) → ascends_from number 1 hs ≡ true → (hs ≡ back_of None (last issuer_in hs) (last serial_in hs)) × (last identifier_in hs ≡ None)
 issuer_behind [] e = (refl, refl)
 issuer_behind (First k ∷ hs) e = cc
 issuer_behind (Second (First n) ∷ hs) e =
@@ -45,7 +37,7 @@ issuer_behind (Second (First n) ∷ hs) e =
     rw (h.1, h.2, later_none (last serial_in hs)) (ap (λ r. Second (First n) ∷ r) h.0, refl)
 issuer_behind (Second (Second s) ∷ hs) e = rw (none_behind hs e) (refl, refl)
 
-clean_hints : (hs : List Hint) → ascends hs ≡ true → hs ≡ back_of (last identifier_in hs) (last issuer_in hs) (last serial_in hs)
+clean_hints : (hs : List Hint) → ascends number hs ≡ true → hs ≡ back_of (last identifier_in hs) (last issuer_in hs) (last serial_in hs)
 clean_hints [] e = refl
 clean_hints (First k ∷ hs) e =
     let h = issuer_behind hs e in
@@ -87,15 +79,7 @@ readable_back (Some k) None (Some s) = (tt, (tt, tt))
 readable_back (Some k) (Some n) None = (tt, (tt, tt))
 readable_back (Some k) (Some n) (Some s) = (tt, (tt, (tt, tt)))
 
--- the last one of a list is a value where all are
-
-kept_later : {V : Type 0} (P : V → Type 0) (a b : Option V) → IfThere P a → IfThere P b → IfThere P (later a b)
-kept_later P (Some v) b h i = h
-kept_later P None b h i = i
-
-kept_last : {V : Type 0} (P : V → Type 0) (under : Hint → Option V) → ((h : Hint) → hint.valid h → IfThere P (under h)) → (hs : List Hint) → AllByRecursion hint.valid hs → IfThere P (last under hs)
-kept_last P under f [] d = tt
-kept_last P under f (h ∷ hs) d = kept_later P (last under hs) (under h) (kept_last P under f hs d.1) (f h d.0)
+-- what a field has is a value of its type
 
 valid_issuer : (h : Hint) → hint.valid h → IfThere issuer_field.valid (issuer_in h)
 valid_issuer (First k) d = tt
@@ -124,13 +108,13 @@ pub reference_is : {A : Type 0} → IsMeaning (reference_meaning {A = A}) refere
 reference_is {A} = record {
   written = λ v d r. (means_back v.identifier v.issuer v.serial, valid_back v.identifier v.issuer v.serial d.0 d.1, readable_back v.identifier v.issuer v.serial);
   stays = λ v d. valid_back v.identifier v.issuer v.serial d.0 d.1;
-  clean = λ b v e d r. let m = means_one b v [] e in clean_hints b (no_kinds (ascends b) m.1) ∙ ap (λ (x : KeyReference A). reference_back x) m.0;
-  kept = λ b v ks e d. rw (← (means_one {A = A} b v ks e).0) (kept_last issuer_field.valid issuer_in valid_issuer b d, kept_last serial_field.valid serial_in valid_serial b d);
+  clean = λ b v e d r. let m = means_one b v [] e in clean_hints b (no_kinds (ascends number b) m.1) ∙ ap (λ (x : KeyReference A). reference_back x) m.0;
+  kept = λ b v ks e d. rw (← (means_one {A = A} b v ks e).0) (kept_last hint.valid issuer_field.valid issuer_in valid_issuer b d, kept_last hint.valid serial_field.valid serial_in valid_serial b d);
   read = λ b v ks e r. tt;
 }
 
 pub one_kind : {A : Type 0} (b : List Hint) (v : KeyReference A) (ks : List Deviation) → reference_means b ≡ Some (v, ks) → length ks ≤ 1
-one_kind b v ks e = omega (arith, few_kinds (ascends b), ap length (means_one b v ks e).1)
+one_kind b v ks e = omega (arith, few_kinds (ascends number b), ap length (means_one b v ks e).1)
 
 -- the strict spelling of the fields that are there, one by one
 
@@ -147,10 +131,6 @@ pub reference_agrees : {A : Type 0} (v : KeyReference A) → (key_reference {A =
 reference_agrees v = ap (element 48) (strict_back v.identifier v.issuer v.serial)
 
 -- one field more behind others
-
-last_push : {V : Type 0} (under : Hint → Option V) (hs : List Hint) (h : Hint) → last under (hs ++ h ∷ []) ≡ later (under h) (last under hs)
-last_push under [] h = sym (later_none (under h))
-last_push under (g ∷ hs) h = ap (λ o. later o (under g)) (last_push under hs h) ∙ later_later (under h) (last under hs) (under g)
 
 pub reference_push : {A : Type 0} (hs : List Hint) (h : Hint) → reference_of {A = A} (hs ++ h ∷ []) ≡ with_hint (reference_of hs) h
 reference_push hs h = rw (last_push identifier_in hs h, last_push issuer_in hs h, last_push serial_in hs h) refl

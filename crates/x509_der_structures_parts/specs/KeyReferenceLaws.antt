@@ -1,14 +1,12 @@
--- What a spelling of a key reference says: its fields, its marks, and which fields count.
-use Rattle.std.proofs.Common.{◌≡◌, ◌↔◌, ℕ, ◌+◌, ◌<◌, ◌≤◌, Bool, true, false, ◌&&◌, nat_le, List, [], ◌∷◌, ◌++◌, length, map, Option, Some, None, refl, ap, sym, ◌∙◌, arith, append-nil}
-use Rattle.std.proofs.lemmas.Bool.Decides.{nat_tests}
-use Rattle.std.specs.List.{AllByRecursion}
+-- What a spelling of a key reference says: its fields, and its marks.
+use Rattle.std.proofs.Common.{◌≡◌, ℕ, List, [], ◌∷◌, ◌++◌, length, map, ap, sym, ◌∙◌, append-nil}
 use Rattle.x509_der.specs.Types.choice.{First, Second}
 use Rattle.x509_der.specs.Element.{element, header}
 use Rattle.x509_der.specs.Tally.{Tally, inside, moved, over}
 use Rattle.x509_der.specs.TallyFacts.{none_marks, inside_marks, joined_marks, marked_marks}
 use Rattle.x509_der.specs.Items.{Items, ItemsAt}
 use Rattle.x509_der_structures_parts.specs.declared.key_reference.KeyReference.{KeyReference}
-use Rattle.x509_der_structures_parts.specs.KeyReferences.{Hint, hint, later, last, number, ascends, ascends_from, order_kinds, reference_of, reference_base, key_reference}
+use Rattle.x509_der_structures_parts.specs.KeyReferences.{Hint, hint, order_kinds, reference_of, reference_base, key_reference}
 use Rattle.x509_der_structures_parts.specs.KeyReferenceFacts.{means_one}
 
 -- the fields stand one behind another in the SEQUENCE, also those that don't count
@@ -55,50 +53,3 @@ reference_marks {A} v string y a =
       means = m.0;
       marks = marked_marks a.kinds (length string) a.part y a.tally ∙ ap (λ ms. over (length string) a.kinds ++ ms) none_inside ∙ append-nil (over (length string) a.kinds) ∙ ap (over (length string)) (sym m.1);
     }
-
--- what the last of a list is
-
-pub last_absent : {V : Type 0} (under : Hint → Option V) (hs : List Hint) → AllByRecursion (λ g. under g ≡ None) hs → last under hs ≡ None
-last_absent under [] d = refl
-last_absent under (h ∷ hs) d = rw (last_absent under hs d.1, d.0) refl
-
-pub last_there : {V : Type 0} (under : Hint → Option V) (before after : List Hint) (h : Hint) (v : V) → under h ≡ Some v → AllByRecursion (λ g. under g ≡ None) after → last under (before ++ h ∷ after) ≡ Some v
-last_there under [] after h v e d = rw (last_absent under after d, e) refl
-last_there under (g ∷ before) after h v e d = ap (λ o. later o (under g)) (last_there under before after h v e d)
-
--- the numbers ascend exactly where each of two neighbours is below the one behind it
-
-abbrev pub NeighboursAscend : List Hint → Type 0
-NeighboursAscend hs = (before after : List Hint) (a b : Hint) → hs ≡ before ++ a ∷ b ∷ after → number a < number b
-
-both_true : (x y : Bool) → (x && y) ≡ true → (x ≡ true) × (y ≡ true)
-both_true true y e = (refl, e)
-both_true false y e = cc
-
-are_true : (x y : Bool) → x ≡ true → y ≡ true → (x && y) ≡ true
-are_true x y e f = rw (e, f) refl
-
-below : (n m : ℕ) → nat_le (n + 1) m ≡ true → n < m
-below n m e = grind (arith, nat_tests)
-
-at_least : (n m : ℕ) → n ≤ m → nat_le n m ≡ true
-at_least n m h = grind (arith, nat_tests)
-
-neighbours_at : (n : ℕ) (before after : List Hint) (a b : Hint) → ascends_from n (before ++ a ∷ b ∷ after) ≡ true → number a < number b
-neighbours_at n [] after a b e =
-    let rest = (both_true (nat_le n (number a)) _ e).1 in
-    below (number a) (number b) (both_true (nat_le (number a + 1) (number b)) _ rest).0
-neighbours_at n (h ∷ before) after a b e = neighbours_at (number h + 1) before after a b (both_true (nat_le n (number h)) _ e).1
-
-ascending_from : (n : ℕ) (h : Hint) (hs : List Hint) → n ≤ number h → NeighboursAscend (h ∷ hs) → ascends_from n (h ∷ hs) ≡ true
-ascending_from n h [] k d = are_true (nat_le n (number h)) true (at_least n (number h) k) refl
-ascending_from n h (g ∷ hs) k d =
-    let less = d [] hs h g refl in
-    are_true (nat_le n (number h)) _ (at_least n (number h) k) (ascending_from (number h + 1) g hs (omega (arith, less)) (λ before after a b e. d (h ∷ before) after a b (ap (λ r. h ∷ r) e)))
-
-ascending : (hs : List Hint) → NeighboursAscend hs → ascends hs ≡ true
-ascending [] d = refl
-ascending (h ∷ hs) d = ascending_from 0 h hs (omega arith) d
-
-pub neighbours : (hs : List Hint) → (ascends hs ≡ true) ↔ NeighboursAscend hs
-neighbours hs = (λ e before after a b f. neighbours_at 0 before after a b (ap ascends (sym f) ∙ e), ascending hs)

@@ -1,5 +1,5 @@
 -- A list of fields, each under its own tag, of which the last of each tag counts.
-use Rattle.std.specs.Prelude.{ℕ, ◌+◌, ◌&&◌, Bool, true, nat_le, if◌then◌else◌, List, [], ◌∷◌, ◌++◌, Option, Some, None}
+use Rattle.std.specs.Prelude.{ℕ, if◌then◌else◌, List, [], ◌∷◌, ◌++◌, Option, Some, None}
 use Rattle.x509_der.specs.Types.{Choice, Deviation}
 use Rattle.x509_der.specs.Types.choice.{First, Second}
 use Rattle.x509_der.specs.Types.deviation
@@ -13,6 +13,7 @@ use Rattle.x509_der.specs.Contents.{octets}
 use Rattle.x509_der.specs.Small.{smalls}
 use Rattle.x509_der.specs.Integers.{integers}
 use Rattle.x509_der.specs.Meaning.{Meaning, seen}
+use Rattle.x509_der_structures_parts.specs.Lasts.{later, last, ascends}
 use Rattle.x509_der_structures_parts.specs.declared.key_reference.KeyReference.{KeyReference}
 
 -- [0] IMPLICIT OCTET STRING
@@ -54,34 +55,15 @@ serial_in (First k) = None
 serial_in (Second (First n)) = None
 serial_in (Second (Second s)) = Some s
 
--- the later one where it is there, else the earlier one
-abbrev pub later : {V : Type 0} → Option V → Option V → Option V
-later (Some v) earlier = Some v
-later None earlier = earlier
-
--- the last of a list
-abbrev pub last : {V : Type 0} → (Hint → Option V) → List Hint → Option V
-last under [] = None
-last under (h ∷ hs) = later (last under hs) (under h)
-
 -- the number of a field's tag
 abbrev pub number : Hint → ℕ
 number (First k) = 0
 number (Second (First n)) = 1
 number (Second (Second s)) = 2
 
--- the first number is least or more, and each is above the one before it
-abbrev pub ascends_from : ℕ → List Hint → Bool
-ascends_from least [] = true
-ascends_from least (h ∷ hs) = nat_le least (number h) && ascends_from (number h + 1) hs
-
--- the numbers are strictly ascending
-abbrev pub ascends : List Hint → Bool
-ascends hs = ascends_from 0 hs
-
--- one deviation where they aren't
+-- one deviation where the fields aren't strictly ascending by their tags, so also where one repeats
 abbrev pub order_kinds : List Hint → List Deviation
-order_kinds hs = if ascends hs then [] else deviation.AuthorityKeyFieldOrder ∷ []
+order_kinds hs = if ascends number hs then [] else deviation.AuthorityKeyFieldOrder ∷ []
 
 -- the last field of each tag
 abbrev pub reference_of : {A : Type 0} → List Hint → KeyReference A

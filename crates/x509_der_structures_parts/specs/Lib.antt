@@ -1,4 +1,6 @@
 pub mod Apart2
+pub mod Lasts
+pub mod LastFacts
 pub mod KeyReferences
 pub mod KeyReferenceFacts
 pub mod KeyReferenceLaws

@@ -3,7 +3,8 @@
 ghost use Rattle.std.specs.Prelude.{◌≡◌, ◌<◌};
 ghost use Rattle.x509_der.specs.Meaning.{if_found, sequence_seen, sequence_lawful, seen_element};
 ghost use Rattle.x509_der_structures_parts.specs.Apart2.{hints_apart, numbers_apart};
-ghost use Rattle.x509_der_structures_parts.specs.KeyReferences.{hint, number, ascends, order_kinds, reference_of, reference_base, reference_meaning, key_reference, reference_bytes, with_hint};
+ghost use Rattle.x509_der_structures_parts.specs.KeyReferences.{hint, number, order_kinds, reference_of, reference_base, reference_meaning, key_reference, reference_bytes, with_hint};
+ghost use Rattle.x509_der_structures_parts.specs.Lasts.{ascends};
 ghost use Rattle.x509_der_structures_parts.specs.KeyReferenceFacts.{reference_is, one_kind, reference_agrees};
 ghost use Rattle.x509_der.specs.Items.{items};
 
@@ -66,7 +67,7 @@ fn number_of<A: Allocator>(field: &Hint<A>) -> u8
 
 /// Whether the numbers of the fields' tags are strictly ascending.
 fn are_ascending<A: Allocator>(fields: &[Hint<A>]) -> bool
-    ensures { result ≡ ascends fields.now }
+    ensures { result ≡ ascends number fields.now }
 {
     let mut least: u8 = 0;
     'fields: for field in fields {

@@ -3,8 +3,9 @@
 ghost use Rattle.std.specs.Prelude.{◌≡◌, ◌↔◌, ◌∷◌, ◌++◌, true, ℕ, List, Option, Some, None};
 ghost use Rattle.std.specs.List.{AllByRecursion};
 ghost use Rattle.x509_der.specs.Tally.{Tally};
-ghost use Rattle.x509_der_structures_parts.specs.KeyReferences.{Hint, last, ascends, key_reference};
-ghost use Rattle.x509_der_structures_parts.specs.KeyReferenceLaws.{ReferenceAt, ReferenceMarks, NeighboursAscend};
+ghost use Rattle.x509_der_structures_parts.specs.KeyReferences.{key_reference};
+ghost use Rattle.x509_der_structures_parts.specs.Lasts.{last, ascends, NeighboursAscend};
+ghost use Rattle.x509_der_structures_parts.specs.KeyReferenceLaws.{ReferenceAt, ReferenceMarks};
 ghost use Rattle.x509_der_structures_parts.specs.Letters.{letter, LetterAt};
 
 use crate::key_reference::KeyReference;
@@ -32,14 +33,12 @@ pub fn key_reference_marks<A: Allocator>()
 {}
 
 /// Of a list of fields the last with a tag counts, where there is one.
-pub fn last_field_counts()
-    ensures bytes { (under : Hint → Option (List ℕ)) (before after : List Hint) (h : Hint) (v : List ℕ) → under h ≡ Some v → AllByRecursion (λ g. under g ≡ None) after → last under (before ++ h ∷ after) ≡ Some v }
-    ensures number { (under : Hint → Option ℕ) (before after : List Hint) (h : Hint) (v : ℕ) → under h ≡ Some v → AllByRecursion (λ g. under g ≡ None) after → last under (before ++ h ∷ after) ≡ Some v }
-    ensures no_bytes { (under : Hint → Option (List ℕ)) (hs : List Hint) → AllByRecursion (λ g. under g ≡ None) hs → last under hs ≡ None }
-    ensures no_number { (under : Hint → Option ℕ) (hs : List Hint) → AllByRecursion (λ g. under g ≡ None) hs → last under hs ≡ None }
+pub fn last_field_counts<H: Drop, V: Drop>()
+    ensures there { (under : H → Option V) (before after : List H) (h : H) (v : V) → under h ≡ Some v → AllByRecursion (λ g. under g ≡ None) after → last under (before ++ h ∷ after) ≡ Some v }
+    ensures absent { (under : H → Option V) (hs : List H) → AllByRecursion (λ g. under g ≡ None) hs → last under hs ≡ None }
 {}
 
-/// The fields are strictly ascending exactly where each of two neighbours has a tag below that of the one behind it.
-pub fn neighbours_ascend()
-    ensures { (hs : List Hint) → (ascends hs ≡ true) ↔ NeighboursAscend hs }
+/// Fields are strictly ascending by their numbers exactly where each has a number below that of the one behind it.
+pub fn neighbours_ascend<H: Drop>()
+    ensures { (number : H → ℕ) (hs : List H) → (ascends number hs ≡ true) ↔ NeighboursAscend number hs }
 {}
