@@ -56,6 +56,10 @@ not_among (t ∷ ts) us c d e =
     let k = both_true (among us t) (apart ts us) d in
     either_false (eqb c t) (among ts c) (among us c) (λ h. ap (among us) (eqb-true c t h) ∙ k.0) (not_among ts us c k.1) e
 
+-- what is not so of one byte
+pub byte_apart : (t : ℕ) (f : ℕ → Bool) → f t ≡ false → (c : ℕ) → eqb c t ≡ true → f c ≡ false
+byte_apart t f h c e = ap f (eqb-true c t e) ∙ h
+
 -- an alternative of a choice, or several, and the tags that spellings begin with
 pub record Alternative {V : Type 0} (s : Shape V) (tags : List ℕ) : Type 0 where
   pub lawful : Lawful s

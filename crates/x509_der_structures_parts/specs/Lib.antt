@@ -4,3 +4,5 @@ pub mod Releases
 pub mod ReleaseFacts
 pub mod Labels
 pub mod LabelFacts
+pub mod Features
+pub mod FeatureFacts
