@@ -1,8 +1,9 @@
 -- A label in one of eight forms, six of which are also spelled in other ways.
-use Rattle.std.specs.Prelude.{ℕ, Bool, List, [], ◌∷◌, Option, Some}
+use Rattle.std.specs.Prelude.{◌≡◌, ◌⊎◌, true, length, ℕ, Bool, List, [], ◌∷◌, ◌++◌, Option, Some}
 use Rattle.x509_der.specs.Types.{Choice, Deviation}
 use Rattle.x509_der.specs.Types.choice.{First, Second}
 use Rattle.x509_der.specs.Types.deviation
+use Rattle.x509_der.specs.Tally.{Tally, marked}
 use Rattle.x509_der.specs.Shape.{Shape}
 use Rattle.x509_der.specs.Around.{around}
 use Rattle.x509_der.specs.Items.{items}
@@ -14,6 +15,7 @@ use Rattle.x509_der.specs.Integers.{integers}
 use Rattle.x509_der.specs.Bits.{bit_strings}
 use Rattle.x509_der.specs.Arcs.{oids}
 use Rattle.x509_der.specs.Meaning.{Meaning, seen}
+use Rattle.x509_der_structures_parts.specs.Apart1.{among}
 use Rattle.x509_der_structures_parts.specs.declared.labels.Label.{Label}
 use Rattle.x509_der_structures_parts.specs.declared.labels.Label.TheVariants.{Codes, Text, Number, Flag, Level, Serial, Uses, Name}
 
@@ -71,6 +73,16 @@ loose_base =
     (one_of (around 161 (around 4 octets)) (around 162 (around 2 smalls)))
     (one_of (one_of (around 166 (around 2 integers)) (around 167 (around 3 bit_strings))) (one_of (around 168 (around 6 oids)) (around 132 truths)))
 
+-- the tags of the one and of the other
+abbrev pub strict_tags : List ℕ
+strict_tags = 160 ∷ 129 ∷ 130 ∷ 164 ∷ 165 ∷ 134 ∷ 135 ∷ 136 ∷ []
+
+abbrev pub loose_tags : List ℕ
+loose_tags = 161 ∷ 162 ∷ 166 ∷ 167 ∷ 168 ∷ 132 ∷ []
+
+abbrev pub label_tags : List ℕ
+label_tags = strict_tags ++ loose_tags
+
 -- either, of which the first is written
 abbrev pub label_base : Shape (Choice Strict Loose)
 label_base = one_of strict_base loose_base
@@ -85,3 +97,9 @@ label_meaning = record { of = label_means; back = λ v. First (label_parts v); v
 
 abbrev pub label : {A : Type 0} → Shape (Label A)
 label = seen label_meaning label_base
+
+-- a spelling that begins with c: under a strict tag the strict alternative, with the marks within it; under a loose one another, with a mark over the whole
+abbrev pub FormAt : {A : Type 0} → Label A → ℕ → List ℕ → Tally → Type 0
+FormAt v c p y =
+    ((among strict_tags c ≡ true) × strict_base.spelled (label_parts v) (c ∷ p) y)
+    ⊎ ((among loose_tags c ≡ true) × ((part : Tally) × (y ≡ marked (deviation.GeneralNameForm ∷ []) (length (c ∷ p)) part)))

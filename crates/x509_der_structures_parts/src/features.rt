@@ -4,7 +4,7 @@ ghost use Rattle.std.specs.Prelude.{◌≡◌, false, refl};
 ghost use Rattle.std.proofs.Common.{eqb};
 ghost use Rattle.x509_der.specs.Meaning.{if_found, sequence_seen, sequence_lawful, seen_element};
 ghost use Rattle.x509_der.specs.Reading.{Ready, Reads};
-ghost use Rattle.x509_der_structures_parts.specs.Features.{value_bytes, kind_of as kind_by, by_kind, critical_of, written_critical, critical_kinds, inner, feature_base, feature_meaning, feature_bytes, feature};
+ghost use Rattle.x509_der_structures_parts.specs.Features.{value_bytes, IsValue, kind_of as kind_by, by_kind, critical_of, written_critical, critical_kinds, inner, feature_base, feature_meaning, feature_bytes, feature};
 
 use std::alloc::{Allocator, Global};
 use x509_der::parts::{
@@ -72,6 +72,15 @@ impl<A: Allocator> ToDer for FeatureValue<A> {
     }
 }
 
+/// Says that the value is one of its type: numbers are in range. It does nothing when it runs.
+fn known_value<A: Allocator>(value: &FeatureValue<A>)
+    ensures { IsValue value.now }
+{
+    if let FeatureValue::Number(number) = value {
+        let _value = *number;
+    }
+}
+
 /// Reads a value of a kind.
 ///
 /// # Errors
@@ -121,13 +130,7 @@ impl<A: Allocator + Copy> Keyed<Key<A>, A> for FeatureValue<A> {
     }
 
     fn known_behind(&self, _key: &Key<A>) {
-        match self {
-            FeatureValue::Flag(_) => {}
-            FeatureValue::Number(number) => {
-                let _value = *number;
-            }
-            FeatureValue::Other(octets) => octets.known(),
-        }
+        known_value(self);
     }
 
     fn read_behind(alloc: A, key: &Key<A>, reader: &mut Reader<'_, A>) -> Result<Self, ReadError> {
@@ -242,13 +245,7 @@ impl<A: Allocator + Copy> Field<A> for Feature<A> {
 
     fn known(&self) {
         self.name.known();
-        match &self.value {
-            FeatureValue::Flag(_) => {}
-            FeatureValue::Number(number) => {
-                let _value = *number;
-            }
-            FeatureValue::Other(octets) => octets.known(),
-        }
+        known_value(&self.value);
     }
 
     fn read(alloc: A, reader: &mut Reader<'_, A>) -> Result<Self, ReadError> {

@@ -5,6 +5,7 @@ ghost use Rattle.x509_der_structures_parts.specs.Labels.{strict_base, label_base
 ghost use Rattle.x509_der_structures_parts.specs.LabelFacts.{label_seen, label_lawful, label_element};
 
 use std::alloc::{Allocator, Global};
+use x509_der::parts::Choice::{First, Second};
 use x509_der::parts::{
     Body, Choice, Explicit0, Explicit1, Explicit2, Explicit4, Explicit5, Explicit6, Explicit7,
     Explicit8, Field, Found, Implicit1, Implicit2, Implicit4, Implicit6, Implicit7, Implicit8,
@@ -95,22 +96,14 @@ fn written<A: Allocator>(value: &Label<A>) -> Written<'_, A>
     ensures { ⟦<Written<'static, A> as ToDer>⟧.strict result ≡ strict_base.strict (label_parts value.now) }
 {
     match value {
-        Label::Codes(codes) => {
-            Choice::First(Choice::First(Choice::First(Tagged::new(Body(codes)))))
-        }
-        Label::Text(text) => Choice::First(Choice::First(Choice::Second(Tagged::new(Body(text))))),
-        Label::Number(number) => {
-            Choice::First(Choice::Second(Choice::First(Tagged::new(Body(number)))))
-        }
-        Label::Flag(flag) => Choice::First(Choice::Second(Choice::Second(Tagged::new(flag)))),
-        Label::Level(level) => Choice::Second(Choice::First(Choice::First(Tagged::new(level)))),
-        Label::Serial(serial) => {
-            Choice::Second(Choice::First(Choice::Second(Tagged::new(Body(serial)))))
-        }
-        Label::Uses(uses) => Choice::Second(Choice::Second(Choice::First(Tagged::new(Body(uses))))),
-        Label::Name(name) => {
-            Choice::Second(Choice::Second(Choice::Second(Tagged::new(Body(name)))))
-        }
+        Label::Codes(codes) => First(First(First(Tagged::new(Body(codes))))),
+        Label::Text(text) => First(First(Second(Tagged::new(Body(text))))),
+        Label::Number(number) => First(Second(First(Tagged::new(Body(number))))),
+        Label::Flag(flag) => First(Second(Second(Tagged::new(flag)))),
+        Label::Level(level) => Second(First(First(Tagged::new(level)))),
+        Label::Serial(serial) => Second(First(Second(Tagged::new(Body(serial))))),
+        Label::Uses(uses) => Second(Second(First(Tagged::new(Body(uses))))),
+        Label::Name(name) => Second(Second(Second(Tagged::new(Body(name))))),
     }
 }
 
@@ -119,18 +112,14 @@ fn from_strict<A: Allocator>(parts: Strict<A>) -> Label<A>
     ensures { result ≡ strict_label parts }
 {
     match parts {
-        Choice::First(Choice::First(Choice::First(codes))) => Label::Codes(codes.into_inner().0),
-        Choice::First(Choice::First(Choice::Second(text))) => Label::Text(text.into_inner().0),
-        Choice::First(Choice::Second(Choice::First(number))) => Label::Number(
-            number.into_inner().0,
-        ),
-        Choice::First(Choice::Second(Choice::Second(flag))) => Label::Flag(flag.into_inner()),
-        Choice::Second(Choice::First(Choice::First(level))) => Label::Level(level.into_inner()),
-        Choice::Second(Choice::First(Choice::Second(serial))) => Label::Serial(
-            serial.into_inner().0,
-        ),
-        Choice::Second(Choice::Second(Choice::First(uses))) => Label::Uses(uses.into_inner().0),
-        Choice::Second(Choice::Second(Choice::Second(name))) => Label::Name(name.into_inner().0),
+        First(First(First(codes))) => Label::Codes(codes.into_inner().0),
+        First(First(Second(text))) => Label::Text(text.into_inner().0),
+        First(Second(First(number))) => Label::Number(number.into_inner().0),
+        First(Second(Second(flag))) => Label::Flag(flag.into_inner()),
+        Second(First(First(level))) => Label::Level(level.into_inner()),
+        Second(First(Second(serial))) => Label::Serial(serial.into_inner().0),
+        Second(Second(First(uses))) => Label::Uses(uses.into_inner().0),
+        Second(Second(Second(name))) => Label::Name(name.into_inner().0),
     }
 }
 
@@ -139,12 +128,12 @@ fn from_loose<A: Allocator>(parts: Loose<A>) -> Label<A>
     ensures { result ≡ loose_label parts }
 {
     match parts {
-        Choice::First(Choice::First(text)) => Label::Text(text.into_inner()),
-        Choice::First(Choice::Second(number)) => Label::Number(number.into_inner()),
-        Choice::Second(Choice::First(Choice::First(serial))) => Label::Serial(serial.into_inner()),
-        Choice::Second(Choice::First(Choice::Second(uses))) => Label::Uses(uses.into_inner()),
-        Choice::Second(Choice::Second(Choice::First(name))) => Label::Name(name.into_inner()),
-        Choice::Second(Choice::Second(Choice::Second(flag))) => Label::Flag(flag.into_inner().0),
+        First(First(text)) => Label::Text(text.into_inner()),
+        First(Second(number)) => Label::Number(number.into_inner()),
+        Second(First(First(serial))) => Label::Serial(serial.into_inner()),
+        Second(First(Second(uses))) => Label::Uses(uses.into_inner()),
+        Second(Second(First(name))) => Label::Name(name.into_inner()),
+        Second(Second(Second(flag))) => Label::Flag(flag.into_inner().0),
     }
 }
 
@@ -165,10 +154,8 @@ impl<A: Allocator + Copy> View<Fields<A>, A> for Label<A> {
 
     fn meaning(parts: Fields<A>) -> Option<(Self, Found)> {
         match parts {
-            Choice::First(strict) => Some((from_strict(strict), Found::Nothing)),
-            Choice::Second(loose) => {
-                Some((from_loose(loose), Found::One(Deviation::GeneralNameForm)))
-            }
+            First(strict) => Some((from_strict(strict), Found::Nothing)),
+            Second(loose) => { Some((from_loose(loose), Found::One(Deviation::GeneralNameForm))) }
         }
     }
 

@@ -1,18 +1,26 @@
 //! Laws of the types of this crate. A function here does nothing when it runs: its contract is the law.
 
-ghost use Rattle.std.specs.Prelude.{◌≡◌, ℕ, List, IfErr};
+ghost use Rattle.std.specs.Prelude.{◌≡◌, ◌∷◌, ℕ, List, IfErr};
 ghost use Rattle.x509_der.specs.Types.read_error.{OutOfMemory};
 ghost use Rattle.x509_der.specs.Calls.{WholeRead};
 ghost use Rattle.x509_der.specs.Tally.{Tally};
+ghost use Rattle.x509_der_structures_parts.specs.Labels.{label, FormAt};
 ghost use Rattle.x509_der_structures_parts.specs.Features.{feature, FieldsAt as FeatureAt};
 ghost use Rattle.x509_der_structures_parts.specs.Releases.{release};
 
 use crate::features::Feature;
+use crate::labels::Label;
 use crate::releases::Release;
 use std::alloc::Allocator;
 use x509_der::laws::fields;
 use x509_der::parts::Field;
 use x509_der::{ReadError, from_bytes};
+
+/// What the first byte of a label tells: under one of eight tags the alternative that is written stands, and under one of
+/// six others another, with the deviation `GeneralNameForm` over the whole. No label begins with another byte.
+pub fn label_form<A: Allocator + Copy>()
+    ensures { (v : Label A) (c : ℕ) (p : List ℕ) (y : Tally) → label.spelled v (c ∷ p) y → FormAt v c p y }
+{}
 
 /// The law of fields of `Feature`.
 pub fn feature_fields<A: Allocator + Copy>()
