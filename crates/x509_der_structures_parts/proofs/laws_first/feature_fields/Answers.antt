@@ -1,0 +1,29 @@
+use Rattle.std.proofs.Common.{refl, subst}
+use Rattle.x509_der.specs.ElementPlaces.{content_first}
+use Rattle.x509_der_structures_parts.specs.Features.{FieldsAt, inner}
+use Rattle.x509_der_structures_parts.specs.FeatureFacts.{means_one}
+use Rattle.x509_der_structures_parts.specs.declared.features.Feature.{Feature}
+use Rattle.x509_der_structures_parts.proofs.laws_first.feature_fields.Goals as goal
+
+pub returns : goal.returns
+returns g c = λ v string y a.
+    let b = (c.fields.ensures v string y a).parts in
+    let s = content_first 48 inner b.base string y b.parts in
+    let j = s.inner.parts in
+    let k = j.first.parts in
+    let P : Feature _ → Type 0 = λ w. FieldsAt w string y in
+    subst P (means_one b.base v b.kinds b.means).0 (record {
+      content = s.content;
+      bytes = s.bytes;
+      keys = j.front;
+      values = j.back;
+      fields = j.bytes;
+      names = k.front;
+      flags = k.back;
+      key_fields = k.bytes;
+      spelled = b.base.0.1;
+      means = refl;
+      name_at = k.first.field;
+      critical_at = k.second.parts;
+      value_at = j.second;
+    })

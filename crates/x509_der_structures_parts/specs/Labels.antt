@@ -1,0 +1,105 @@
+-- A label in one of eight forms, six of which are also spelled in other ways.
+use Rattle.std.specs.Prelude.{◌≡◌, ◌⊎◌, true, length, ℕ, Bool, List, [], ◌∷◌, ◌++◌, Option, Some}
+use Rattle.x509_der.specs.Types.{Choice, Deviation}
+use Rattle.x509_der.specs.Types.choice.{First, Second}
+use Rattle.x509_der.specs.Types.deviation
+use Rattle.x509_der.specs.Tally.{Tally, marked}
+use Rattle.x509_der.specs.Shape.{Shape}
+use Rattle.x509_der.specs.Around.{around}
+use Rattle.x509_der.specs.Items.{items}
+use Rattle.x509_der.specs.Choice.{one_of}
+use Rattle.x509_der.specs.Small.{smalls}
+use Rattle.x509_der.specs.Truth.{truths}
+use Rattle.x509_der.specs.Contents.{octets}
+use Rattle.x509_der.specs.Integers.{integers}
+use Rattle.x509_der.specs.Bits.{bit_strings}
+use Rattle.x509_der.specs.Arcs.{oids}
+use Rattle.x509_der.specs.Meaning.{Meaning, seen}
+use Rattle.x509_der_structures_parts.specs.Apart1.{among}
+use Rattle.x509_der_structures_parts.specs.declared.labels.Label.{Label}
+use Rattle.x509_der_structures_parts.specs.declared.labels.Label.TheVariants.{Codes, Text, Number, Flag, Level, Serial, Uses, Name}
+
+-- the forms, in the order of their tags
+abbrev pub Strict : Type 0
+Strict = Choice (Choice (Choice (List ℕ) (List ℕ)) (Choice ℕ Bool)) (Choice (Choice ℕ (List ℕ)) (Choice (List Bool) (List ℕ)))
+
+-- and those that are deviations
+abbrev pub Loose : Type 0
+Loose = Choice (Choice (List ℕ) ℕ) (Choice (Choice (List ℕ) (List Bool)) (Choice (List ℕ) Bool))
+
+abbrev pub label_parts : {A : Type 0} → Label A → Strict
+label_parts (Codes v) = First (First (First v))
+label_parts (Text v) = First (First (Second v))
+label_parts (Number v) = First (Second (First v))
+label_parts (Flag v) = First (Second (Second v))
+label_parts (Level v) = Second (First (First v))
+label_parts (Serial v) = Second (First (Second v))
+label_parts (Uses v) = Second (Second (First v))
+label_parts (Name v) = Second (Second (Second v))
+
+abbrev pub strict_label : {A : Type 0} → Strict → Label A
+strict_label (First (First (First v))) = Codes v
+strict_label (First (First (Second v))) = Text v
+strict_label (First (Second (First v))) = Number v
+strict_label (First (Second (Second v))) = Flag v
+strict_label (Second (First (First v))) = Level v
+strict_label (Second (First (Second v))) = Serial v
+strict_label (Second (Second (First v))) = Uses v
+strict_label (Second (Second (Second v))) = Name v
+
+abbrev pub loose_label : {A : Type 0} → Loose → Label A
+loose_label (First (First v)) = Text v
+loose_label (First (Second v)) = Number v
+loose_label (Second (First (First v))) = Serial v
+loose_label (Second (First (Second v))) = Uses v
+loose_label (Second (Second (First v))) = Name v
+loose_label (Second (Second (Second v))) = Flag v
+
+-- CHOICE {
+--   codes [0] IMPLICIT SEQUENCE OF INTEGER (0..255), text [1] IMPLICIT OCTET STRING, number [2] IMPLICIT INTEGER (0..255), flag [4] EXPLICIT BOOLEAN,
+--   level [5] EXPLICIT INTEGER (0..255), serial [6] IMPLICIT INTEGER, uses [7] IMPLICIT BIT STRING, name [8] IMPLICIT OBJECT IDENTIFIER }
+abbrev pub strict_base : Shape Strict
+strict_base =
+    one_of
+    (one_of (one_of (around 160 (items (around 2 smalls))) (around 129 octets)) (one_of (around 130 smalls) (around 164 (around 1 truths))))
+    (one_of (one_of (around 165 (around 2 smalls)) (around 134 integers)) (one_of (around 135 bit_strings) (around 136 oids)))
+
+-- CHOICE {
+--   text [1] EXPLICIT OCTET STRING, number [2] EXPLICIT INTEGER (0..255), serial [6] EXPLICIT INTEGER, uses [7] EXPLICIT BIT STRING,
+--   name [8] EXPLICIT OBJECT IDENTIFIER, flag [4] IMPLICIT BOOLEAN }
+abbrev pub loose_base : Shape Loose
+loose_base =
+    one_of
+    (one_of (around 161 (around 4 octets)) (around 162 (around 2 smalls)))
+    (one_of (one_of (around 166 (around 2 integers)) (around 167 (around 3 bit_strings))) (one_of (around 168 (around 6 oids)) (around 132 truths)))
+
+-- the tags of the one and of the other
+abbrev pub strict_tags : List ℕ
+strict_tags = 160 ∷ 129 ∷ 130 ∷ 164 ∷ 165 ∷ 134 ∷ 135 ∷ 136 ∷ []
+
+abbrev pub loose_tags : List ℕ
+loose_tags = 161 ∷ 162 ∷ 166 ∷ 167 ∷ 168 ∷ 132 ∷ []
+
+abbrev pub label_tags : List ℕ
+label_tags = strict_tags ++ loose_tags
+
+-- either, of which the first is written
+abbrev pub label_base : Shape (Choice Strict Loose)
+label_base = one_of strict_base loose_base
+
+-- the second has a mark over the whole
+abbrev pub label_means : {A : Type 0} → Choice Strict Loose → Option (Label A × List Deviation)
+label_means (First b) = Some (strict_label b, [])
+label_means (Second b) = Some (loose_label b, deviation.GeneralNameForm ∷ [])
+
+abbrev pub label_meaning : {A : Type 0} → Meaning (Choice Strict Loose) (Label A)
+label_meaning = record { of = label_means; back = λ v. First (label_parts v); valid = λ v. strict_base.valid (label_parts v); readable = λ v. strict_base.readable (label_parts v) }
+
+abbrev pub label : {A : Type 0} → Shape (Label A)
+label = seen label_meaning label_base
+
+-- a spelling that begins with c: under a strict tag the strict alternative, with the marks within it; under a loose one another, with a mark over the whole
+abbrev pub FormAt : {A : Type 0} → Label A → ℕ → List ℕ → Tally → Type 0
+FormAt v c p y =
+    ((among strict_tags c ≡ true) × strict_base.spelled (label_parts v) (c ∷ p) y)
+    ⊎ ((among loose_tags c ≡ true) × ((part : Tally) × (y ≡ marked (deviation.GeneralNameForm ∷ []) (length (c ∷ p)) part)))
