@@ -160,7 +160,7 @@ module _ {T V W : Type 0} (view : T → V × W) (inj : (x y : T) → view x ≡ 
     pub none_refused : (e : ReadError) → Refuses (both_fields a b) inner end e → NoWhole (in_sequence view a b) string e
     none_refused e x m v y i =
         let k = element_one 48 48 inner.rest i.content after [] (sym n.bytes ∙ from ∙ i.bytes ∙ sym (append-nil (element 48 i.content))) in
-        x.none m (view v) i.content [] i.part i.spelled (k.content ∙ sym (append-nil i.content)) tt
+        m (x.none (view v) i.content [] i.part i.spelled (k.content ∙ sym (append-nil i.content)) tt).memory
 
     -- bytes behind the fields
     pub none_more : (j : V × W) (place : ℕ) (counts : List ℕ) (e : ReadError) → BothTaken a b inner end j.0 j.1 place counts → (end.rest ≡ [] → ⊥) → NoWhole (in_sequence view a b) string e

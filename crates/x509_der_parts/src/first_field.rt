@@ -9,7 +9,7 @@ ghost use Rattle.x509_der_parts.specs.Reading.{Ready};
 use crate::deviation::Deviations;
 use crate::errors::ReadError;
 use crate::join::Join;
-use crate::reader::Reader;
+use crate::reader::{Reader, whole_reader};
 use crate::structure::Structure;
 use crate::tagged::{Sequence, Tagged};
 use crate::traits::Field;
@@ -68,7 +68,7 @@ pub fn read_first_field<
     ensures ok { IfOk result (λ r. FirstPart T.fields F.shape G.shape bytes.now r.value r.slice.now r.inside r.outside) }
     ensures err { IfErr result (NoWhole (in_sequence T.fields F.shape G.shape) bytes.now) }
 {
-    let mut reader = Reader::<A>::new(bytes);
+    let mut reader = whole_reader::<A>(bytes);
     let behind = reader.enter(0x30)?;
     let start = reader.spot().start;
     let (fields, end, inside) = read_both::<F, G, A>(alloc, &mut reader)?;
