@@ -8,7 +8,11 @@ use Rattle.std.proofs.lemmas.Nat.{mul-le}
 use Rattle.std.proofs.lemmas.Bool.{cases_lt}
 use Rattle.std.proofs.lemmas.Bool.Decides.{nat_tests}
 use Rattle.x509_der_parts.specs.Shape.{Lawful}
-use Rattle.x509_der.specs.Integers.{AreBytes, unsigned_value, signed_value, sign_bit, pads, is_minimal}
+use Rattle.x509_der_parts.specs.Contents.{itself_lawful}
+use Rattle.x509_der.specs.Integers.{AreBytes, unsigned_value, signed_value, sign_bit, pads, is_minimal, IsMinimal, integers}
+
+pub integer_lawful : Lawful integers
+integer_lawful = itself_lawful IsMinimal
 
 -- a byte in front that says nothing changes no number
 
