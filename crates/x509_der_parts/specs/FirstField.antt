@@ -1,6 +1,6 @@
 -- A whole SEQUENCE with the slice of its first field, and the deviations inside that slice and outside of it.
 use Rattle.std.proofs.Common.{◌≡◌, ◌↔◌, ℕ, ◌+◌, ◌-◌, ◌≤◌, ◌<◌, List, [], ◌∷◌, ◌++◌, length, take, drop, sum, get_or, ⊎_elim, refl, sym, ap, subst, ◌∙◌, arith, append-nil, length-append}
-use Rattle.std.specs.Prelude.{Result, Ok, Err, replicate}
+use Rattle.std.specs.Prelude.{Result, Ok, Err, None, replicate}
 use Rattle.std.proofs.Math.Seq.{drop-append_seam}
 use Rattle.std.proofs.lemmas.List.{append_cancel_left, take_at}
 use Rattle.std.proofs.lemmas.Bool.{cases_lt}
@@ -22,6 +22,7 @@ use Rattle.x509_der_parts.specs.Calls.{IsWhole, NoWhole}
 use Rattle.x509_der_parts.specs.Whole.{whole_strict}
 use Rattle.x509_der_parts.specs.Reading.{Cursor, Accepts, Refuses, Entered, tallied}
 use Rattle.x509_der_parts.specs.declared.errors.ReadError.{ReadError}
+use Rattle.x509_der_parts.specs.declared.errors.ReadError.TheVariants.{OutOfMemory}
 
 -- the first field, and then the others
 abbrev pub both_fields : {V W : Type 0} → Shape V → Shape W → Shape (V × W)
@@ -31,7 +32,7 @@ both_fields a b = pair (λ j. j.0) (λ j. j.1) a b
 abbrev pub in_sequence : {T V W : Type 0} → (T → V × W) → Shape V → Shape W → Shape T
 in_sequence view a b = mapped view (around 48 (both_fields a b))
 
--- the slice spells the value's first field and stands right behind the header; it holds the deviations that are counted inside, and the others of the whole are counted outside
+-- the slice spells the value's first field and stands right behind the header, and the others are spelled behind it; it holds the deviations that are counted inside, and the others of the whole are counted outside
 pub record FirstPart {T V W : Type 0} (view : T → V × W) (a : Shape V) (b : Shape W) (string : List ℕ) (value : T) (slice counts others : List ℕ) : Type 0 where
   pub tally : Tally
   pub whole : IsWhole (in_sequence view a b) string value tally
@@ -39,6 +40,8 @@ pub record FirstPart {T V W : Type 0} (view : T → V × W) (a : Shape V) (b : S
   pub bytes : string ≡ element 48 (slice ++ after)
   pub part : Tally
   pub spelled : a.spelled (view value).0 slice part
+  pub rest : Tally
+  pub behind : b.spelled (view value).1 after rest
   pub stands : IsPart string tally (header (slice ++ after)) slice part
   pub strict : (slice ≡ a.strict (view value).0) ↔ (sum counts ≡ 0)
   pub counted : counts ≡ counts_of part.marks
@@ -142,6 +145,8 @@ module _ {T V W : Type 0} (view : T → V × W) (inj : (x y : T) → view x ≡ 
           bytes = bytes;
           part = y;
           spelled = fore;
+          rest = z;
+          behind = aft;
           stands = first_there string tally (header c) c part (part_content 48 c string part tally bytes refl wc) f s y z refl refl wf ws;
           strict = (λ e. sum_none counts y.marks counted (w.0 e), λ e. w.1 (none_sum counts y.marks counted e));
           counted = counted;
@@ -161,6 +166,10 @@ module _ {T V W : Type 0} (view : T → V × W) (inj : (x y : T) → view x ≡ 
     none_refused e x m v y i =
         let k = element_one 48 48 inner.rest i.content after [] (sym n.bytes ∙ from ∙ i.bytes ∙ sym (append-nil (element 48 i.content))) in
         m (x.none (view v) i.content [] i.part i.spelled (k.content ∙ sym (append-nil i.content)) tt).memory
+
+    -- a content that takes no memory
+    pub spares_memory : (e : ReadError) → old.places ≡ None → Refuses (both_fields a b) inner end e → a.frugal → b.frugal → e ≡ OutOfMemory → ⊥
+    spares_memory e o x f h = x.spares (f, h) (n.places ∙ o)
 
     -- bytes behind the fields
     pub none_more : (j : V × W) (place : ℕ) (counts : List ℕ) (e : ReadError) → BothTaken a b inner end j.0 j.1 place counts → (end.rest ≡ [] → ⊥) → NoWhole (in_sequence view a b) string e

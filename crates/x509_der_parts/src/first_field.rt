@@ -5,6 +5,7 @@ ghost use Rattle.x509_der_parts.specs.Calls.{NoWhole};
 ghost use Rattle.x509_der_parts.specs.FirstField.{in_sequence, FirstPart, TakesBoth};
 ghost use Rattle.x509_der_parts.specs.Pair.{Apart};
 ghost use Rattle.x509_der_parts.specs.Reading.{Ready};
+ghost use Rattle.x509_der_parts.specs.declared.errors.ReadError.TheVariants.{OutOfMemory};
 
 use crate::deviation::Deviations;
 use crate::errors::ReadError;
@@ -54,7 +55,8 @@ fn read_both<F: Field<A>, G: Field<A>, A: Allocator + Copy>(
 /// where there are none inside, the bytes are the first field's strict spelling, and else they aren't.
 ///
 /// # Errors
-/// Refused exactly where the grammar relates the bytes to no value, or memory is refused.
+/// Refused exactly where the grammar relates the bytes to no value, or memory is refused. Fields that can be read without
+/// memory are never refused for it.
 pub fn read_first_field<
     'a,
     T: Structure<Tagged<Sequence, Join<F, G>>>,
@@ -67,6 +69,7 @@ pub fn read_first_field<
     requires apart { Apart F.shape G.shape }
     ensures ok { IfOk result (λ r. FirstPart T.fields F.shape G.shape bytes.now r.value r.slice.now r.inside r.outside) }
     ensures err { IfErr result (NoWhole (in_sequence T.fields F.shape G.shape) bytes.now) }
+    ensures frugal { F.shape.frugal → G.shape.frugal → IfErr result (λ e. e ≡ OutOfMemory → ⊥) }
 {
     let mut reader = whole_reader::<A>(bytes);
     let behind = reader.enter(0x30)?;

@@ -1,6 +1,6 @@
 use Rattle.std.proofs.Common.{◌-◌, take, drop, refl, sym, ◌∙◌, arith}
 use Rattle.std.proofs.lemmas.Result.{err_from_is_err_and}
-use Rattle.x509_der_parts.specs.FirstField.{both_grow, first_part, places_in, none_entered, none_refused, none_more, none_behind}
+use Rattle.x509_der_parts.specs.FirstField.{both_grow, first_part, places_in, none_entered, none_refused, none_more, none_behind, spares_memory}
 use Rattle.x509_der_parts.specs.OptionalReads.{empty_is, not_empty_is}
 use Rattle.x509_der_parts.proofs.first_field.read_first_field.Goals as goal
 
@@ -47,3 +47,13 @@ returns-clause-ok g c =
     (empty_is c.read_both.new.reader.rest (sym c.is_empty.ensures ∙ c.if-not-is_empty.false))
     (empty_is c.in_ok-behind.behind.now (sym c.is_empty-2.ensures ∙ c.if-not-is_empty-2.false))
     c.spot-start.ensures.start refl c.deviations.ensures c.since-outside.ensures
+
+pub returns-in_err-behind-clause-frugal : goal.returns-in_err-behind-clause-frugal
+returns-in_err-behind-clause-frugal g c = λ f h. let p = err_from_is_err_and c.from_residual.result c.from_residual.ensures.1 in rw (p.1, p.2) c.in_err-behind.ensures.kind
+
+pub returns-in_err-fields-clause-frugal : goal.returns-in_err-fields-clause-frugal
+returns-in_err-fields-clause-frugal g c = λ f h.
+    let r = c.requires in
+    let p = err_from_is_err_and c.from_residual-in_err-fields.result c.from_residual-in_err-fields.ensures.1 in
+    rw (p.1, p.2) (spares_memory g.T.Structure.fields g.met.T.Structure.same g.F.Field.shape g.G.Field.shape (g.F.Field.lawful r.first) (g.G.Field.lawful r.second) r.apart c.new-reader.result c.enter.new.self c.read_both.new.reader c.in_ok-behind.behind.now c.args.bytes.now c.new-reader.ensures.rest c.in_ok-behind.ensures.enters
+    _ c.new-reader.ensures.places c.in_err-fields.ensures f h)
