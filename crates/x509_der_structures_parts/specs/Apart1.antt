@@ -60,6 +60,10 @@ not_among (t ∷ ts) us c d e =
 pub byte_apart : (t : ℕ) (f : ℕ → Bool) → f t ≡ false → (c : ℕ) → eqb c t ≡ true → f c ≡ false
 byte_apart t f h c e = ap f (eqb-true c t e) ∙ h
 
+-- nor of either of two
+pub either_apart : (f g h : ℕ → Bool) → ((c : ℕ) → f c ≡ true → h c ≡ false) → ((c : ℕ) → g c ≡ true → h c ≡ false) → (c : ℕ) → (f c || g c) ≡ true → h c ≡ false
+either_apart f g h i j c = either_false (f c) (g c) (h c) (i c) (j c)
+
 -- an alternative of a choice, or several, and the tags that spellings begin with
 pub record Alternative {V : Type 0} (s : Shape V) (tags : List ℕ) : Type 0 where
   pub lawful : Lawful s

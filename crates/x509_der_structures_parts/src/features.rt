@@ -141,8 +141,8 @@ impl<A: Allocator + Copy> Keyed<Key<A>, A> for FeatureValue<A> {
 /// A feature by its object identifier, whether it is critical, and its value in an OCTET STRING.
 ///
 /// # Encoding
-/// `SEQUENCE { name OBJECT IDENTIFIER, critical BOOLEAN DEFAULT FALSE, value OCTET STRING }`. A FALSE that is spelled is the
-/// deviation `CriticalFalseSpelled`.
+/// `SEQUENCE { name OBJECT IDENTIFIER, critical BOOLEAN DEFAULT FALSE, value OCTET STRING }`. A FALSE that is spelled is read
+/// with the deviation `CriticalFalseSpelled`, and written as it must be: not at all.
 #[derive(Drop)]
 pub struct Feature<A: Allocator = Global> {
     pub name: ObjectIdentifierAsn1<A>,

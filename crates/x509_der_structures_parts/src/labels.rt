@@ -107,19 +107,27 @@ fn written<A: Allocator>(value: &Label<A>) -> Written<'_, A>
     }
 }
 
+/// The value under an implicit tag.
+fn value_in<N, T>(element: Tagged<N, Body<T>>) -> T
+    ensures { result ≡ element }
+{
+    let Body(value) = element.into_inner();
+    value
+}
+
 /// The label of an alternative that is written.
 fn from_strict<A: Allocator>(parts: Strict<A>) -> Label<A>
     ensures { result ≡ strict_label parts }
 {
     match parts {
-        First(First(First(codes))) => Label::Codes(codes.into_inner().0),
-        First(First(Second(text))) => Label::Text(text.into_inner().0),
-        First(Second(First(number))) => Label::Number(number.into_inner().0),
+        First(First(First(codes))) => Label::Codes(value_in(codes)),
+        First(First(Second(text))) => Label::Text(value_in(text)),
+        First(Second(First(number))) => Label::Number(value_in(number)),
         First(Second(Second(flag))) => Label::Flag(flag.into_inner()),
         Second(First(First(level))) => Label::Level(level.into_inner()),
-        Second(First(Second(serial))) => Label::Serial(serial.into_inner().0),
-        Second(Second(First(uses))) => Label::Uses(uses.into_inner().0),
-        Second(Second(Second(name))) => Label::Name(name.into_inner().0),
+        Second(First(Second(serial))) => Label::Serial(value_in(serial)),
+        Second(Second(First(uses))) => Label::Uses(value_in(uses)),
+        Second(Second(Second(name))) => Label::Name(value_in(name)),
     }
 }
 
@@ -133,7 +141,7 @@ fn from_loose<A: Allocator>(parts: Loose<A>) -> Label<A>
         Second(First(First(serial))) => Label::Serial(serial.into_inner()),
         Second(First(Second(uses))) => Label::Uses(uses.into_inner()),
         Second(Second(First(name))) => Label::Name(name.into_inner()),
-        Second(Second(Second(flag))) => Label::Flag(flag.into_inner().0),
+        Second(Second(Second(flag))) => Label::Flag(value_in(flag)),
     }
 }
 

@@ -16,8 +16,9 @@ use x509_der::laws::fields;
 use x509_der::parts::Field;
 use x509_der::{ReadError, from_bytes};
 
-/// What the first byte of a label tells: under one of eight tags the alternative that is written stands, and under one of
-/// six others another, with the deviation `GeneralNameForm` over the whole. No label begins with another byte.
+/// What the first byte of a label tells. Under one of eight tags stands the alternative that is written, with no deviation
+/// but those within it; under one of six others the label has the deviation `GeneralNameForm` over the whole. No label
+/// begins with another byte.
 pub fn label_form<A: Allocator + Copy>()
     ensures { (v : Label A) (c : ℕ) (p : List ℕ) (y : Tally) → label.spelled v (c ∷ p) y → FormAt v c p y }
 {}

@@ -35,7 +35,7 @@ impl Release {
         }
     }
 
-    /// The release that a number stands for.
+    /// The release that a number stands for, if any.
     pub fn from_number(number: u8) -> Option<Release>
         ensures { result ≡ release_of number }
     {
