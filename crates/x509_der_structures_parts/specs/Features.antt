@@ -41,7 +41,7 @@ value_bytes (value.Other o) = element 4 o
 abbrev pub IsValue : {A : Type 0} → FeatureValue A → Type 0
 IsValue (value.Flag b) = Unit {0}
 IsValue (value.Number n) = n < 256
-IsValue (value.Other o) = Unit {0}
+IsValue (value.Other o) = octets.valid o
 
 -- how the values of a kind are spelled: OCTET STRING (CONTAINING BOOLEAN), OCTET STRING (CONTAINING INTEGER (0..255)), or OCTET STRING
 abbrev pub by_kind : {A : Type 0} → FeatureKind → Shape (FeatureValue A)

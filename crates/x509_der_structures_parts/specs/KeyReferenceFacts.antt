@@ -59,15 +59,15 @@ means_back (Some k) None (Some s) = refl
 means_back (Some k) (Some n) None = refl
 means_back (Some k) (Some n) (Some s) = refl
 
-valid_back : (k : Option (List ℕ)) (n : Option ℕ) (s : Option (List ℕ)) → (optional issuer_field).valid n → (optional serial_field).valid s → AllByRecursion hint.valid (back_of k n s)
-valid_back None None None d e = tt
-valid_back None None (Some s) d e = (e, tt)
-valid_back None (Some n) None d e = (d, tt)
-valid_back None (Some n) (Some s) d e = (d, (e, tt))
-valid_back (Some k) None None d e = (tt, tt)
-valid_back (Some k) None (Some s) d e = (tt, (e, tt))
-valid_back (Some k) (Some n) None d e = (tt, (d, tt))
-valid_back (Some k) (Some n) (Some s) d e = (tt, (d, (e, tt)))
+valid_back : (k : Option (List ℕ)) (n : Option ℕ) (s : Option (List ℕ)) → (optional identifier_field).valid k → (optional issuer_field).valid n → (optional serial_field).valid s → AllByRecursion hint.valid (back_of k n s)
+valid_back None None None c d e = tt
+valid_back None None (Some s) c d e = (e, tt)
+valid_back None (Some n) None c d e = (d, tt)
+valid_back None (Some n) (Some s) c d e = (d, (e, tt))
+valid_back (Some k) None None c d e = (c, tt)
+valid_back (Some k) None (Some s) c d e = (c, (e, tt))
+valid_back (Some k) (Some n) None c d e = (c, (d, tt))
+valid_back (Some k) (Some n) (Some s) c d e = (c, (d, (e, tt)))
 
 readable_back : (k : Option (List ℕ)) (n : Option ℕ) (s : Option (List ℕ)) → AllByRecursion hint.readable (back_of k n s)
 readable_back None None None = tt
@@ -80,6 +80,11 @@ readable_back (Some k) (Some n) None = (tt, (tt, tt))
 readable_back (Some k) (Some n) (Some s) = (tt, (tt, (tt, tt)))
 
 -- what a field has is a value of its type
+
+valid_identifier : (h : Hint) → hint.valid h → IfThere identifier_field.valid (identifier_in h)
+valid_identifier (First k) d = d
+valid_identifier (Second (First n)) d = tt
+valid_identifier (Second (Second s)) d = tt
 
 valid_issuer : (h : Hint) → hint.valid h → IfThere issuer_field.valid (issuer_in h)
 valid_issuer (First k) d = tt
@@ -106,10 +111,10 @@ means_one hs v ks e = some_one (reference_of hs) v (order_kinds hs) ks e
 
 pub reference_is : {A : Type 0} → IsMeaning (reference_meaning {A = A}) reference_base
 reference_is {A} = record {
-  written = λ v d r. (means_back v.identifier v.issuer v.serial, valid_back v.identifier v.issuer v.serial d.0 d.1, readable_back v.identifier v.issuer v.serial);
-  stays = λ v d. valid_back v.identifier v.issuer v.serial d.0 d.1;
+  written = λ v d r. (means_back v.identifier v.issuer v.serial, valid_back v.identifier v.issuer v.serial d.0 d.1.0 d.1.1, readable_back v.identifier v.issuer v.serial);
+  stays = λ v d. valid_back v.identifier v.issuer v.serial d.0 d.1.0 d.1.1;
   clean = λ b v e d r. let m = means_one b v [] e in clean_hints b (no_kinds (ascends number b) m.1) ∙ ap (λ (x : KeyReference A). reference_back x) m.0;
-  kept = λ b v ks e d. rw (← (means_one {A = A} b v ks e).0) (kept_last hint.valid issuer_field.valid issuer_in valid_issuer b d, kept_last hint.valid serial_field.valid serial_in valid_serial b d);
+  kept = λ b v ks e d. rw (← (means_one {A = A} b v ks e).0) (kept_last hint.valid identifier_field.valid identifier_in valid_identifier b d, (kept_last hint.valid issuer_field.valid issuer_in valid_issuer b d, kept_last hint.valid serial_field.valid serial_in valid_serial b d));
   read = λ b v ks e r. tt;
 }
 

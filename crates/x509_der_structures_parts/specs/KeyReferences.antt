@@ -84,9 +84,9 @@ back_of k n s = there (λ v. First v) k ++ (there (λ v. Second (First v)) n ++ 
 abbrev pub reference_back : {A : Type 0} → KeyReference A → List Hint
 reference_back v = back_of v.identifier v.issuer v.serial
 
--- the number is in range, and the integer minimal
+-- the octets are bytes, the number is in range, and the integer minimal
 abbrev pub IsReference : {A : Type 0} → KeyReference A → Type 0
-IsReference v = (optional issuer_field).valid v.issuer × (optional serial_field).valid v.serial
+IsReference v = (optional identifier_field).valid v.identifier × ((optional issuer_field).valid v.issuer × (optional serial_field).valid v.serial)
 
 abbrev pub reference_meaning : {A : Type 0} → Meaning (List Hint) (KeyReference A)
 reference_meaning = record { of = reference_means; back = reference_back; valid = IsReference; readable = λ v. Unit {0} }

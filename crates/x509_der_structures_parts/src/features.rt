@@ -73,11 +73,15 @@ impl<A: Allocator> ToDer for FeatureValue<A> {
 }
 
 /// Says that the value is one of its type: numbers are in range. It does nothing when it runs.
-fn known_value<A: Allocator>(value: &FeatureValue<A>)
+fn known_value<A: Allocator + Copy>(value: &FeatureValue<A>)
     ensures { IsValue value.now }
 {
-    if let FeatureValue::Number(number) = value {
-        let _value = *number;
+    match value {
+        FeatureValue::Flag(_) => {}
+        FeatureValue::Number(number) => {
+            let _value = *number;
+        }
+        FeatureValue::Other(octets) => octets.known(),
     }
 }
 

@@ -178,6 +178,7 @@ impl<A: Allocator + Copy> Field<A> for KeyReference<A> {
     }
 
     fn known(&self) {
+        known_there::<OctetStringAsn1<A>, A>(&self.identifier);
         known_there::<u8, A>(&self.issuer);
         known_there::<IntegerAsn1<A>, A>(&self.serial);
     }

@@ -55,5 +55,5 @@ pub returns-in_err-fields-clause-frugal : goal.returns-in_err-fields-clause-frug
 returns-in_err-fields-clause-frugal g c = λ f h.
     let r = c.requires in
     let p = err_from_is_err_and c.from_residual-in_err-fields.result c.from_residual-in_err-fields.ensures.1 in
-    rw (p.1, p.2) (spares_memory g.T.Structure.fields g.met.T.Structure.same g.F.Field.shape g.G.Field.shape (g.F.Field.lawful r.first) (g.G.Field.lawful r.second) r.apart c.new-reader.result c.enter.new.self c.read_both.new.reader c.in_ok-behind.behind.now c.args.bytes.now c.new-reader.ensures.rest c.in_ok-behind.ensures.enters
-    _ c.new-reader.ensures.places c.in_err-fields.ensures f h)
+    rw (p.1, p.2) (spares_memory g.T.Structure.fields g.met.T.Structure.same g.F.Field.shape g.G.Field.shape (g.F.Field.lawful r.first) (g.G.Field.lawful r.second) r.apart c.whole_reader-reader.result c.enter.new.self c.read_both.new.reader c.in_ok-behind.behind.now c.args.bytes.now c.whole_reader-reader.ensures.rest c.in_ok-behind.ensures.enters
+    _ c.whole_reader-reader.ensures.places c.in_err-fields.ensures f h)
