@@ -59,12 +59,15 @@ fn is_coded<'h, T: FromDer<Heap<'h>>>(rt: &impl Abort, heap: Heap<'h>, row: &Row
     reads::<T>(rt, heap, &input, row);
     reads_in_turn::<T>(rt, heap, &input, &strict);
     writes::<T>(rt, heap, &input, &strict);
+    cuts::<T>(rt, heap, &input);
+    neighbours::<T>(rt, heap, &input);
+    all_others::<T>(rt, heap, &input, row.fields);
+}
+
+/// No front of the bytes is read.
+fn cuts<'h, T: FromDer<Heap<'h>>>(rt: &impl Abort, heap: Heap<'h>, input: &[u8]) {
     for length in 0..input.len() {
         refuses::<T>(rt, heap, &input[..length]);
-    }
-    neighbours::<T>(rt, heap, &input);
-    for field in row.fields {
-        others::<T>(rt, heap, &input, field);
     }
 }
 
@@ -108,13 +111,26 @@ fn reads<'h, T: FromDer<Heap<'h>>>(rt: &impl Abort, heap: Heap<'h>, input: &[u8]
 
 /// The counts are those of the row's places.
 fn counts(rt: &impl Abort, deviations: Deviations, row: &Row<'_>) {
-    let total = row.places.len();
-    assert_eq!(rt; deviations.total(), total, "deviations in {}", row.input);
-    assert_eq!(rt; deviations.is_none(), total == 0);
+    totals(rt, deviations, row);
     for place in row.places {
-        let counted = deviations.count(place.0);
-        assert_eq!(rt; counted, alike(row, place.0), "in {}", row.input);
+        count_is(rt, deviations.count(place.0), row, place.0);
     }
+}
+
+/// As many deviations were met as the row has places.
+fn totals(rt: &impl Abort, deviations: Deviations, row: &Row<'_>) {
+    let total = deviations.total();
+    let is_told = deviations.is_none() == row.places.is_empty();
+    assert!(rt;
+        total == row.places.len() && is_told,
+        "{total} in {}",
+        row.input
+    );
+}
+
+/// As many of the kind were met as the row has places of it.
+fn count_is(rt: &impl Abort, counted: usize, row: &Row<'_>, kind: Deviation) {
+    assert!(rt; counted == alike(row, kind), "{counted} in {}", row.input);
 }
 
 /// How many of the row's places are of the kind.
@@ -272,13 +288,27 @@ pub(super) fn writes<'h, T: FromDer<Heap<'h>>>(
 ) {
     let value = from_bytes::<T, _>(heap, input).expect(rt, "a value");
     let mut room = Vec::from_elem(heap, 0xEEu8, strict.len() + 6).expect(rt, "memory");
-    assert!(rt;
-        writes_in_turn(heap, &value, strict) == Some(1),
-        "{strict:?}"
-    );
+    makes(rt, heap, &value, strict);
+    fills_alone(rt, heap, &value, strict, room.as_mut_slice());
+}
+
+/// `to_vec` gives these bytes, and takes memory once.
+fn makes<T: ToDer>(rt: &impl Abort, heap: Heap<'_>, value: &T, strict: &[u8]) {
+    let requests = writes_in_turn(heap, value, strict);
+    assert!(rt; requests == Some(1), "{strict:?}");
+}
+
+/// The length is told and the value written where each request is refused, and none is made.
+fn fills_alone<T: ToDer>(
+    rt: &impl Abort,
+    heap: Heap<'_>,
+    value: &T,
+    strict: &[u8],
+    room: &mut [u8],
+) {
     heap.refuse_all();
-    assert!(rt; encoded_len(&value) == Ok(strict.len()));
-    fills(rt, &value, strict, room.as_mut_slice());
+    assert!(rt; encoded_len(value) == Ok(strict.len()));
+    fills(rt, value, strict, room);
     assert!(rt; heap.requests() == 0);
     heap.refuse(0);
 }
@@ -412,6 +442,18 @@ fn keeps_laws<'h, T: FromDer<Heap<'h>>>(rt: &impl Abort, heap: Heap<'h>, bytes: 
     assert!(rt; headers <= bytes.len() / 2 + 1);
 }
 
+/// Other elements in the place of each field are treated as is said.
+fn all_others<'h, T: FromDer<Heap<'h>>>(
+    rt: &impl Abort,
+    heap: Heap<'h>,
+    input: &[u8],
+    fields: &[Field<'_>],
+) {
+    for field in fields {
+        others::<T>(rt, heap, input, field);
+    }
+}
+
 /// In the place of the field, an element of each universal tag that may not stand there is refused, and any other is read
 /// and keeps the laws.
 fn others<'h, T: FromDer<Heap<'h>>>(
@@ -422,11 +464,22 @@ fn others<'h, T: FromDer<Heap<'h>>>(
 ) {
     for (tag, content) in SAMPLES {
         let bytes = replaced(rt, heap, input, field, *tag, *content);
-        if field.tags.contains(tag) {
-            assert!(rt; from_bytes::<T, _>(heap, &bytes).is_ok(), "{bytes:?}");
-            keeps_laws::<T>(rt, heap, &bytes);
-        } else {
-            refuses::<T>(rt, heap, &bytes);
-        }
+        is_other::<T>(rt, heap, &bytes, field.tags.contains(tag));
+    }
+}
+
+/// The bytes are read and keep the laws, or are refused.
+fn is_other<'h, T: FromDer<Heap<'h>>>(
+    rt: &impl Abort,
+    heap: Heap<'h>,
+    bytes: &[u8],
+    may_stand: bool,
+) {
+    if may_stand {
+        let is_read = from_bytes::<T, _>(heap, bytes).is_ok();
+        assert!(rt; is_read, "{bytes:?}");
+        keeps_laws::<T>(rt, heap, bytes);
+    } else {
+        refuses::<T>(rt, heap, bytes);
     }
 }
