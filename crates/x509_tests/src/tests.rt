@@ -8,6 +8,7 @@ mod lists;
 mod no_memory;
 mod numbers;
 mod raw_algorithms;
+mod refusals;
 mod rows;
 mod strings;
 mod structures;

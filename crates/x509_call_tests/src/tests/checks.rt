@@ -8,12 +8,12 @@ use x509_der::ObjectIdentifier;
 
 /// The two are equal.
 pub(super) fn same<T: PartialEq + Debug>(rt: &impl Abort, left: &T, right: &T, what: &str) {
-    assert_eq!(rt; *left, *right, "{what}");
+    assert!(rt; *left == *right, "{left:?} and not {right:?}: {what}");
 }
 
 /// The bytes are the stated ones.
 pub(super) fn same_bytes(rt: &impl Abort, bytes: &[u8], stated: &[u8], what: &str) {
-    assert_eq!(rt; bytes, stated, "{what}");
+    assert!(rt; bytes == stated, "{bytes:?} and not {stated:?}: {what}");
 }
 
 /// It is so.

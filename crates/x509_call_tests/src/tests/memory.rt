@@ -1,5 +1,6 @@
 //! Makers and changes, with each request for memory refused in turn.
 
+use super::Heap;
 use super::checks::same;
 use refusing::{Refusing, Turn};
 use std::alloc::{AllocError, Allocator};
@@ -31,18 +32,34 @@ fn identifiers_are_made(rt: HostRuntime) {
     same(&rt, &requests, &Some(1), "requests");
 }
 
-/// A padded number is kept in its own memory, and no bytes take one request more.
-fn signed_is_right<A: Allocator + Copy>(alloc: A) -> Result<bool, AllocError> {
-    let number = IntegerAsn1::from_bytes_be_signed(Vec::from_slice(alloc, b"\x00\x00\x80")?)?;
-    let zero = IntegerAsn1::from_bytes_be_signed(Vec::new(alloc))?;
-    Ok(number.as_bytes() == b"\x00\x80".as_slice() && zero.as_bytes() == b"\x00".as_slice())
+/// The bytes of a signed number are held as these.
+fn signed_is_right<A: Allocator + Copy>(
+    alloc: A,
+    given: &[u8],
+    held: &[u8],
+) -> Result<bool, AllocError> {
+    let number = IntegerAsn1::from_bytes_be_signed(Vec::from_slice(alloc, given)?)?;
+    Ok(number.as_bytes() == held)
 }
 
-/// A number whose top bit is set takes room for a zero byte.
-fn unsigned_is_right<A: Allocator + Copy>(alloc: A) -> Result<bool, AllocError> {
-    let number = IntegerAsn1::from_bytes_be_unsigned(Vec::from_slice(alloc, b"\x80\x00")?)?;
-    let zero = IntegerAsn1::from_bytes_be_unsigned(Vec::new(alloc))?;
-    Ok(number.as_bytes() == b"\x00\x80\x00".as_slice() && zero.as_bytes() == b"\x00".as_slice())
+/// The bytes of a number without a sign are held as these.
+fn unsigned_is_right<A: Allocator + Copy>(
+    alloc: A,
+    given: &[u8],
+    held: &[u8],
+) -> Result<bool, AllocError> {
+    let number = IntegerAsn1::from_bytes_be_unsigned(Vec::from_slice(alloc, given)?)?;
+    Ok(number.as_bytes() == held)
+}
+
+/// How many requests the bytes of a signed number make.
+fn signed_requests(heap: Heap<'_>, given: &[u8], held: &[u8]) -> Option<u64> {
+    heap.in_turn(|| made_turn(signed_is_right(heap, given, held)))
+}
+
+/// How many requests the bytes of a number without a sign make.
+fn unsigned_requests(heap: Heap<'_>, given: &[u8], held: &[u8]) -> Option<u64> {
+    heap.in_turn(|| made_turn(unsigned_is_right(heap, given, held)))
 }
 
 /// Zero is one byte.
@@ -51,15 +68,31 @@ fn zero_is_right<A: Allocator + Copy>(alloc: A) -> Result<bool, AllocError> {
     Ok(zero.as_bytes() == b"\x00".as_slice())
 }
 
+/// A padded number is kept in its own memory, which is the one request, and no bytes take one for the zero.
 #[test]
-fn integers_are_made(rt: HostRuntime) {
+fn signed_integers_are_made(rt: HostRuntime) {
     let heap = Refusing::new(rt.alloc());
-    assert_eq!(rt; heap.in_turn(|| made_turn(signed_is_right(&heap))), Some(2));
-    assert_eq!(rt;
-        heap.in_turn(|| made_turn(unsigned_is_right(&heap))),
-        Some(3)
-    );
-    assert_eq!(rt; heap.in_turn(|| made_turn(zero_is_right(&heap))), Some(1));
+    let number = signed_requests(&heap, b"\x00\x00\x80", b"\x00\x80");
+    same(&rt, &number, &Some(1), "a padded number");
+    let zero = signed_requests(&heap, b"", b"\x00");
+    same(&rt, &zero, &Some(1), "no bytes");
+}
+
+/// A number whose top bit is set takes room for a zero byte.
+#[test]
+fn unsigned_integers_are_made(rt: HostRuntime) {
+    let heap = Refusing::new(rt.alloc());
+    let number = unsigned_requests(&heap, b"\x80\x00", b"\x00\x80\x00");
+    same(&rt, &number, &Some(2), "a number whose top bit is set");
+    let zero = unsigned_requests(&heap, b"", b"\x00");
+    same(&rt, &zero, &Some(1), "no bytes");
+}
+
+#[test]
+fn zero_is_made(rt: HostRuntime) {
+    let heap = Refusing::new(rt.alloc());
+    let requests = heap.in_turn(|| made_turn(zero_is_right(&heap)));
+    same(&rt, &requests, &Some(1), "requests");
 }
 
 /// So many bits, none of which is set.
@@ -68,24 +101,36 @@ fn unset_bits_are_right<A: Allocator + Copy>(alloc: A) -> Result<bool, AllocErro
     Ok(bits.get_num_bits() == 9 && bits.payload_view() == b"\x00\x00".as_slice())
 }
 
-/// Bytes that are cut to bits stay in their own memory, and bits that are appended take more.
-fn resized_bits_are_right<A: Allocator + Copy>(alloc: A) -> Result<bool, AllocError> {
-    let cut = BitString::with_bytes_and_len(Vec::from_slice(alloc, b"\xFF")?, 3)?;
-    let grown = BitString::with_bytes_and_len(Vec::from_slice(alloc, b"\xFF")?, 12)?;
-    Ok(cut.payload_view() == b"\xE0".as_slice() && grown.payload_view() == b"\xFF\x00".as_slice())
+/// A byte of set bits that is made so many bits is held as these bytes.
+fn resized_is_right<A: Allocator + Copy>(
+    alloc: A,
+    bits: usize,
+    held: &[u8],
+) -> Result<bool, AllocError> {
+    let resized = BitString::with_bytes_and_len(Vec::from_slice(alloc, b"\xFF")?, bits)?;
+    Ok(resized.payload_view() == held)
+}
+
+/// How many requests that makes, with the byte's own.
+fn resized_requests(heap: Heap<'_>, bits: usize, held: &[u8]) -> Option<u64> {
+    heap.in_turn(|| made_turn(resized_is_right(heap, bits, held)))
 }
 
 #[test]
 fn bit_strings_are_made(rt: HostRuntime) {
     let heap = Refusing::new(rt.alloc());
-    assert_eq!(rt;
-        heap.in_turn(|| made_turn(unset_bits_are_right(&heap))),
-        Some(1)
-    );
-    assert_eq!(rt;
-        heap.in_turn(|| made_turn(resized_bits_are_right(&heap))),
-        Some(3)
-    );
+    let requests = heap.in_turn(|| made_turn(unset_bits_are_right(&heap)));
+    same(&rt, &requests, &Some(1), "requests");
+}
+
+/// Bytes that are cut to bits stay in their own memory, and bits that are appended take more.
+#[test]
+fn bit_strings_are_resized(rt: HostRuntime) {
+    let heap = Refusing::new(rt.alloc());
+    let cut = resized_requests(&heap, 3, b"\xE0");
+    same(&rt, &cut, &Some(1), "cut");
+    let grown = resized_requests(&heap, 12, b"\xFF\x00");
+    same(&rt, &grown, &Some(2), "grown");
 }
 
 /// What a run showed in which a byte's bits should be grown, which stay as they were where memory is refused.

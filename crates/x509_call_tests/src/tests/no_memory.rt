@@ -123,9 +123,18 @@ fn numbers_are_cut(rt: HostRuntime) {
 fn bits_answer<A: Allocator + Copy>(bytes: Vec<u8, A>) -> bool {
     let mut bits = BitString::from(BitStringAsn1::from(BitString::with_bytes(bytes)));
     let is_cut = bits.set_num_bits(12).is_ok();
-    let is_changed = bits.set(0, false) && bits.is_set(11) && !bits.set(12, true);
-    let are_counted = bits.get_num_bits() == 12 && bits.get_num_unused_bits() == 4;
-    is_cut && is_changed && are_counted && bits.payload_view() == b"\x7F\xF0".as_slice()
+    is_cut && are_changed(&mut bits) && are_counted(&bits)
+}
+
+/// The first of twelve set bits is cleared, and there is none behind the last.
+fn are_changed<A: Allocator>(bits: &mut BitString<A>) -> bool {
+    bits.set(0, false) && bits.is_set(11) && !bits.set(12, true)
+}
+
+/// They are twelve bits, of which all but the first are set.
+fn are_counted<A: Allocator>(bits: &BitString<A>) -> bool {
+    let is_counted = bits.get_num_bits() == 12 && bits.get_num_unused_bits() == 4;
+    is_counted && bits.payload_view() == b"\x7F\xF0".as_slice()
 }
 
 #[test]
@@ -158,20 +167,32 @@ fn raw_elements_are_taken_or_handed_back(rt: HostRuntime) {
     );
 }
 
+/// The element that the bytes are, which must be one unless there are none; from here on each request is refused.
+fn last_element<'h>(rt: &impl Abort, heap: Heap<'h>, bytes: &[u8]) -> Option<Asn1RawDer<Heap<'h>>> {
+    let element = Asn1RawDer::from_vec(last_bytes(rt, heap, bytes)).ok();
+    is_so(rt, element.is_none() == bytes.is_empty(), "an element");
+    element
+}
+
+/// The algorithm is 2.5.4.3, with these parameters.
+fn is_held_with<A: Allocator>(
+    value: &RawAlgorithmIdentifier<A>,
+    parameters: Option<&[u8]>,
+) -> bool {
+    let is_right = match (value.parameters(), parameters) {
+        (Some(element), Some(bytes)) => element.as_bytes() == bytes,
+        (None, None) => true,
+        _ => false,
+    };
+    is_right && value.algorithm().is_arcs(&[2, 5, 4, 3])
+}
+
 /// What is put together of 2.5.4.3 and an element, or of no bytes none, has these parameters; NULL is held as none.
 fn is_put_together(rt: &impl Abort, heap: Heap<'_>, bytes: &[u8], parameters: Option<&[u8]>) {
     let algorithm = ObjectIdentifier::from_arcs(heap, &[2, 5, 4, 3]).expect(rt, "lawful arcs");
-    let element = Asn1RawDer::from_vec(last_bytes(rt, heap, bytes)).ok();
-    let is_taken = element.is_none() == bytes.is_empty();
+    let element = last_element(rt, heap, bytes);
     let value = RawAlgorithmIdentifier::from_parts(algorithm, element);
-    let held = value.parameters().map(Asn1RawDer::as_bytes);
-    let are_arcs = value.algorithm().is_arcs(&[2, 5, 4, 3]);
-    needs_none(
-        rt,
-        heap,
-        "parameters",
-        is_taken && are_arcs && held == parameters,
-    );
+    needs_none(rt, heap, "parameters", is_held_with(&value, parameters));
 }
 
 #[test]

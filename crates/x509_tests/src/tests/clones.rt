@@ -143,8 +143,8 @@ impl<T: CloneEq> OwnClone for BitStringAsn1Container<T> {
 
 /// How many requests a clone makes, by the type's own call, where it is equal, and want of memory where one is refused. The
 /// other value is as the first was before.
-pub(super) fn clones_in_turn<'v, T: OwnClone + PartialEq>(
-    heap: Heap<'_>,
+pub(super) fn clones_in_turn<'v, A: Heap, T: OwnClone + PartialEq>(
+    heap: A,
     value: &'v T,
     before: &'v T,
 ) -> Option<u64> {
@@ -152,7 +152,7 @@ pub(super) fn clones_in_turn<'v, T: OwnClone + PartialEq>(
 }
 
 /// A clone of the one makes one request and is equal to the other.
-fn is_cloned<T: OwnClone + PartialEq>(rt: &impl Abort, heap: Heap<'_>, value: T, before: T) {
+fn is_cloned<A: Heap, T: OwnClone + PartialEq>(rt: &impl Abort, heap: A, value: T, before: T) {
     assert!(rt; clones_in_turn(heap, &value, &before) == Some(1));
 }
 
@@ -174,7 +174,7 @@ fn bits_are_cloned(rt: HostRuntime) {
 }
 
 /// A string of one character.
-fn one_character<'h>(rt: &impl Abort, heap: Heap<'h>) -> PrintableString<Heap<'h>> {
+fn one_character<A: Heap>(rt: &impl Abort, heap: A) -> PrintableString<A> {
     let bytes = Vec::from_slice(heap, b"a").expect(rt, "memory");
     PrintableString::from_bytes(bytes).expect(rt, "printable")
 }

@@ -12,10 +12,15 @@ const NULL: Table<'static> = Table {
     refused: &["050100", "058100", "05", "050000", "0400", ""],
 };
 
+/// The test of this name, over any such allocator.
+fn null_over<A: Heap>(rt: &impl Abort, heap: A) {
+    all_hold::<A, ()>(rt, heap, &NULL);
+}
+
 #[test]
 fn null(rt: HostRuntime) {
     let heap = Refusing::new(rt.alloc());
-    all_hold::<()>(&rt, &heap, &NULL);
+    null_over(&rt, &heap);
 }
 
 const RAW_ELEMENTS: Table<'static> = Table {
@@ -24,10 +29,15 @@ const RAW_ELEMENTS: Table<'static> = Table {
     refused: &["1f00", "05", "", "050000", "ff810200", "308100"],
 };
 
+/// The test of this name, over any such allocator.
+fn raw_elements_are_read_over<A: Heap>(rt: &impl Abort, heap: A) {
+    all_hold::<A, Asn1RawDer<A>>(rt, heap, &RAW_ELEMENTS);
+}
+
 #[test]
 fn raw_elements_are_read(rt: HostRuntime) {
     let heap = Refusing::new(rt.alloc());
-    all_hold::<Asn1RawDer<Heap<'_>>>(&rt, &heap, &RAW_ELEMENTS);
+    raw_elements_are_read_over(&rt, &heap);
 }
 
 /// Lengths that claim more than is there, that are indefinite, or whose tag is of several bytes; and the most headers.
@@ -41,25 +51,35 @@ const HOSTILE: &[(&str, usize)] = &[
 ];
 
 /// Hostile lengths are refused, with few headers.
-fn hostile<'h, T: FromDer<Heap<'h>>>(rt: &impl Abort, heap: Heap<'h>) {
+fn hostile<A: Heap, T: FromDer<A>>(rt: &impl Abort, heap: A) {
     for (text, most) in HOSTILE {
         let bytes = bytes_of(rt, heap, *text);
-        refuses::<T>(rt, heap, &bytes);
-        let headers = headers_of::<T>(heap, &bytes);
+        refuses::<A, T>(rt, heap, &bytes);
+        let headers = headers_of::<A, T>(heap, &bytes);
         assert!(rt; headers <= *most, "{headers} headers of {text}");
     }
+}
+
+/// The test of this name, over any such allocator.
+fn hostile_lengths_over<A: Heap>(rt: &impl Abort, heap: A) {
+    hostile::<A, ()>(rt, heap);
+    hostile::<A, Asn1RawDer<A>>(rt, heap);
 }
 
 #[test]
 fn hostile_lengths(rt: HostRuntime) {
     let heap = Refusing::new(rt.alloc());
-    hostile::<()>(&rt, &heap);
-    hostile::<Asn1RawDer<Heap<'_>>>(&rt, &heap);
+    hostile_lengths_over(&rt, &heap);
+}
+
+/// The test of this name, over any such allocator.
+fn hostile_lengths_of_identifiers_over<A: Heap>(rt: &impl Abort, heap: A) {
+    hostile::<A, ObjectIdentifierAsn1<A>>(rt, heap);
+    hostile::<A, RawAlgorithmIdentifier<A>>(rt, heap);
 }
 
 #[test]
 fn hostile_lengths_of_identifiers(rt: HostRuntime) {
     let heap = Refusing::new(rt.alloc());
-    hostile::<ObjectIdentifierAsn1<Heap<'_>>>(&rt, &heap);
-    hostile::<RawAlgorithmIdentifier<Heap<'_>>>(&rt, &heap);
+    hostile_lengths_of_identifiers_over(&rt, &heap);
 }

@@ -65,7 +65,7 @@ fn content_of(input: &[u8], start: usize) -> Option<(usize, usize)> {
 }
 
 /// The element with a tag around a content of at most 65535 bytes, by hand: stated bytes never come from the library.
-fn element<'h>(rt: &impl Abort, heap: Heap<'h>, tag: u8, content: &[u8]) -> Vec<u8, Heap<'h>> {
+fn element<A: Heap>(rt: &impl Abort, heap: A, tag: u8, content: &[u8]) -> Vec<u8, A> {
     let len = u16::try_from(content.len()).expect(rt, "a short content");
     let whole = match len.to_be_bytes() {
         [0, low @ 0..=127] => Vec::from_slice(heap, &[tag, low]),
@@ -78,14 +78,14 @@ fn element<'h>(rt: &impl Abort, heap: Heap<'h>, tag: u8, content: &[u8]) -> Vec<
 }
 
 /// The element at `outer` with another one in the place of what begins and ends within it.
-fn around<'h>(
+fn around<A: Heap>(
     rt: &impl Abort,
-    heap: Heap<'h>,
+    heap: A,
     input: &[u8],
     outer: usize,
     place: (usize, usize),
     inner: &[u8],
-) -> Vec<u8, Heap<'h>> {
+) -> Vec<u8, A> {
     let tag = *input.get(outer).expect(rt, "a tag");
     let (from, to) = content_of(input, outer).expect(rt, "an element around it");
     let before = input.get(from..place.0).expect(rt, "a field within");
@@ -97,14 +97,14 @@ fn around<'h>(
 }
 
 /// The input with another element in the place of the field, and the lengths around it as they then are.
-pub(super) fn replaced<'h>(
+pub(super) fn replaced<A: Heap>(
     rt: &impl Abort,
-    heap: Heap<'h>,
+    heap: A,
     input: &[u8],
     field: &Field<'_>,
     tag: u8,
     content: &[u8],
-) -> Vec<u8, Heap<'h>> {
+) -> Vec<u8, A> {
     let (_from, mut end) = content_of(input, field.start).expect(rt, "an element");
     let mut start = field.start;
     let mut inner = element(rt, heap, tag, content);

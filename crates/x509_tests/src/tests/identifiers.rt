@@ -2,6 +2,7 @@
 
 use super::rows::{Heap, Table, all_hold};
 use refusing::Refusing;
+use std::process::Abort;
 use x509_der::ObjectIdentifierAsn1;
 
 const IDENTIFIERS: Table<'static> = Table {
@@ -29,8 +30,13 @@ const IDENTIFIERS: Table<'static> = Table {
     ],
 };
 
+/// The test of this name, over any such allocator.
+fn rows_hold_over<A: Heap>(rt: &impl Abort, heap: A) {
+    all_hold::<A, ObjectIdentifierAsn1<A>>(rt, heap, &IDENTIFIERS);
+}
+
 #[test]
 fn rows_hold(rt: HostRuntime) {
     let heap = Refusing::new(rt.alloc());
-    all_hold::<ObjectIdentifierAsn1<Heap<'_>>>(&rt, &heap, &IDENTIFIERS);
+    rows_hold_over(&rt, &heap);
 }

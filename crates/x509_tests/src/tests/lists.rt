@@ -37,11 +37,16 @@ const SEQUENCES: Table<'static> = Table {
     refused: &["30050201010201", "3100", "3003010100"],
 };
 
+/// The test of this name, over any such allocator.
+fn sequences_over<A: Heap>(rt: &impl Abort, heap: A) {
+    all_hold::<A, Asn1SequenceOf<u8, A>>(rt, heap, &SEQUENCES);
+    all_hold::<A, Asn1SequenceOf<IntegerAsn1<A>, A>>(rt, heap, &SEQUENCES);
+}
+
 #[test]
 fn sequences(rt: HostRuntime) {
     let heap = Refusing::new(rt.alloc());
-    all_hold::<Asn1SequenceOf<u8, Heap<'_>>>(&rt, &heap, &SEQUENCES);
-    all_hold::<Asn1SequenceOf<IntegerAsn1<Heap<'_>>, Heap<'_>>>(&rt, &heap, &SEQUENCES);
+    sequences_over(&rt, &heap);
 }
 
 /// The order of a SET OF is kept, though its strict order is another.
@@ -57,11 +62,16 @@ const SETS: Table<'static> = Table {
     refused: &["3006020102020101"],
 };
 
+/// The test of this name, over any such allocator.
+fn sets_over<A: Heap>(rt: &impl Abort, heap: A) {
+    all_hold::<A, Asn1SetOf<u8, A>>(rt, heap, &SETS);
+    all_hold::<A, Asn1SetOf<IntegerAsn1<A>, A>>(rt, heap, &SETS);
+}
+
 #[test]
 fn sets(rt: HostRuntime) {
     let heap = Refusing::new(rt.alloc());
-    all_hold::<Asn1SetOf<u8, Heap<'_>>>(&rt, &heap, &SETS);
-    all_hold::<Asn1SetOf<IntegerAsn1<Heap<'_>>, Heap<'_>>>(&rt, &heap, &SETS);
+    sets_over(&rt, &heap);
 }
 
 /// An integer stands in an OCTET STRING.
@@ -98,18 +108,28 @@ const IN_BITS: Table<'static> = Table {
     refused: &["030401020105"],
 };
 
+/// The test of this name, over any such allocator.
+fn containers_over<A: Heap>(rt: &impl Abort, heap: A) {
+    all_hold::<A, OctetStringAsn1Container<u8>>(rt, heap, &IN_OCTETS);
+    all_hold::<A, BitStringAsn1Container<u8>>(rt, heap, &IN_BITS);
+}
+
 #[test]
 fn containers(rt: HostRuntime) {
     let heap = Refusing::new(rt.alloc());
-    all_hold::<OctetStringAsn1Container<u8>>(&rt, &heap, &IN_OCTETS);
-    all_hold::<BitStringAsn1Container<u8>>(&rt, &heap, &IN_BITS);
+    containers_over(&rt, &heap);
+}
+
+/// The test of this name, over any such allocator.
+fn containers_of_what_takes_memory_over<A: Heap>(rt: &impl Abort, heap: A) {
+    all_hold::<A, OctetStringAsn1Container<IntegerAsn1<A>>>(rt, heap, &IN_OCTETS);
+    all_hold::<A, BitStringAsn1Container<IntegerAsn1<A>>>(rt, heap, &IN_BITS);
 }
 
 #[test]
 fn containers_of_what_takes_memory(rt: HostRuntime) {
     let heap = Refusing::new(rt.alloc());
-    all_hold::<OctetStringAsn1Container<IntegerAsn1<Heap<'_>>>>(&rt, &heap, &IN_OCTETS);
-    all_hold::<BitStringAsn1Container<IntegerAsn1<Heap<'_>>>>(&rt, &heap, &IN_BITS);
+    containers_of_what_takes_memory_over(&rt, &heap);
 }
 
 /// A list of 2000 bytes whose items are empty sets, but for the last, which has this length byte.
@@ -137,6 +157,11 @@ fn many_headers_are_counted(rt: HostRuntime) {
     headers_are(&rt, alloc, &whole, true, 1001);
 }
 
+/// The bytes are no list of sets.
+fn sets_are_refused<A: Heap>(rt: &impl Abort, heap: A, bytes: &[u8]) {
+    refuses::<A, Asn1SequenceOf<Asn1SetOf<u8, A>, A>>(rt, heap, bytes);
+}
+
 #[test]
 fn headers_before_a_fault_are_counted(rt: HostRuntime) {
     let alloc = rt.alloc();
@@ -144,7 +169,7 @@ fn headers_before_a_fault_are_counted(rt: HostRuntime) {
     let cut = sets_in_list(&rt, alloc, 1);
     headers_are(&rt, alloc, &cut, false, 1001);
     let heap = Refusing::new(alloc);
-    refuses::<Asn1SequenceOf<Asn1SetOf<u8, Heap<'_>>, Heap<'_>>>(&rt, &heap, &cut);
+    sets_are_refused(&rt, &heap, &cut);
 }
 
 /// The items' deviations are placed from the input's start; an item that is refused stands behind one with a place. Five items
@@ -180,9 +205,14 @@ const ITEMS_WITHOUT_PARAMETERS: Table<'static> = Table {
     refused: &["3009300506035504030500"],
 };
 
+/// The test of this name, over any such allocator.
+fn deviations_in_items_are_located_over<A: Heap>(rt: &impl Abort, heap: A) {
+    let table = &ITEMS_WITHOUT_PARAMETERS;
+    all_hold::<A, Asn1SequenceOf<RawAlgorithmIdentifier<A>, A>>(rt, heap, table);
+}
+
 #[test]
 fn deviations_in_items_are_located(rt: HostRuntime) {
     let heap = Refusing::new(rt.alloc());
-    let table = &ITEMS_WITHOUT_PARAMETERS;
-    all_hold::<Asn1SequenceOf<RawAlgorithmIdentifier<Heap<'_>>, Heap<'_>>>(&rt, &heap, table);
+    deviations_in_items_are_located_over(&rt, &heap);
 }

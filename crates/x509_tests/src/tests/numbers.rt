@@ -2,6 +2,7 @@
 
 use super::rows::{Heap, Table, all_hold};
 use refusing::Refusing;
+use std::process::Abort;
 use x509_der::IntegerAsn1;
 
 const SMALL_NUMBERS: Table<'static> = Table {
@@ -22,10 +23,15 @@ const SMALL_NUMBERS: Table<'static> = Table {
     ],
 };
 
+/// The test of this name, over any such allocator.
+fn small_numbers_over<A: Heap>(rt: &impl Abort, heap: A) {
+    all_hold::<A, u8>(rt, heap, &SMALL_NUMBERS);
+}
+
 #[test]
 fn small_numbers(rt: HostRuntime) {
     let heap = Refusing::new(rt.alloc());
-    all_hold::<u8>(&rt, &heap, &SMALL_NUMBERS);
+    small_numbers_over(&rt, &heap);
 }
 
 const TRUTH_VALUES: Table<'static> = Table {
@@ -34,10 +40,15 @@ const TRUTH_VALUES: Table<'static> = Table {
     refused: &["010101", "01020000", "0100", "0101", "0201ff"],
 };
 
+/// The test of this name, over any such allocator.
+fn truth_values_over<A: Heap>(rt: &impl Abort, heap: A) {
+    all_hold::<A, bool>(rt, heap, &TRUTH_VALUES);
+}
+
 #[test]
 fn truth_values(rt: HostRuntime) {
     let heap = Refusing::new(rt.alloc());
-    all_hold::<bool>(&rt, &heap, &TRUTH_VALUES);
+    truth_values_over(&rt, &heap);
 }
 
 const INTEGERS: Table<'static> = Table {
@@ -61,8 +72,13 @@ const INTEGERS: Table<'static> = Table {
     ],
 };
 
+/// The test of this name, over any such allocator.
+fn integers_over<A: Heap>(rt: &impl Abort, heap: A) {
+    all_hold::<A, IntegerAsn1<A>>(rt, heap, &INTEGERS);
+}
+
 #[test]
 fn integers(rt: HostRuntime) {
     let heap = Refusing::new(rt.alloc());
-    all_hold::<IntegerAsn1<Heap<'_>>>(&rt, &heap, &INTEGERS);
+    integers_over(&rt, &heap);
 }

@@ -3,6 +3,7 @@
 use super::fields::{ANY, Field};
 use super::rows::{Heap, Row, Table, all_hold, reads_in_turn};
 use refusing::Refusing;
+use std::process::Abort;
 use x509_der::Deviation;
 use x509_keys::RawAlgorithmIdentifier;
 
@@ -72,18 +73,27 @@ const ALGORITHMS: Table<'static> = Table {
     ],
 };
 
+/// The test of this name, over any such allocator.
+fn rows_hold_over<A: Heap>(rt: &impl Abort, heap: A) {
+    all_hold::<A, RawAlgorithmIdentifier<A>>(rt, heap, &ALGORITHMS);
+}
+
 #[test]
 fn rows_hold(rt: HostRuntime) {
     let heap = Refusing::new(rt.alloc());
-    all_hold::<RawAlgorithmIdentifier<Heap<'_>>>(&rt, &heap, &ALGORITHMS);
+    rows_hold_over(&rt, &heap);
 }
 
 /// Any element comes second, whatever its content is: also where that is none of its type.
+fn any_element_comes_second_over<A: Heap>(rt: &impl Abort, heap: A) {
+    for tag in ANY {
+        let bytes = [0x30, 0x06, 0x06, 0x01, 0x2A, *tag, 0x01, 0x00];
+        reads_in_turn::<A, RawAlgorithmIdentifier<A>>(rt, heap, &bytes, &bytes);
+    }
+}
+
 #[test]
 fn any_element_comes_second(rt: HostRuntime) {
     let heap = Refusing::new(rt.alloc());
-    for tag in ANY {
-        let bytes = [0x30, 0x06, 0x06, 0x01, 0x2A, *tag, 0x01, 0x00];
-        reads_in_turn::<RawAlgorithmIdentifier<Heap<'_>>>(&rt, &heap, &bytes, &bytes);
-    }
+    any_element_comes_second_over(&rt, &heap);
 }

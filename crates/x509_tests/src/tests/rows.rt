@@ -4,15 +4,48 @@
 use super::clones::{OwnClone, clones_in_turn};
 use super::fields::{Field, SAMPLES, replaced};
 use refusing::{Refusing, Turn};
-use std::alloc::{AllocError, Global};
+use std::alloc::{AllocError, Allocator, Global};
 use std::process::Abort;
 use x509_der::{
     CloneEq, Deviation, Deviations, FromDer, Place, ReadError, SliceError, ToDer, WriteError,
     encoded_len, from_bytes, read_counted, read_located, read_metered, to_vec, write_to_slice,
 };
 
-/// The allocator of every row: it refuses what it is told to.
-pub type Heap<'h> = &'h Refusing<Global>;
+/// The allocator of every row, which refuses what it is told to. This is all that rows and tests name of it: a function over
+/// any such allocator is proved in a third of the time that it takes over the one that there is.
+pub trait Heap: Allocator + Copy {
+    /// Counts from 0 again, and refuses the request of this number, from 1 on; at 0 none.
+    fn refuse(self, number: u64);
+
+    /// Counts from 0 again, and refuses each request.
+    fn refuse_all(self);
+
+    /// The number of requests since the last `refuse` or `refuse_all`, those refused too.
+    fn requests(self) -> u64;
+
+    /// Runs a call with its first request refused, then its second, until a run meets no refusal, and answers how many
+    /// requests that one made; none where a run was wrong.
+    fn in_turn<F: FnMut() -> Turn>(self, call: F) -> Option<u64>
+        requires { F.IsAlwaysCallable call };
+}
+
+impl Heap for &Refusing<Global> {
+    fn refuse(self, number: u64) {
+        Refusing::refuse(self, number);
+    }
+
+    fn refuse_all(self) {
+        Refusing::refuse_all(self);
+    }
+
+    fn requests(self) -> u64 {
+        Refusing::requests(self)
+    }
+
+    fn in_turn<F: FnMut() -> Turn>(self, call: F) -> Option<u64> {
+        Refusing::in_turn(self, call)
+    }
+}
 
 /// A spelling in hexadecimal, the strict spelling of its value, where its deviations stand, how many headers it has, and
 /// its fields.
@@ -47,74 +80,86 @@ pub struct Table<'a> {
 }
 
 /// What the text spells in hexadecimal.
-pub(super) fn bytes_of<'h>(rt: &impl Abort, heap: Heap<'h>, text: &str) -> Vec<u8, Heap<'h>> {
+pub(super) fn bytes_of<A: Heap>(rt: &impl Abort, heap: A, text: &str) -> Vec<u8, A> {
     hex::decode(heap, text).expect(rt, text)
 }
 
 /// The row is read and written as it says, also where memory is refused, no front of it is read, and its neighbours are
 /// treated as the laws say.
-fn is_coded<'h, T: FromDer<Heap<'h>>>(rt: &impl Abort, heap: Heap<'h>, row: &Row<'_>) {
+fn is_coded<A: Heap, T: FromDer<A>>(rt: &impl Abort, heap: A, row: &Row<'_>) {
     let input = bytes_of(rt, heap, row.input);
     let strict = bytes_of(rt, heap, row.strict);
-    reads::<T>(rt, heap, &input, row);
-    reads_in_turn::<T>(rt, heap, &input, &strict);
-    writes::<T>(rt, heap, &input, &strict);
+    reads::<A, T>(rt, heap, &input, row);
+    reads_in_turn::<A, T>(rt, heap, &input, &strict);
+    writes::<A, T>(rt, heap, &input, &strict);
+    cuts::<A, T>(rt, heap, &input);
+    neighbours::<A, T>(rt, heap, &input);
+    all_others::<A, T>(rt, heap, &input, row.fields);
+}
+
+/// No front of the bytes is read.
+fn cuts<A: Heap, T: FromDer<A>>(rt: &impl Abort, heap: A, input: &[u8]) {
     for length in 0..input.len() {
-        refuses::<T>(rt, heap, &input[..length]);
-    }
-    neighbours::<T>(rt, heap, &input);
-    for field in row.fields {
-        others::<T>(rt, heap, &input, field);
+        refuses::<A, T>(rt, heap, &input[..length]);
     }
 }
 
 /// Each row of the table is read and written as it says, and what is refused isn't read.
-pub(super) fn all_coded<'h, T: FromDer<Heap<'h>>>(
-    rt: &impl Abort,
-    heap: Heap<'h>,
-    table: &Table<'_>,
-) {
+pub(super) fn all_coded<A: Heap, T: FromDer<A>>(rt: &impl Abort, heap: A, table: &Table<'_>) {
     for (input, headers) in table.strict {
-        is_coded::<T>(rt, heap, &Row::strict(*input, *headers));
+        is_coded::<A, T>(rt, heap, &Row::strict(*input, *headers));
     }
     for row in table.rows {
-        is_coded::<T>(rt, heap, row);
+        is_coded::<A, T>(rt, heap, row);
     }
-    all_refused::<T>(rt, heap, table.refused);
+    all_refused::<A, T>(rt, heap, table.refused);
 }
 
 /// The same, and the value of each row is cloned.
-pub(super) fn all_hold<'h, T: FromDer<Heap<'h>> + OwnClone + PartialEq>(
+pub(super) fn all_hold<A: Heap, T: FromDer<A> + OwnClone + PartialEq>(
     rt: &impl Abort,
-    heap: Heap<'h>,
+    heap: A,
     table: &Table<'_>,
 ) {
-    all_coded::<T>(rt, heap, table);
+    all_coded::<A, T>(rt, heap, table);
     for (input, _headers) in table.strict {
-        copies::<T>(rt, heap, *input);
+        copies::<A, T>(rt, heap, *input);
     }
     for row in table.rows {
-        copies::<T>(rt, heap, row.input);
+        copies::<A, T>(rt, heap, row.input);
     }
 }
 
 /// Every call that reads answers the row's counts, headers and places.
-fn reads<'h, T: FromDer<Heap<'h>>>(rt: &impl Abort, heap: Heap<'h>, input: &[u8], row: &Row<'_>) {
+fn reads<A: Heap, T: FromDer<A>>(rt: &impl Abort, heap: A, input: &[u8], row: &Row<'_>) {
     let (_value, deviations) = read_counted::<T, _>(heap, input).expect(rt, row.input);
     counts(rt, deviations, row);
-    meters::<T>(rt, heap, input, row, deviations);
-    locates::<T>(rt, heap, input, row);
+    meters::<A, T>(rt, heap, input, row, deviations);
+    locates::<A, T>(rt, heap, input, row);
 }
 
 /// The counts are those of the row's places.
 fn counts(rt: &impl Abort, deviations: Deviations, row: &Row<'_>) {
-    let total = row.places.len();
-    assert_eq!(rt; deviations.total(), total, "deviations in {}", row.input);
-    assert_eq!(rt; deviations.is_none(), total == 0);
+    totals(rt, deviations, row);
     for place in row.places {
-        let counted = deviations.count(place.0);
-        assert_eq!(rt; counted, alike(row, place.0), "in {}", row.input);
+        count_is(rt, deviations.count(place.0), row, place.0);
     }
+}
+
+/// As many deviations were met as the row has places.
+fn totals(rt: &impl Abort, deviations: Deviations, row: &Row<'_>) {
+    let total = deviations.total();
+    let is_told = deviations.is_none() == row.places.is_empty();
+    assert!(rt;
+        total == row.places.len() && is_told,
+        "{total} in {}",
+        row.input
+    );
+}
+
+/// As many of the kind were met as the row has places of it.
+fn count_is(rt: &impl Abort, counted: usize, row: &Row<'_>, kind: Deviation) {
+    assert!(rt; counted == alike(row, kind), "{counted} in {}", row.input);
 }
 
 /// How many of the row's places are of the kind.
@@ -129,9 +174,9 @@ fn alike(row: &Row<'_>, kind: Deviation) -> usize {
 }
 
 /// The headers are the row's, and the counts are these.
-fn meters<'h, T: FromDer<Heap<'h>>>(
+fn meters<A: Heap, T: FromDer<A>>(
     rt: &impl Abort,
-    heap: Heap<'h>,
+    heap: A,
     input: &[u8],
     row: &Row<'_>,
     deviations: Deviations,
@@ -147,7 +192,7 @@ fn meters<'h, T: FromDer<Heap<'h>>>(
 }
 
 /// The places are the row's.
-fn locates<'h, T: FromDer<Heap<'h>>>(rt: &impl Abort, heap: Heap<'h>, input: &[u8], row: &Row<'_>) {
+fn locates<A: Heap, T: FromDer<A>>(rt: &impl Abort, heap: A, input: &[u8], row: &Row<'_>) {
     let (_value, places) = read_located::<T, _>(heap, input).expect(rt, row.input);
     places_are(rt, places.as_slice(), row);
 }
@@ -180,9 +225,9 @@ pub const READINGS: &[Reading] = &[
 ];
 
 /// The value that the call reads, without what it answers beside it.
-pub(super) fn read_by<'h, T: FromDer<Heap<'h>>>(
+pub(super) fn read_by<A: Heap, T: FromDer<A>>(
     reading: Reading,
-    heap: Heap<'h>,
+    heap: A,
     input: &[u8],
 ) -> Result<T, ReadError> {
     match reading {
@@ -219,30 +264,30 @@ fn read_turn<T: ToDer + Drop>(
 
 /// How many requests the call makes where it reads the value of this strict spelling, and want of memory where one is
 /// refused.
-fn requests_of<'h, T: FromDer<Heap<'h>>>(
+fn requests_of<A: Heap, T: FromDer<A>>(
     reading: Reading,
-    heap: Heap<'h>,
+    heap: A,
     input: &[u8],
     strict: &[u8],
     room: &mut [u8],
 ) -> Option<u64> {
-    heap.in_turn(|| read_turn(read_by::<T>(reading, heap, input), strict, room))
+    heap.in_turn(|| read_turn(read_by::<A, T>(reading, heap, input), strict, room))
 }
 
 /// Each call that reads answers want of memory where a request of its own is refused, and the value where none is. Places
 /// alone take memory beside the value's.
-pub(super) fn reads_in_turn<'h, T: FromDer<Heap<'h>>>(
+pub(super) fn reads_in_turn<A: Heap, T: FromDer<A>>(
     rt: &impl Abort,
-    heap: Heap<'h>,
+    heap: A,
     input: &[u8],
     strict: &[u8],
 ) {
     let mut room = Vec::from_elem(heap, 0u8, strict.len()).expect(rt, "memory");
     let room = room.as_mut_slice();
-    let alone = requests_of::<T>(Reading::Alone, heap, input, strict, room);
-    let counted = requests_of::<T>(Reading::Counted, heap, input, strict, room);
-    let metered = requests_of::<T>(Reading::Metered, heap, input, strict, room);
-    let located = requests_of::<T>(Reading::Located, heap, input, strict, room);
+    let alone = requests_of::<A, T>(Reading::Alone, heap, input, strict, room);
+    let counted = requests_of::<A, T>(Reading::Counted, heap, input, strict, room);
+    let metered = requests_of::<A, T>(Reading::Metered, heap, input, strict, room);
+    let located = requests_of::<A, T>(Reading::Located, heap, input, strict, room);
     assert!(rt;
         alone.is_some() && counted == alone && metered == alone,
         "{input:?}"
@@ -254,7 +299,7 @@ pub(super) fn reads_in_turn<'h, T: FromDer<Heap<'h>>>(
 }
 
 /// How many requests `to_vec` makes where it gives these bytes, and want of memory where one is refused.
-fn writes_in_turn<T: ToDer>(heap: Heap<'_>, value: &T, strict: &[u8]) -> Option<u64> {
+fn writes_in_turn<A: Heap, T: ToDer>(heap: A, value: &T, strict: &[u8]) -> Option<u64> {
     heap.in_turn(|| match to_vec(heap, value) {
         Ok(bytes) => Turn::right(bytes.as_slice() == strict),
         Err(WriteError::OutOfMemory) => Turn::Refused,
@@ -264,21 +309,35 @@ fn writes_in_turn<T: ToDer>(heap: Heap<'_>, value: &T, strict: &[u8]) -> Option<
 
 /// Every call that writes gives the strict spelling and leaves what stands behind it; `to_vec` takes memory once, and the
 /// others never.
-pub(super) fn writes<'h, T: FromDer<Heap<'h>>>(
+pub(super) fn writes<A: Heap, T: FromDer<A>>(
     rt: &impl Abort,
-    heap: Heap<'h>,
+    heap: A,
     input: &[u8],
     strict: &[u8],
 ) {
     let value = from_bytes::<T, _>(heap, input).expect(rt, "a value");
     let mut room = Vec::from_elem(heap, 0xEEu8, strict.len() + 6).expect(rt, "memory");
-    assert!(rt;
-        writes_in_turn(heap, &value, strict) == Some(1),
-        "{strict:?}"
-    );
+    makes(rt, heap, &value, strict);
+    fills_alone(rt, heap, &value, strict, room.as_mut_slice());
+}
+
+/// `to_vec` gives these bytes, and takes memory once.
+fn makes<A: Heap, T: ToDer>(rt: &impl Abort, heap: A, value: &T, strict: &[u8]) {
+    let requests = writes_in_turn(heap, value, strict);
+    assert!(rt; requests == Some(1), "{strict:?}");
+}
+
+/// The length is told and the value written where each request is refused, and none is made.
+fn fills_alone<A: Heap, T: ToDer>(
+    rt: &impl Abort,
+    heap: A,
+    value: &T,
+    strict: &[u8],
+    room: &mut [u8],
+) {
     heap.refuse_all();
-    assert!(rt; encoded_len(&value) == Ok(strict.len()));
-    fills(rt, &value, strict, room.as_mut_slice());
+    assert!(rt; encoded_len(value) == Ok(strict.len()));
+    fills(rt, value, strict, room);
     assert!(rt; heap.requests() == 0);
     heap.refuse(0);
 }
@@ -312,8 +371,8 @@ pub(super) fn copy_turn<T: CloneEq + PartialEq>(
 
 /// How many requests a clone of a value makes where it is equal, and want of memory where one is refused. The other value is
 /// as the first was before.
-fn copies_in_turn<'v, T: CloneEq + PartialEq>(
-    heap: Heap<'_>,
+fn copies_in_turn<'v, A: Heap, T: CloneEq + PartialEq>(
+    heap: A,
     value: &'v T,
     before: &'v T,
 ) -> Option<u64> {
@@ -321,11 +380,7 @@ fn copies_in_turn<'v, T: CloneEq + PartialEq>(
 }
 
 /// The value of the spelling is cloned as itself, by either call, also where memory is refused first.
-fn copies<'h, T: FromDer<Heap<'h>> + OwnClone + PartialEq>(
-    rt: &impl Abort,
-    heap: Heap<'h>,
-    text: &str,
-) {
+fn copies<A: Heap, T: FromDer<A> + OwnClone + PartialEq>(rt: &impl Abort, heap: A, text: &str) {
     let input = bytes_of(rt, heap, text);
     let value = from_bytes::<T, _>(heap, &input).expect(rt, text);
     let before = from_bytes::<T, _>(heap, &input).expect(rt, text);
@@ -333,9 +388,9 @@ fn copies<'h, T: FromDer<Heap<'h>> + OwnClone + PartialEq>(
 }
 
 /// Both clones make as many requests.
-fn copies_agree<'v, T: OwnClone + PartialEq>(
+fn copies_agree<'v, A: Heap, T: OwnClone + PartialEq>(
     rt: &impl Abort,
-    heap: Heap<'_>,
+    heap: A,
     value: &'v T,
     before: &'v T,
     text: &str,
@@ -355,46 +410,46 @@ fn refused_turn<T: Drop>(answer: Result<T, ReadError>) -> Turn {
 }
 
 /// No call reads the bytes, also where memory is refused first, and the headers are bounded.
-pub(super) fn refuses<'h, T: FromDer<Heap<'h>>>(rt: &impl Abort, heap: Heap<'h>, input: &[u8]) {
+pub(super) fn refuses<A: Heap, T: FromDer<A>>(rt: &impl Abort, heap: A, input: &[u8]) {
     for reading in READINGS {
-        let requests = heap.in_turn(|| refused_turn(read_by::<T>(*reading, heap, input)));
+        let requests = heap.in_turn(|| refused_turn(read_by::<A, T>(*reading, heap, input)));
         assert!(rt; requests.is_some(), "{input:?} is read");
     }
     assert!(rt;
-        headers_of::<T>(heap, input) <= input.len() / 2 + 1,
+        headers_of::<A, T>(heap, input) <= input.len() / 2 + 1,
         "{input:?}"
     );
 }
 
 /// How many headers a read shows that should be refused.
-pub(super) fn headers_of<'h, T: FromDer<Heap<'h>>>(heap: Heap<'h>, input: &[u8]) -> usize {
+pub(super) fn headers_of<A: Heap, T: FromDer<A>>(heap: A, input: &[u8]) -> usize {
     let (_refused, headers) = read_metered::<T, _>(heap, input);
     headers
 }
 
 /// Each of these, in hexadecimal, is refused by every call.
-fn all_refused<'h, T: FromDer<Heap<'h>>>(rt: &impl Abort, heap: Heap<'h>, texts: &[&str]) {
+fn all_refused<A: Heap, T: FromDer<A>>(rt: &impl Abort, heap: A, texts: &[&str]) {
     for text in texts {
         let input = bytes_of(rt, heap, *text);
-        refuses::<T>(rt, heap, &input);
+        refuses::<A, T>(rt, heap, &input);
     }
 }
 
 /// Each byte is raised and lowered by one, and the laws are kept.
-fn neighbours<'h, T: FromDer<Heap<'h>>>(rt: &impl Abort, heap: Heap<'h>, input: &[u8]) {
+fn neighbours<A: Heap, T: FromDer<A>>(rt: &impl Abort, heap: A, input: &[u8]) {
     for place in 0..input.len() {
         for change in [1u8, 255] {
             let mut near = Vec::from_slice(heap, input).expect(rt, "memory");
             if let Some(byte) = near.get_mut(place) {
                 *byte = byte.wrapping_add(change);
             }
-            keeps_laws::<T>(rt, heap, &near);
+            keeps_laws::<A, T>(rt, heap, &near);
         }
     }
 }
 
 /// Whether the value is rewritten to these bytes if they are strict, and to others if not.
-fn is_rewritten<T: ToDer>(heap: Heap<'_>, value: &T, bytes: &[u8], is_strict: bool) -> bool {
+fn is_rewritten<A: Heap, T: ToDer>(heap: A, value: &T, bytes: &[u8], is_strict: bool) -> bool {
     match to_vec(heap, value) {
         Ok(strict) => (strict.as_slice() == bytes) == is_strict,
         Err(_refused) => false,
@@ -402,7 +457,7 @@ fn is_rewritten<T: ToDer>(heap: Heap<'_>, value: &T, bytes: &[u8], is_strict: bo
 }
 
 /// The headers are bounded, and where the bytes are accepted they are rewritten to themselves exactly where the total is 0.
-fn keeps_laws<'h, T: FromDer<Heap<'h>>>(rt: &impl Abort, heap: Heap<'h>, bytes: &[u8]) {
+fn keeps_laws<A: Heap, T: FromDer<A>>(rt: &impl Abort, heap: A, bytes: &[u8]) {
     let (outcome, headers) = read_metered::<T, _>(heap, bytes);
     let is_lawful = match outcome {
         Ok((value, deviations)) => is_rewritten(heap, &value, bytes, deviations.is_none()),
@@ -412,21 +467,34 @@ fn keeps_laws<'h, T: FromDer<Heap<'h>>>(rt: &impl Abort, heap: Heap<'h>, bytes: 
     assert!(rt; headers <= bytes.len() / 2 + 1);
 }
 
+/// Other elements in the place of each field are treated as is said.
+fn all_others<A: Heap, T: FromDer<A>>(
+    rt: &impl Abort,
+    heap: A,
+    input: &[u8],
+    fields: &[Field<'_>],
+) {
+    for field in fields {
+        others::<A, T>(rt, heap, input, field);
+    }
+}
+
 /// In the place of the field, an element of each universal tag that may not stand there is refused, and any other is read
 /// and keeps the laws.
-fn others<'h, T: FromDer<Heap<'h>>>(
-    rt: &impl Abort,
-    heap: Heap<'h>,
-    input: &[u8],
-    field: &Field<'_>,
-) {
+fn others<A: Heap, T: FromDer<A>>(rt: &impl Abort, heap: A, input: &[u8], field: &Field<'_>) {
     for (tag, content) in SAMPLES {
         let bytes = replaced(rt, heap, input, field, *tag, *content);
-        if field.tags.contains(tag) {
-            assert!(rt; from_bytes::<T, _>(heap, &bytes).is_ok(), "{bytes:?}");
-            keeps_laws::<T>(rt, heap, &bytes);
-        } else {
-            refuses::<T>(rt, heap, &bytes);
-        }
+        is_other::<A, T>(rt, heap, &bytes, field.tags.contains(tag));
+    }
+}
+
+/// The bytes are read and keep the laws, or are refused.
+fn is_other<A: Heap, T: FromDer<A>>(rt: &impl Abort, heap: A, bytes: &[u8], may_stand: bool) {
+    if may_stand {
+        let is_read = from_bytes::<T, _>(heap, bytes).is_ok();
+        assert!(rt; is_read, "{bytes:?}");
+        keeps_laws::<A, T>(rt, heap, bytes);
+    } else {
+        refuses::<A, T>(rt, heap, bytes);
     }
 }

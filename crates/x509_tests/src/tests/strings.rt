@@ -6,7 +6,7 @@ use std::process::Abort;
 use x509_der::{BitStringAsn1, OctetStringAsn1, encoded_len, to_vec};
 
 /// So many octets are written behind these bytes in hexadecimal, and read back.
-fn begins<'h>(rt: &impl Abort, heap: Heap<'h>, count: usize, head: &str, whole: usize) {
+fn begins<A: Heap>(rt: &impl Abort, heap: A, count: usize, head: &str, whole: usize) {
     let head = bytes_of(rt, heap, head);
     let octets = Vec::from_elem(heap, 0xA5u8, count).expect(rt, "memory");
     let value = OctetStringAsn1(octets);
@@ -14,8 +14,8 @@ fn begins<'h>(rt: &impl Abort, heap: Heap<'h>, count: usize, head: &str, whole: 
     let written = to_vec(heap, &value).expect(rt, "memory");
     let is_headed = written.as_slice().starts_with(&head);
     assert!(rt; is_headed && written.len() == whole, "{count}");
-    reads_in_turn::<OctetStringAsn1<Heap<'h>>>(rt, heap, &written, &written);
-    writes::<OctetStringAsn1<Heap<'h>>>(rt, heap, &written, &written);
+    reads_in_turn::<A, OctetStringAsn1<A>>(rt, heap, &written, &written);
+    writes::<A, OctetStringAsn1<A>>(rt, heap, &written, &written);
 }
 
 /// Numbers of octets, the bytes in front of them in hexadecimal, and the numbers of all bytes.
@@ -28,29 +28,39 @@ const LENGTHS: &[(usize, &str, usize)] = &[
     (65536, "0483010000", 65541),
 ];
 
-#[test]
-fn octets_of_each_length(rt: HostRuntime) {
-    let heap = Refusing::new(rt.alloc());
+/// The test of this name, over any such allocator.
+fn octets_of_each_length_over<A: Heap>(rt: &impl Abort, heap: A) {
     for (count, head, whole) in LENGTHS {
-        begins(&rt, &heap, *count, *head, *whole);
+        begins(rt, heap, *count, *head, *whole);
     }
 }
 
+#[test]
+fn octets_of_each_length(rt: HostRuntime) {
+    let heap = Refusing::new(rt.alloc());
+    octets_of_each_length_over(&rt, &heap);
+}
+
 /// These bytes in hexadecimal are refused with up to so many octets behind them.
-fn refuses_head<'h>(rt: &impl Abort, heap: Heap<'h>, head: &str, most: usize) {
+fn refuses_head<A: Heap>(rt: &impl Abort, heap: A, head: &str, most: usize) {
     let mut bytes = bytes_of(rt, heap, head);
     for _count in 0..most {
-        refuses::<OctetStringAsn1<Heap<'h>>>(rt, heap, &bytes);
+        refuses::<A, OctetStringAsn1<A>>(rt, heap, &bytes);
         bytes.push(0).expect(rt, "memory");
+    }
+}
+
+/// The test of this name, over any such allocator.
+fn lengths_are_the_shortest_over<A: Heap>(rt: &impl Abort, heap: A) {
+    for head in &["04817f", "0480", "04820080"] {
+        refuses_head(rt, heap, *head, 131);
     }
 }
 
 #[test]
 fn lengths_are_the_shortest(rt: HostRuntime) {
     let heap = Refusing::new(rt.alloc());
-    for head in &["04817f", "0480", "04820080"] {
-        refuses_head(&rt, &heap, *head, 131);
-    }
+    lengths_are_the_shortest_over(&rt, &heap);
 }
 
 const OCTETS: Table<'static> = Table {
@@ -59,10 +69,15 @@ const OCTETS: Table<'static> = Table {
     refused: &["0300"],
 };
 
+/// The test of this name, over any such allocator.
+fn octets_are_read_over<A: Heap>(rt: &impl Abort, heap: A) {
+    all_hold::<A, OctetStringAsn1<A>>(rt, heap, &OCTETS);
+}
+
 #[test]
 fn octets_are_read(rt: HostRuntime) {
     let heap = Refusing::new(rt.alloc());
-    all_hold::<OctetStringAsn1<Heap<'_>>>(&rt, &heap, &OCTETS);
+    octets_are_read_over(&rt, &heap);
 }
 
 const BITS: Table<'static> = Table {
@@ -76,8 +91,13 @@ const BITS: Table<'static> = Table {
     refused: &["0300", "030101", "03020800", "030201a1", "0403020780"],
 };
 
+/// The test of this name, over any such allocator.
+fn bits_are_read_over<A: Heap>(rt: &impl Abort, heap: A) {
+    all_hold::<A, BitStringAsn1<A>>(rt, heap, &BITS);
+}
+
 #[test]
 fn bits_are_read(rt: HostRuntime) {
     let heap = Refusing::new(rt.alloc());
-    all_hold::<BitStringAsn1<Heap<'_>>>(&rt, &heap, &BITS);
+    bits_are_read_over(&rt, &heap);
 }

@@ -4,6 +4,7 @@
 use super::fields::Field;
 use super::rows::{Heap, Row, Table, all_coded};
 use refusing::Refusing;
+use std::process::Abort;
 use x509_der_structures::{Contact, Mark, Optionals, Preference};
 
 const CHOICES: Table<'static> = Table {
@@ -22,10 +23,15 @@ const CHOICES: Table<'static> = Table {
     refused: &["0400", "a103020105", "a0050201050500", "a000"],
 };
 
+/// The test of this name, over any such allocator.
+fn choices_over<A: Heap>(rt: &impl Abort, heap: A) {
+    all_coded::<A, Mark>(rt, heap, &CHOICES);
+}
+
 #[test]
 fn choices(rt: HostRuntime) {
     let heap = Refusing::new(rt.alloc());
-    all_coded::<Mark>(&rt, &heap, &CHOICES);
+    choices_over(&rt, &heap);
 }
 
 const OPTIONAL_FIELDS: Table<'static> = Table {
@@ -53,10 +59,15 @@ const OPTIONAL_FIELDS: Table<'static> = Table {
     ],
 };
 
+/// The test of this name, over any such allocator.
+fn optional_fields_over<A: Heap>(rt: &impl Abort, heap: A) {
+    all_coded::<A, Optionals<A>>(rt, heap, &OPTIONAL_FIELDS);
+}
+
 #[test]
 fn optional_fields(rt: HostRuntime) {
     let heap = Refusing::new(rt.alloc());
-    all_coded::<Optionals<Heap<'_>>>(&rt, &heap, &OPTIONAL_FIELDS);
+    optional_fields_over(&rt, &heap);
 }
 
 /// The identifiers 1.2.3 and 1.2.4 ask for a value, 1.2.5 for none, and 1.2.6 and 1.2 aren't known.
@@ -89,10 +100,15 @@ const PREFERENCES: Table<'static> = Table {
     ],
 };
 
+/// The test of this name, over any such allocator.
+fn values_of_known_kinds_over<A: Heap>(rt: &impl Abort, heap: A) {
+    all_coded::<A, Preference<A>>(rt, heap, &PREFERENCES);
+}
+
 #[test]
 fn values_of_known_kinds(rt: HostRuntime) {
     let heap = Refusing::new(rt.alloc());
-    all_coded::<Preference<Heap<'_>>>(&rt, &heap, &PREFERENCES);
+    values_of_known_kinds_over(&rt, &heap);
 }
 
 /// A number, the texts a, CH and a@b, the character a, and 17 October 2019 at 17:41:28 in both spellings.
@@ -150,8 +166,13 @@ const CONTACTS: Table<'static> = Table {
     refused: &[],
 };
 
+/// The test of this name, over any such allocator.
+fn contacts_over<A: Heap>(rt: &impl Abort, heap: A) {
+    all_coded::<A, Contact<A>>(rt, heap, &CONTACTS);
+}
+
 #[test]
 fn contacts(rt: HostRuntime) {
     let heap = Refusing::new(rt.alloc());
-    all_coded::<Contact<Heap<'_>>>(&rt, &heap, &CONTACTS);
+    contacts_over(&rt, &heap);
 }

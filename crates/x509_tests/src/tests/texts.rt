@@ -2,6 +2,7 @@
 
 use super::rows::{Heap, Table, all_hold};
 use refusing::Refusing;
+use std::process::Abort;
 use x509_prim::{BmpStringAsn1, Ia5StringAsn1, PrintableStringAsn1, Utf8String};
 
 /// The texts of these and of IA5 are examples of RSA Laboratories' "A Layman's Guide to a Subset of ASN.1, BER, and DER",
@@ -12,10 +13,15 @@ const PRINTABLE_STRINGS: Table<'static> = Table {
     refused: &["13012a", "130140", "130180", "13024100ff", "0c0141"],
 };
 
+/// The test of this name, over any such allocator.
+fn rows_of_printable_strings_over<A: Heap>(rt: &impl Abort, heap: A) {
+    all_hold::<A, PrintableStringAsn1<A>>(rt, heap, &PRINTABLE_STRINGS);
+}
+
 #[test]
 fn rows_of_printable_strings(rt: HostRuntime) {
     let heap = Refusing::new(rt.alloc());
-    all_hold::<PrintableStringAsn1<Heap<'_>>>(&rt, &heap, &PRINTABLE_STRINGS);
+    rows_of_printable_strings_over(&rt, &heap);
 }
 
 const IA5_STRINGS: Table<'static> = Table {
@@ -28,10 +34,15 @@ const IA5_STRINGS: Table<'static> = Table {
     refused: &["160180", "160241ff", "130141", "36034101ff"],
 };
 
+/// The test of this name, over any such allocator.
+fn rows_of_ia5_strings_over<A: Heap>(rt: &impl Abort, heap: A) {
+    all_hold::<A, Ia5StringAsn1<A>>(rt, heap, &IA5_STRINGS);
+}
+
 #[test]
 fn rows_of_ia5_strings(rt: HostRuntime) {
     let heap = Refusing::new(rt.alloc());
-    all_hold::<Ia5StringAsn1<Heap<'_>>>(&rt, &heap, &IA5_STRINGS);
+    rows_of_ia5_strings_over(&rt, &heap);
 }
 
 const BMP_STRINGS: Table<'static> = Table {
@@ -45,10 +56,15 @@ const BMP_STRINGS: Table<'static> = Table {
     refused: &["1e0161", "1e03006100", "0c020061"],
 };
 
+/// The test of this name, over any such allocator.
+fn rows_of_bmp_strings_over<A: Heap>(rt: &impl Abort, heap: A) {
+    all_hold::<A, BmpStringAsn1<A>>(rt, heap, &BMP_STRINGS);
+}
+
 #[test]
 fn rows_of_bmp_strings(rt: HostRuntime) {
     let heap = Refusing::new(rt.alloc());
-    all_hold::<BmpStringAsn1<Heap<'_>>>(&rt, &heap, &BMP_STRINGS);
+    rows_of_bmp_strings_over(&rt, &heap);
 }
 
 /// The examples of RFC 3629, 7; and spellings that are too long, are surrogates, or pass U+10FFFF (RFC 3629, 3 and 10).
@@ -75,8 +91,13 @@ const UTF8_STRINGS: Table<'static> = Table {
     ],
 };
 
+/// The test of this name, over any such allocator.
+fn rows_of_utf8_strings_over<A: Heap>(rt: &impl Abort, heap: A) {
+    all_hold::<A, Utf8String<A>>(rt, heap, &UTF8_STRINGS);
+}
+
 #[test]
 fn rows_of_utf8_strings(rt: HostRuntime) {
     let heap = Refusing::new(rt.alloc());
-    all_hold::<Utf8String<Heap<'_>>>(&rt, &heap, &UTF8_STRINGS);
+    rows_of_utf8_strings_over(&rt, &heap);
 }

@@ -1,7 +1,8 @@
 //! Times.
 
-use super::rows::{Table, all_hold};
+use super::rows::{Heap, Table, all_hold};
 use refusing::Refusing;
+use std::process::Abort;
 use x509_prim::{GeneralizedTimeAsn1, UtcTimeAsn1};
 
 /// Texts in ASCII under the tag 17.
@@ -61,10 +62,15 @@ const UTC_TIMES: Table<'static> = Table {
     ],
 };
 
+/// The test of this name, over any such allocator.
+fn utc_times_over<A: Heap>(rt: &impl Abort, heap: A) {
+    all_hold::<A, UtcTimeAsn1>(rt, heap, &UTC_TIMES);
+}
+
 #[test]
 fn utc_times(rt: HostRuntime) {
     let heap = Refusing::new(rt.alloc());
-    all_hold::<UtcTimeAsn1>(&rt, &heap, &UTC_TIMES);
+    utc_times_over(&rt, &heap);
 }
 
 /// Texts in ASCII under the tag 18.
@@ -116,8 +122,13 @@ const GENERALIZED_TIMES: Table<'static> = Table {
     ],
 };
 
+/// The test of this name, over any such allocator.
+fn generalized_times_over<A: Heap>(rt: &impl Abort, heap: A) {
+    all_hold::<A, GeneralizedTimeAsn1>(rt, heap, &GENERALIZED_TIMES);
+}
+
 #[test]
 fn generalized_times(rt: HostRuntime) {
     let heap = Refusing::new(rt.alloc());
-    all_hold::<GeneralizedTimeAsn1>(&rt, &heap, &GENERALIZED_TIMES);
+    generalized_times_over(&rt, &heap);
 }
