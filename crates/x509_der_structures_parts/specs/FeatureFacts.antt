@@ -14,7 +14,7 @@ use Rattle.x509_der.specs.Depending.{IsFamily}
 use Rattle.x509_der.specs.Kind.{kind_lawful, IsKind}
 use Rattle.x509_der.specs.Viewed.{some_one}
 use Rattle.x509_der.specs.Meaning.{IsMeaning}
-use Rattle.x509_der_structures_parts.specs.Apart1.{byte_apart}
+use Rattle.x509_der_structures_parts.specs.Alternatives.{byte_apart}
 use Rattle.x509_der_structures_parts.specs.Features.{kind_of, value_bytes, IsValue, by_kind, Key, Fields, feature_base, critical_of, written_critical, critical_kinds, feature_of, feature_means, feature_back, feature_meaning, feature, feature_bytes}
 use Rattle.x509_der_structures_parts.specs.declared.features.FeatureValue.{FeatureValue}
 use Rattle.x509_der_structures_parts.specs.declared.features.FeatureValue.TheVariants as value

@@ -18,7 +18,7 @@ use Rattle.x509_der.specs.Arcs.{oids}
 use Rattle.x509_der.specs.ArcFacts.{oid_lawful}
 use Rattle.x509_der.specs.Viewed.{some_one}
 use Rattle.x509_der.specs.Meaning.{IsMeaning, IsSeen, seen_one, seen_lawful, seen_element}
-use Rattle.x509_der_structures_parts.specs.Apart1.{Alternative, under, either_of}
+use Rattle.x509_der_structures_parts.specs.Alternatives.{Alternative, under, either_of}
 use Rattle.x509_der_structures_parts.specs.Labels.{Strict, Loose, label_parts, strict_label, loose_label, strict_base, loose_base, strict_tags, loose_tags, label_tags, label_base, label_means, label_meaning, label, FormAt}
 use Rattle.x509_der_structures_parts.specs.declared.labels.Label.{Label}
 use Rattle.x509_der_structures_parts.specs.declared.labels.Label.TheVariants.{Codes, Text, Number, Flag, Level, Serial, Uses, Name}

@@ -15,7 +15,7 @@ use Rattle.x509_der.specs.Integers.{integers}
 use Rattle.x509_der.specs.Bits.{bit_strings}
 use Rattle.x509_der.specs.Arcs.{oids}
 use Rattle.x509_der.specs.Meaning.{Meaning, seen}
-use Rattle.x509_der_structures_parts.specs.Apart1.{among}
+use Rattle.x509_der_structures_parts.specs.Alternatives.{among}
 use Rattle.x509_der_structures_parts.specs.declared.labels.Label.{Label}
 use Rattle.x509_der_structures_parts.specs.declared.labels.Label.TheVariants.{Codes, Text, Number, Flag, Level, Serial, Uses, Name}
 

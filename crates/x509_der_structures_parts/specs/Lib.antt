@@ -1,4 +1,3 @@
-pub mod Apart2
 pub mod Lasts
 pub mod LastFacts
 pub mod KeyReferences
@@ -8,7 +7,7 @@ pub mod Stamps
 pub mod Letters
 pub mod Notices
 pub mod NoticeFacts
-pub mod Apart1
+pub mod Alternatives
 pub mod Partly
 pub mod Releases
 pub mod ReleaseFacts

@@ -2,7 +2,7 @@
 
 ghost use Rattle.std.specs.Prelude.{◌≡◌, ◌<◌};
 ghost use Rattle.x509_der.specs.Meaning.{if_found, sequence_seen, sequence_lawful, seen_element};
-ghost use Rattle.x509_der_structures_parts.specs.Apart2.{hints_apart, numbers_apart};
+ghost use Rattle.x509_der_structures_parts.specs.Alternatives.{hints_apart, numbers_apart};
 ghost use Rattle.x509_der_structures_parts.specs.KeyReferences.{hint, number, order_kinds, reference_of, reference_base, reference_meaning, key_reference, reference_bytes, with_hint};
 ghost use Rattle.x509_der_structures_parts.specs.Lasts.{ascends};
 ghost use Rattle.x509_der_structures_parts.specs.KeyReferenceFacts.{reference_is, one_kind, reference_agrees};

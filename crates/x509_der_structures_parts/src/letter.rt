@@ -2,7 +2,7 @@
 
 ghost use Rattle.std.specs.Prelude.{◌≡◌, refl};
 ghost use Rattle.x509_der.specs.Mapped.{mapped_lawful, mapped_element};
-ghost use Rattle.x509_der_structures_parts.specs.Apart2.{stamp_apart};
+ghost use Rattle.x509_der_structures_parts.specs.Alternatives.{stamp_apart};
 ghost use Rattle.x509_der_structures_parts.specs.Letters.{letter_parts, letter_same, letter_base, letter};
 
 use crate::stamp::Stamp;

@@ -4,8 +4,7 @@
 pub mod features;
 pub mod key_reference;
 pub mod labels;
-pub mod laws2;
-pub mod laws_first;
+pub mod laws;
 pub mod letter;
 pub mod notice;
 pub mod releases;

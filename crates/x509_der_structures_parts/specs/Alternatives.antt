@@ -1,6 +1,7 @@
 -- Alternatives of a choice, told apart by their tags.
-use Rattle.std.proofs.Common.{◌≡◌, refl, ap, ◌∙◌, ℕ, ◌<◌, Bool, true, false, ◌||◌, ◌&&◌, not, eqb, List, [], ◌∷◌, ◌++◌}
+use Rattle.std.proofs.Common.{◌≡◌, refl, ap, ◌∙◌, ℕ, ◌<◌, Bool, true, false, ◌||◌, ◌&&◌, not, eqb, List, [], ◌∷◌, ◌++◌, arith}
 use Rattle.std.proofs.lemmas.Bool.{eqb-true}
+use Rattle.std.proofs.lemmas.Bool.Decides.{nat_tests}
 use Rattle.x509_der.specs.Reading.{is_tag}
 use Rattle.x509_der.specs.Shape.{Shape, Lawful, IsElement}
 use Rattle.x509_der.specs.Around.{around, around_lawful, around_element}
@@ -86,3 +87,17 @@ either_of {V} {W} {a} {b} {ts} {us} f g d = record {
   markable = one_of_markable a b f.markable g.markable;
   begins = λ c. either_true (a.starts c) (b.starts c) (among (ts ++ us) c) (λ h. among_left ts us c (f.begins c h)) (λ h. among_right ts us c (g.begins c h));
 }
+
+-- fields that may be absent, told from what follows
+
+pub stamp_apart : (c : ℕ) → (eqb c 2 || eqb c 2) ≡ true → (false || eqb c 160) ≡ false
+stamp_apart c h = grind (arith, nat_tests)
+
+pub note_apart : (c : ℕ) → eqb c 161 ≡ true → (false || eqb c 2) ≡ false
+note_apart c h = grind (arith, nat_tests)
+
+pub hints_apart : (c : ℕ) → eqb c 128 ≡ true → (eqb c 161 || eqb c 130) ≡ false
+hints_apart c h = grind (arith, nat_tests)
+
+pub numbers_apart : (c : ℕ) → eqb c 161 ≡ true → eqb c 130 ≡ false
+numbers_apart c h = grind (arith, nat_tests)

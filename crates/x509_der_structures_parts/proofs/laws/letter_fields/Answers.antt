@@ -1,5 +1,5 @@
 use Rattle.x509_der.specs.ElementPlaces.{content_first}
-use Rattle.x509_der_structures_parts.proofs.laws2.letter_fields.Goals as goal
+use Rattle.x509_der_structures_parts.proofs.laws.letter_fields.Goals as goal
 
 pub returns : goal.returns
 returns g c = λ v string y a.

@@ -3,7 +3,7 @@ use Rattle.x509_der.specs.ElementPlaces.{content_first}
 use Rattle.x509_der_structures_parts.specs.Features.{FieldsAt, inner}
 use Rattle.x509_der_structures_parts.specs.FeatureFacts.{means_one}
 use Rattle.x509_der_structures_parts.specs.declared.features.Feature.{Feature}
-use Rattle.x509_der_structures_parts.proofs.laws_first.feature_fields.Goals as goal
+use Rattle.x509_der_structures_parts.proofs.laws.feature_fields.Goals as goal
 
 pub returns : goal.returns
 returns g c = λ v string y a.

@@ -1,6 +1,6 @@
 use Rattle.x509_der.specs.ElementPlaces.{content_first}
 use Rattle.x509_der_structures_parts.specs.KeyReferenceFacts.{means_one}
-use Rattle.x509_der_structures_parts.proofs.laws2.key_reference_fields.Goals as goal
+use Rattle.x509_der_structures_parts.proofs.laws.key_reference_fields.Goals as goal
 
 pub returns : goal.returns
 returns g c = λ v string y a.
