@@ -84,9 +84,7 @@ impl<A: Allocator + Copy> Field<A> for Release {
         byte == 2
     }
 
-    fn known(&self) {
-        let _number = self.number();
-    }
+    fn known(&self) {}
 
     fn read(alloc: A, reader: &mut Reader<'_, A>) -> Result<Self, ReadError> {
         read_viewed::<Self, u8, A>(alloc, reader)
