@@ -30,7 +30,7 @@ FUNCTION = re.compile(r"^( *)(?:pub(?:\([a-z]+\))? )?(?:const )?fn (\w+)")
 SYMBOL = re.compile(r"(?m)^fn (\S+?): (.*)")
 # A function that is refused for another's sake alone.
 WAITS = re.compile(r"^(no proof: |not proved; )it (calls|passes|waits) ")
-NAMES = re.compile(r"has no field|is not in scope|has no `|was not admitted")
+NAMES = re.compile(r"has no field|is not in scope|has no `|was not admitted|\(nearest: ")
 
 
 class Edit:
@@ -187,15 +187,27 @@ def is_own(why):
     return bool(re.match("no proof|not proved", why)) and not WAITS.match(why)
 
 
+def goals_of(symbol, said):
+    """What a check says is not proved of a function, in the lines in front of the function's own."""
+    goals = []
+    for line in said.split("\n"):
+        if line.startswith(f"fn {symbol}: "):
+            return goals
+        if line.startswith("fn "):
+            goals = []
+        elif re.match(r"note: src/\S+ it is not proved", line):
+            goals.append(line[6:])
+    return []
+
+
 def reason_of(symbol, told, said):
-    """Why a function is refused: the first error in its proof's files that is more than a name which the edit took away."""
+    """Why a function is refused: the first goal that isn't proved, or error in its proof's files that is more than a lost name."""
     path = re.escape("/".join(symbol.split("::")[1:]))
     errors = re.findall(rf"(?m)^(?:\./)?proofs/{path}/\w+\.antt:\S+ error: .*", said)
-    goals = re.findall(rf"(?m)^note: .*`search` did not prove.*{path}.*", said)
-    if errors and not goals:
-        whole = [it for it in errors if not NAMES.search(it)]
-        return whole[0] if whole else f"only for a name that the edit took away, which says little of the contract: {errors[0]}"
-    return f"{symbol}: {told}"
+    whole = [*goals_of(symbol, said), *[it for it in errors if not NAMES.search(it)]]
+    if errors and not whole:
+        return f"only for a name that the edit took away, which says little of the contract: {errors[0]}"
+    return whole[0] if whole else f"{symbol}: {told}"
 
 
 def say(edit, word, why=""):
