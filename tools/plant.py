@@ -24,12 +24,13 @@ import tempfile
 
 from check_edits import BadEdit, applied, edits_in
 
+PARTS = ("src", "specs", "proofs")
 ROOT = os.path.dirname(os.path.dirname(os.path.abspath(__file__)))
 FUNCTION = re.compile(r"^( *)(?:pub(?:\([a-z]+\))? )?(?:const )?fn (\w+)")
 SYMBOL = re.compile(r"(?m)^fn (\S+?): (.*)")
 # A function that is refused for another's sake alone.
 WAITS = re.compile(r"^(no proof: |not proved; )it (calls|passes|waits) ")
-NAMES = re.compile(r"has no field|is not in scope|has no `|was not admitted")
+NAMES = re.compile(r"has no field|is not in scope|has no `|was not admitted|\(nearest: ")
 
 
 class Edit:
@@ -37,12 +38,12 @@ class Edit:
 
     def __init__(self, path, crate):
         self.path, self.name = path, os.path.basename(path)
-        before, places = {}, []
-        _, places = applied(path, crate, before)
+        _, places = applied(path, crate, {})
         self.functions = {function_at(crate, *place) for place in places}
 
-    def stands_in_functions(self):
-        return None not in self.functions
+    def has_symbols(self, crate, symbols):
+        """Whether all that it changes are functions that a check names."""
+        return all(it and named(crate, it, symbols) for it in self.functions)
 
 
 def function_at(crate, file, place):
@@ -73,7 +74,7 @@ class Copy:
 
     def __init__(self, name, room, jobs, log):
         self.name, self.jobs, self.log = name, jobs, log
-        self.source, self.folder = f"{ROOT}/crates/{name}", f"{room}/crates/{name}"
+        self.source, self.folder = f"{room}/source", f"{room}/crates/{name}"
         uses = lists()
         below = closure(name, uses)
         with open(f"{room}/crates.txt", "w", encoding="utf-8") as it:
@@ -82,10 +83,13 @@ class Copy:
         shutil.copy(f"{ROOT}/HANDLES", room)
         for crate in [*below, name]:
             copy_crate(crate, room, "incremental" if crate == name else "rlib")
+        for part in PARTS:
+            if os.path.isdir(f"{self.folder}/{part}"):
+                shutil.copytree(f"{self.folder}/{part}", f"{self.source}/{part}")
 
     def write(self, texts):
-        """Puts the crate's own sources in place, and these texts over them."""
-        for part in ("src", "specs", "proofs"):
+        """Puts the crate's own sources in place, as they were when the run began, and these texts over them."""
+        for part in PARTS:
             if os.path.isdir(f"{self.source}/{part}"):
                 shutil.rmtree(f"{self.folder}/{part}", ignore_errors=True)
                 shutil.copytree(f"{self.source}/{part}", f"{self.folder}/{part}")
@@ -136,7 +140,7 @@ def closure(name, uses):
 def copy_crate(crate, room, kept):
     """Copies a crate's files and what its checks kept. A built library is only read, so that links to its files do."""
     source, folder = f"{ROOT}/crates/{crate}", f"{room}/crates/{crate}"
-    for part in ("src", "specs", "proofs"):
+    for part in PARTS:
         if os.path.isdir(f"{source}/{part}"):
             shutil.copytree(f"{source}/{part}", f"{folder}/{part}")
     if os.path.isdir(f"{source}/out/{kept}"):
@@ -183,15 +187,27 @@ def is_own(why):
     return bool(re.match("no proof|not proved", why)) and not WAITS.match(why)
 
 
+def goals_of(symbol, said):
+    """What a check says is not proved of a function, in the lines in front of the function's own."""
+    goals = []
+    for line in said.split("\n"):
+        if line.startswith(f"fn {symbol}: "):
+            return goals
+        if line.startswith("fn "):
+            goals = []
+        elif re.match(r"note: src/\S+ it is not proved", line):
+            goals.append(line[6:])
+    return []
+
+
 def reason_of(symbol, told, said):
-    """Why a function is refused: the first error in its proof's files that is more than a name which the edit took away."""
+    """Why a function is refused: the first goal that isn't proved, or error in its proof's files that is more than a lost name."""
     path = re.escape("/".join(symbol.split("::")[1:]))
     errors = re.findall(rf"(?m)^(?:\./)?proofs/{path}/\w+\.antt:\S+ error: .*", said)
-    goals = re.findall(rf"(?m)^note: .*`search` did not prove.*{path}.*", said)
-    if errors and not goals:
-        whole = [it for it in errors if not NAMES.search(it)]
-        return whole[0] if whole else f"{errors[0]} (only a name that the edit took away, which says little of the contract)"
-    return f"{symbol}: {told}"
+    whole = [*goals_of(symbol, said), *[it for it in errors if not NAMES.search(it)]]
+    if errors and not whole:
+        return f"only for a name that the edit took away, which says little of the contract: {errors[0]}"
+    return whole[0] if whole else f"{symbol}: {told}"
 
 
 def say(edit, word, why=""):
@@ -277,30 +293,32 @@ def words():
     return given.parse_args()
 
 
-def main():
-    given = words()
-    source = f"{ROOT}/crates/{given.crate}"
-    folder = os.path.abspath(given.folder or f"{source}/more-edits")
+def read_edits(folder, word, crate):
+    """The edits of a folder whose name contains a word, and how many can't be applied."""
     edits, bad = [], 0
     for path in edits_in(folder):
-        if given.only not in os.path.basename(path):
-            continue
-        try:
-            edits.append(Edit(path, source))
-        except BadEdit as why:
-            print(f"{os.path.basename(path)}: BAD EDIT: {why}")
-            bad += 1
+        if word in os.path.basename(path):
+            try:
+                edits.append(Edit(path, crate))
+            except BadEdit as why:
+                print(f"{os.path.basename(path)}: BAD EDIT: {why}")
+                bad += 1
+    return edits, bad
+
+
+def main():
+    given = words()
+    folder = os.path.abspath(given.folder or f"{ROOT}/crates/{given.crate}/more-edits")
     with tempfile.TemporaryDirectory(prefix="plant-") as room:
         copy = Copy(given.crate, room, given.jobs, given.log)
+        edits, bad = read_edits(folder, given.only, copy.source)
         said = copy.check({})
         if "\nlogic=proved" not in said:
             print(said[-2000:])
             print(f"{given.crate} isn't proved without an edit", file=sys.stderr)
             return 2
         symbols = symbols_of(given.crate, said)
-        together = [it for it in edits if it.stands_in_functions() and all(named(given.crate, f, symbols) for f in it.functions)]
-        if given.one:
-            together = []
+        together = [] if given.one else [it for it in edits if it.has_symbols(given.crate, symbols)]
         alone = [it for it in edits if it not in together] + try_batches(copy, together, symbols)
         bad += sum(not try_alone(copy, edit) for edit in alone)
     print(f"{len(edits)} edits, {bad} not refused")

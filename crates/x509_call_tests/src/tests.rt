@@ -16,18 +16,37 @@ mod times;
 use refusing::{Refusing, Turn};
 use std::alloc::{Allocator, Global};
 
-/// An allocator that refuses what it is told to.
-pub type Heap<'h> = &'h Refusing<Global>;
+/// An allocator that refuses what it is told to. This is all that most tests name of it: a function over any such allocator
+/// is proved in a third of the time that it takes over the one that there is.
+pub trait Heap: Allocator + Copy {
+    /// Counts from 0 again, and refuses the request of this number, from 1 on; at 0 none.
+    fn refuse(self, number: u64);
 
-/// What it does with a call. A function that names no more of its allocator than this is proved in a third of the time.
-pub trait InTurn: Allocator + Copy {
+    /// Counts from 0 again, and refuses each request.
+    fn refuse_all(self);
+
+    /// The number of requests since the last `refuse` or `refuse_all`, those refused too.
+    fn requests(self) -> u64;
+
     /// Runs a call with its first request refused, then its second, until a run meets no refusal, and answers how many
     /// requests that one made; none where a run was wrong.
     fn in_turn<F: FnMut() -> Turn>(self, call: F) -> Option<u64>
         requires { F.IsAlwaysCallable call };
 }
 
-impl InTurn for &Refusing<Global> {
+impl Heap for &Refusing<Global> {
+    fn refuse(self, number: u64) {
+        Refusing::refuse(self, number);
+    }
+
+    fn refuse_all(self) {
+        Refusing::refuse_all(self);
+    }
+
+    fn requests(self) -> u64 {
+        Refusing::requests(self)
+    }
+
     fn in_turn<F: FnMut() -> Turn>(self, call: F) -> Option<u64> {
         Refusing::in_turn(self, call)
     }

@@ -1,6 +1,6 @@
 //! Lists and containers.
 
-use super::InTurn;
+use super::Heap;
 use refusing::{Refusing, Turn};
 use std::alloc::Global;
 use std::process::Abort;
@@ -33,7 +33,7 @@ fn contained_values_are_as_stated(rt: HostRuntime) {
 }
 
 /// What a run showed that should read a content as that of this value.
-fn content_turn<A: InTurn, T: Content<A> + PartialEq>(heap: A, content: &[u8], stated: &T) -> Turn {
+fn content_turn<A: Heap, T: Content<A> + PartialEq>(heap: A, content: &[u8], stated: &T) -> Turn {
     match T::read_body(heap, &mut Reader::new(content)) {
         Ok(value) => Turn::right(value == *stated),
         Err(ReadError::OutOfMemory) => Turn::Refused,
@@ -42,7 +42,7 @@ fn content_turn<A: InTurn, T: Content<A> + PartialEq>(heap: A, content: &[u8], s
 }
 
 /// The content of an element, which begins at a place, is read as under an implicit tag, also where memory is refused first.
-fn content_is_read<A: InTurn, T: FromDer<A> + Content<A> + PartialEq>(
+fn content_is_read<A: Heap, T: FromDer<A> + Content<A> + PartialEq>(
     rt: &impl Abort,
     heap: A,
     element: &[u8],
@@ -54,7 +54,7 @@ fn content_is_read<A: InTurn, T: FromDer<A> + Content<A> + PartialEq>(
     assert!(rt; requests.is_some(), "{element:?}");
 }
 
-fn contents_are_read_over<A: InTurn>(rt: &impl Abort, heap: A) {
+fn contents_are_read_over<A: Heap>(rt: &impl Abort, heap: A) {
     let list = [0x30, 6, 2, 1, 1, 2, 1, 2];
     content_is_read::<A, Asn1SequenceOf<u8, A>>(rt, heap, &list, 2);
     let set = [0x31, 6, 2, 1, 2, 2, 1, 1];
@@ -67,7 +67,7 @@ fn contents_are_read(rt: HostRuntime) {
     contents_are_read_over(&rt, &heap);
 }
 
-fn contents_of_containers_are_read_over<A: InTurn>(rt: &impl Abort, heap: A) {
+fn contents_of_containers_are_read_over<A: Heap>(rt: &impl Abort, heap: A) {
     let octets = [4, 3, 2, 1, 5];
     content_is_read::<A, OctetStringAsn1Container<IntegerAsn1<A>>>(rt, heap, &octets, 2);
     let bits = [3, 4, 0, 2, 1, 5];

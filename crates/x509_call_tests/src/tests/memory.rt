@@ -4,6 +4,7 @@ use super::Heap;
 use super::checks::same;
 use refusing::{Refusing, Turn};
 use std::alloc::{AllocError, Allocator};
+use std::process::Abort;
 use x509_der::{BitString, IntegerAsn1, ObjectIdentifier, OidError};
 use x509_prim::BmpString;
 
@@ -24,12 +25,17 @@ fn arcs_turn<A: Allocator>(answer: Result<ObjectIdentifier<A>, OidError>, arcs: 
     }
 }
 
+/// The test of this name, over any such allocator.
+fn identifiers_are_made_over<A: Heap>(rt: &impl Abort, heap: A) {
+    let arcs = [1, 2, 840, 113549, 2, 9];
+    let requests = heap.in_turn(|| arcs_turn(ObjectIdentifier::from_arcs(heap, &arcs), &arcs));
+    same(rt, &requests, &Some(1), "requests");
+}
+
 #[test]
 fn identifiers_are_made(rt: HostRuntime) {
     let heap = Refusing::new(rt.alloc());
-    let arcs = [1, 2, 840, 113549, 2, 9];
-    let requests = heap.in_turn(|| arcs_turn(ObjectIdentifier::from_arcs(&heap, &arcs), &arcs));
-    same(&rt, &requests, &Some(1), "requests");
+    identifiers_are_made_over(&rt, &heap);
 }
 
 /// The bytes of a signed number are held as these.
@@ -53,12 +59,12 @@ fn unsigned_is_right<A: Allocator + Copy>(
 }
 
 /// How many requests the bytes of a signed number make.
-fn signed_requests(heap: Heap<'_>, given: &[u8], held: &[u8]) -> Option<u64> {
+fn signed_requests<A: Heap>(heap: A, given: &[u8], held: &[u8]) -> Option<u64> {
     heap.in_turn(|| made_turn(signed_is_right(heap, given, held)))
 }
 
 /// How many requests the bytes of a number without a sign make.
-fn unsigned_requests(heap: Heap<'_>, given: &[u8], held: &[u8]) -> Option<u64> {
+fn unsigned_requests<A: Heap>(heap: A, given: &[u8], held: &[u8]) -> Option<u64> {
     heap.in_turn(|| made_turn(unsigned_is_right(heap, given, held)))
 }
 
@@ -69,30 +75,43 @@ fn zero_is_right<A: Allocator + Copy>(alloc: A) -> Result<bool, AllocError> {
 }
 
 /// A padded number is kept in its own memory, which is the one request, and no bytes take one for the zero.
+fn signed_integers_are_made_over<A: Heap>(rt: &impl Abort, heap: A) {
+    let number = signed_requests(heap, b"\x00\x00\x80", b"\x00\x80");
+    same(rt, &number, &Some(1), "a padded number");
+    let zero = signed_requests(heap, b"", b"\x00");
+    same(rt, &zero, &Some(1), "no bytes");
+}
+
 #[test]
 fn signed_integers_are_made(rt: HostRuntime) {
     let heap = Refusing::new(rt.alloc());
-    let number = signed_requests(&heap, b"\x00\x00\x80", b"\x00\x80");
-    same(&rt, &number, &Some(1), "a padded number");
-    let zero = signed_requests(&heap, b"", b"\x00");
-    same(&rt, &zero, &Some(1), "no bytes");
+    signed_integers_are_made_over(&rt, &heap);
 }
 
 /// A number whose top bit is set takes room for a zero byte.
+fn unsigned_integers_are_made_over<A: Heap>(rt: &impl Abort, heap: A) {
+    let number = unsigned_requests(heap, b"\x80\x00", b"\x00\x80\x00");
+    same(rt, &number, &Some(2), "a number whose top bit is set");
+    let zero = unsigned_requests(heap, b"", b"\x00");
+    same(rt, &zero, &Some(1), "no bytes");
+}
+
 #[test]
 fn unsigned_integers_are_made(rt: HostRuntime) {
     let heap = Refusing::new(rt.alloc());
-    let number = unsigned_requests(&heap, b"\x80\x00", b"\x00\x80\x00");
-    same(&rt, &number, &Some(2), "a number whose top bit is set");
-    let zero = unsigned_requests(&heap, b"", b"\x00");
-    same(&rt, &zero, &Some(1), "no bytes");
+    unsigned_integers_are_made_over(&rt, &heap);
+}
+
+/// The test of this name, over any such allocator.
+fn zero_is_made_over<A: Heap>(rt: &impl Abort, heap: A) {
+    let requests = heap.in_turn(|| made_turn(zero_is_right(heap)));
+    same(rt, &requests, &Some(1), "requests");
 }
 
 #[test]
 fn zero_is_made(rt: HostRuntime) {
     let heap = Refusing::new(rt.alloc());
-    let requests = heap.in_turn(|| made_turn(zero_is_right(&heap)));
-    same(&rt, &requests, &Some(1), "requests");
+    zero_is_made_over(&rt, &heap);
 }
 
 /// So many bits, none of which is set.
@@ -112,25 +131,34 @@ fn resized_is_right<A: Allocator + Copy>(
 }
 
 /// How many requests that makes, with the byte's own.
-fn resized_requests(heap: Heap<'_>, bits: usize, held: &[u8]) -> Option<u64> {
+fn resized_requests<A: Heap>(heap: A, bits: usize, held: &[u8]) -> Option<u64> {
     heap.in_turn(|| made_turn(resized_is_right(heap, bits, held)))
+}
+
+/// The test of this name, over any such allocator.
+fn bit_strings_are_made_over<A: Heap>(rt: &impl Abort, heap: A) {
+    let requests = heap.in_turn(|| made_turn(unset_bits_are_right(heap)));
+    same(rt, &requests, &Some(1), "requests");
 }
 
 #[test]
 fn bit_strings_are_made(rt: HostRuntime) {
     let heap = Refusing::new(rt.alloc());
-    let requests = heap.in_turn(|| made_turn(unset_bits_are_right(&heap)));
-    same(&rt, &requests, &Some(1), "requests");
+    bit_strings_are_made_over(&rt, &heap);
 }
 
 /// Bytes that are cut to bits stay in their own memory, and bits that are appended take more.
+fn bit_strings_are_resized_over<A: Heap>(rt: &impl Abort, heap: A) {
+    let cut = resized_requests(heap, 3, b"\xE0");
+    same(rt, &cut, &Some(1), "cut");
+    let grown = resized_requests(heap, 12, b"\xFF\x00");
+    same(rt, &grown, &Some(2), "grown");
+}
+
 #[test]
 fn bit_strings_are_resized(rt: HostRuntime) {
     let heap = Refusing::new(rt.alloc());
-    let cut = resized_requests(&heap, 3, b"\xE0");
-    same(&rt, &cut, &Some(1), "cut");
-    let grown = resized_requests(&heap, 12, b"\xFF\x00");
-    same(&rt, &grown, &Some(2), "grown");
+    bit_strings_are_resized_over(&rt, &heap);
 }
 
 /// What a run showed in which a byte's bits should be grown, which stay as they were where memory is refused.
@@ -148,23 +176,31 @@ fn growth_turn<A: Allocator>(bytes: Result<Vec<u8, A>, AllocError>) -> Turn {
 }
 
 /// A refused `set_num_bits` leaves the bits as they were.
+fn bit_strings_are_grown_over<A: Heap>(rt: &impl Abort, heap: A) {
+    let requests = heap.in_turn(|| growth_turn(Vec::from_slice(heap, b"\xA5")));
+    same(rt, &requests, &Some(2), "requests");
+}
+
 #[test]
 fn bit_strings_are_grown(rt: HostRuntime) {
     let heap = Refusing::new(rt.alloc());
-    let requests = heap.in_turn(|| growth_turn(Vec::from_slice(&heap, b"\xA5")));
-    same(&rt, &requests, &Some(2), "requests");
+    bit_strings_are_grown_over(&rt, &heap);
 }
 
 /// The units of U+1F600 and six letters (RFC 2781, 2.1).
 const UNITS: &[u8] = b"\xD8\x3D\xDE\x00\x00a\x00b\x00c\x00d\x00e\x00f";
 
 /// The bytes of a text's units take memory as they come.
-#[test]
-fn units_are_made(rt: HostRuntime) {
-    let heap = Refusing::new(rt.alloc());
-    let requests = heap.in_turn(|| match BmpString::from_string(&heap, "\u{1F600}abcdef") {
+fn units_are_made_over<A: Heap>(rt: &impl Abort, heap: A) {
+    let requests = heap.in_turn(|| match BmpString::from_string(heap, "\u{1F600}abcdef") {
         Ok(made) => Turn::right(made.as_bytes() == UNITS),
         Err(AllocError) => Turn::Refused,
     });
     assert!(rt; requests > Some(0));
+}
+
+#[test]
+fn units_are_made(rt: HostRuntime) {
+    let heap = Refusing::new(rt.alloc());
+    units_are_made_over(&rt, &heap);
 }

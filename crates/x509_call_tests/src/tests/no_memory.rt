@@ -17,21 +17,21 @@ use x509_prim::{
 };
 
 /// The answer is the stated one, and no request was made since all were refused; none is refused any more.
-fn needs_none(rt: &impl Abort, heap: Heap<'_>, what: &str, is_right: bool) {
+fn needs_none<A: Heap>(rt: &impl Abort, heap: A, what: &str, is_right: bool) {
     is_so(rt, is_right, what);
     same(rt, &heap.requests(), &0, what);
     heap.refuse(0);
 }
 
 /// The bytes in their own memory; from here on each request is refused.
-fn last_bytes<'h>(rt: &impl Abort, heap: Heap<'h>, bytes: &[u8]) -> Vec<u8, Heap<'h>> {
+fn last_bytes<A: Heap>(rt: &impl Abort, heap: A, bytes: &[u8]) -> Vec<u8, A> {
     let owned = Vec::from_slice(heap, bytes).expect(rt, "memory");
     heap.refuse_all();
     owned
 }
 
 /// The text in its own memory; from here on each request is refused.
-fn last_text<'h>(rt: &impl Abort, heap: Heap<'h>, text: &str) -> String<Heap<'h>> {
+fn last_text<A: Heap>(rt: &impl Abort, heap: A, text: &str) -> String<A> {
     let owned = String::from_str(heap, text).expect(rt, "memory");
     heap.refuse_all();
     owned
@@ -44,20 +44,30 @@ fn identifier_answers<A: Allocator>(value: ObjectIdentifier<A>) -> bool {
     are_arcs && value.is_arcs(&[2, 5, 4, 3]) && value.starts_under(&[2, 5])
 }
 
+/// The test of this name, over any such allocator.
+fn identifiers_are_looked_at_over<A: Heap>(rt: &impl Abort, heap: A) {
+    let value = ObjectIdentifier::from_arcs(heap, &[2, 5, 4, 3]).expect(rt, "lawful arcs");
+    heap.refuse_all();
+    needs_none(rt, heap, "2.5.4.3", identifier_answers(value));
+}
+
 #[test]
 fn identifiers_are_looked_at(rt: HostRuntime) {
     let heap = Refusing::new(rt.alloc());
-    let value = ObjectIdentifier::from_arcs(&heap, &[2, 5, 4, 3]).expect(&rt, "lawful arcs");
+    identifiers_are_looked_at_over(&rt, &heap);
+}
+
+/// The test of this name, over any such allocator.
+fn other_arcs_are_bad_over<A: Heap>(rt: &impl Abort, heap: A) {
     heap.refuse_all();
-    needs_none(&rt, &heap, "2.5.4.3", identifier_answers(value));
+    let refused = ObjectIdentifier::from_arcs(heap, &[1, 40]).err();
+    needs_none(rt, heap, "1.40", refused == Some(OidError::Bad));
 }
 
 #[test]
 fn other_arcs_are_bad(rt: HostRuntime) {
     let heap = Refusing::new(rt.alloc());
-    heap.refuse_all();
-    let refused = ObjectIdentifier::from_arcs(&heap, &[1, 40]).err();
-    needs_none(&rt, &heap, "1.40", refused == Some(OidError::Bad));
+    other_arcs_are_bad_over(&rt, &heap);
 }
 
 /// The bytes of 128 are taken as a content, and handed out as they are and without the sign.
@@ -79,19 +89,19 @@ fn is_back<T: Drop, A: Allocator>(answer: Result<T, Vec<u8, A>>, bytes: &[u8]) -
     }
 }
 
+/// The test of this name, over any such allocator.
+fn numbers_are_looked_at_over<A: Heap>(rt: &impl Abort, heap: A) {
+    let minimal = last_bytes(rt, heap, b"\x00\x80");
+    needs_none(rt, heap, "a minimal content", content_answers(minimal));
+    let padded = last_bytes(rt, heap, b"\x00\x7F");
+    let refused = IntegerAsn1::from_signed_content(padded);
+    needs_none(rt, heap, "a padded content", is_back(refused, b"\x00\x7F"));
+}
+
 #[test]
 fn numbers_are_looked_at(rt: HostRuntime) {
     let heap = Refusing::new(rt.alloc());
-    let minimal = last_bytes(&rt, &heap, b"\x00\x80");
-    needs_none(&rt, &heap, "a minimal content", content_answers(minimal));
-    let padded = last_bytes(&rt, &heap, b"\x00\x7F");
-    let refused = IntegerAsn1::from_signed_content(padded);
-    needs_none(
-        &rt,
-        &heap,
-        "a padded content",
-        is_back(refused, b"\x00\x7F"),
-    );
+    numbers_are_looked_at_over(&rt, &heap);
 }
 
 /// A number was made, and is held as these bytes.
@@ -103,20 +113,24 @@ fn is_held<A: Allocator>(answer: Result<IntegerAsn1<A>, AllocError>, bytes: &[u8
 }
 
 /// A number that is padded is made minimal in its own memory.
-#[test]
-fn numbers_are_cut(rt: HostRuntime) {
-    let heap = Refusing::new(rt.alloc());
-    let signed = last_bytes(&rt, &heap, b"\xFF\xFF\x7F");
+fn numbers_are_cut_over<A: Heap>(rt: &impl Abort, heap: A) {
+    let signed = last_bytes(rt, heap, b"\xFF\xFF\x7F");
     let number = IntegerAsn1::from_bytes_be_signed(signed);
-    needs_none(&rt, &heap, "a signed number", is_held(number, b"\xFF\x7F"));
-    let unsigned = last_bytes(&rt, &heap, b"\x00\x00\x7F");
+    needs_none(rt, heap, "a signed number", is_held(number, b"\xFF\x7F"));
+    let unsigned = last_bytes(rt, heap, b"\x00\x00\x7F");
     let number = IntegerAsn1::from_bytes_be_unsigned(unsigned);
     needs_none(
-        &rt,
-        &heap,
+        rt,
+        heap,
         "a number without a sign",
         is_held(number, b"\x7F"),
     );
+}
+
+#[test]
+fn numbers_are_cut(rt: HostRuntime) {
+    let heap = Refusing::new(rt.alloc());
+    numbers_are_cut_over(&rt, &heap);
 }
 
 /// Wrapped and unwrapped, cut to twelve bits and changed, sixteen set bits answer as stated.
@@ -137,11 +151,16 @@ fn are_counted<A: Allocator>(bits: &BitString<A>) -> bool {
     is_counted && bits.payload_view() == b"\x7F\xF0".as_slice()
 }
 
+/// The test of this name, over any such allocator.
+fn bits_are_cut_and_set_over<A: Heap>(rt: &impl Abort, heap: A) {
+    let bytes = last_bytes(rt, heap, b"\xFF\xFF");
+    needs_none(rt, heap, "bits", bits_answer(bytes));
+}
+
 #[test]
 fn bits_are_cut_and_set(rt: HostRuntime) {
     let heap = Refusing::new(rt.alloc());
-    let bytes = last_bytes(&rt, &heap, b"\xFF\xFF");
-    needs_none(&rt, &heap, "bits", bits_answer(bytes));
+    bits_are_cut_and_set_over(&rt, &heap);
 }
 
 /// NULL is taken as an element.
@@ -152,23 +171,28 @@ fn null_is_taken<A: Allocator + Copy>(bytes: Vec<u8, A>) -> bool {
     }
 }
 
-#[test]
-fn raw_elements_are_taken_or_handed_back(rt: HostRuntime) {
-    let heap = Refusing::new(rt.alloc());
-    let one = last_bytes(&rt, &heap, b"\x05\x00");
-    needs_none(&rt, &heap, "one element", null_is_taken(one));
-    let two = last_bytes(&rt, &heap, b"\x05\x00\x05\x00");
+/// The test of this name, over any such allocator.
+fn raw_elements_are_taken_or_handed_back_over<A: Heap>(rt: &impl Abort, heap: A) {
+    let one = last_bytes(rt, heap, b"\x05\x00");
+    needs_none(rt, heap, "one element", null_is_taken(one));
+    let two = last_bytes(rt, heap, b"\x05\x00\x05\x00");
     let refused = Asn1RawDer::from_vec(two);
     needs_none(
-        &rt,
-        &heap,
+        rt,
+        heap,
         "two elements",
         is_back(refused, b"\x05\x00\x05\x00"),
     );
 }
 
+#[test]
+fn raw_elements_are_taken_or_handed_back(rt: HostRuntime) {
+    let heap = Refusing::new(rt.alloc());
+    raw_elements_are_taken_or_handed_back_over(&rt, &heap);
+}
+
 /// The element that the bytes are, which must be one unless there are none; from here on each request is refused.
-fn last_element<'h>(rt: &impl Abort, heap: Heap<'h>, bytes: &[u8]) -> Option<Asn1RawDer<Heap<'h>>> {
+fn last_element<A: Heap>(rt: &impl Abort, heap: A, bytes: &[u8]) -> Option<Asn1RawDer<A>> {
     let element = Asn1RawDer::from_vec(last_bytes(rt, heap, bytes)).ok();
     is_so(rt, element.is_none() == bytes.is_empty(), "an element");
     element
@@ -188,19 +212,24 @@ fn is_held_with<A: Allocator>(
 }
 
 /// What is put together of 2.5.4.3 and an element, or of no bytes none, has these parameters; NULL is held as none.
-fn is_put_together(rt: &impl Abort, heap: Heap<'_>, bytes: &[u8], parameters: Option<&[u8]>) {
+fn is_put_together<A: Heap>(rt: &impl Abort, heap: A, bytes: &[u8], parameters: Option<&[u8]>) {
     let algorithm = ObjectIdentifier::from_arcs(heap, &[2, 5, 4, 3]).expect(rt, "lawful arcs");
     let element = last_element(rt, heap, bytes);
     let value = RawAlgorithmIdentifier::from_parts(algorithm, element);
     needs_none(rt, heap, "parameters", is_held_with(&value, parameters));
 }
 
+/// The test of this name, over any such allocator.
+fn algorithms_are_put_together_over<A: Heap>(rt: &impl Abort, heap: A) {
+    is_put_together(rt, heap, b"", None);
+    is_put_together(rt, heap, b"\x05\x00", None);
+    is_put_together(rt, heap, b"\x0C\x01a", Some(b"\x0C\x01a"));
+}
+
 #[test]
 fn algorithms_are_put_together(rt: HostRuntime) {
     let heap = Refusing::new(rt.alloc());
-    is_put_together(&rt, &heap, b"", None);
-    is_put_together(&rt, &heap, b"\x05\x00", None);
-    is_put_together(&rt, &heap, b"\x0C\x01a", Some(b"\x0C\x01a"));
+    algorithms_are_put_together_over(&rt, &heap);
 }
 
 /// The bytes stay through each type that they are wrapped in.
@@ -213,11 +242,16 @@ fn bytes_stay<A: Allocator>(bytes: Vec<u8, A>) -> bool {
     inner.as_slice() == b"octets".as_slice()
 }
 
+/// The test of this name, over any such allocator.
+fn values_are_wrapped_over<A: Heap>(rt: &impl Abort, heap: A) {
+    let bytes = last_bytes(rt, heap, b"octets");
+    needs_none(rt, heap, "wrapped", bytes_stay(bytes));
+}
+
 #[test]
 fn values_are_wrapped(rt: HostRuntime) {
     let heap = Refusing::new(rt.alloc());
-    let bytes = last_bytes(&rt, &heap, b"octets");
-    needs_none(&rt, &heap, "wrapped", bytes_stay(bytes));
+    values_are_wrapped_over(&rt, &heap);
 }
 
 /// The letter a is printable, and the same when it is wrapped.
@@ -228,17 +262,22 @@ fn printable_answers<A: Allocator + Copy>(made: Result<PrintableString<A>, CharS
     }
 }
 
+/// The test of this name, over any such allocator.
+fn printable_strings_are_made_over<A: Heap>(rt: &impl Abort, heap: A) {
+    let made = PrintableString::from_string(last_text(rt, heap, "a"));
+    needs_none(rt, heap, "a text", printable_answers(made));
+    let made = PrintableString::from_bytes(last_bytes(rt, heap, b"a"));
+    needs_none(rt, heap, "bytes", printable_answers(made));
+    let star = PrintableString::from_string(last_text(rt, heap, "a*"));
+    needs_none(rt, heap, "a text with a star", star.is_err());
+    let star = PrintableString::from_bytes(last_bytes(rt, heap, b"a*"));
+    needs_none(rt, heap, "bytes with a star", star.is_err());
+}
+
 #[test]
 fn printable_strings_are_made(rt: HostRuntime) {
     let heap = Refusing::new(rt.alloc());
-    let made = PrintableString::from_string(last_text(&rt, &heap, "a"));
-    needs_none(&rt, &heap, "a text", printable_answers(made));
-    let made = PrintableString::from_bytes(last_bytes(&rt, &heap, b"a"));
-    needs_none(&rt, &heap, "bytes", printable_answers(made));
-    let star = PrintableString::from_string(last_text(&rt, &heap, "a*"));
-    needs_none(&rt, &heap, "a text with a star", star.is_err());
-    let star = PrintableString::from_bytes(last_bytes(&rt, &heap, b"a*"));
-    needs_none(&rt, &heap, "bytes with a star", star.is_err());
+    printable_strings_are_made_over(&rt, &heap);
 }
 
 /// An asterisk is a character of IA5, and the same when it is wrapped and unwrapped.
@@ -252,17 +291,22 @@ fn ia5_answers<A: Allocator + Copy>(made: Result<Ia5String<A>, CharSetError>) ->
     }
 }
 
+/// The test of this name, over any such allocator.
+fn ia5_strings_are_made_over<A: Heap>(rt: &impl Abort, heap: A) {
+    let made = Ia5String::from_string(last_text(rt, heap, "a*"));
+    needs_none(rt, heap, "a text", ia5_answers(made));
+    let made = Ia5String::from_bytes(last_bytes(rt, heap, b"a*"));
+    needs_none(rt, heap, "bytes", ia5_answers(made));
+    let accent = Ia5String::from_string(last_text(rt, heap, "\u{E9}"));
+    needs_none(rt, heap, "a text with an accent", accent.is_err());
+    let accent = Ia5String::from_bytes(last_bytes(rt, heap, b"\xC3\xA9"));
+    needs_none(rt, heap, "bytes with an accent", accent.is_err());
+}
+
 #[test]
 fn ia5_strings_are_made(rt: HostRuntime) {
     let heap = Refusing::new(rt.alloc());
-    let made = Ia5String::from_string(last_text(&rt, &heap, "a*"));
-    needs_none(&rt, &heap, "a text", ia5_answers(made));
-    let made = Ia5String::from_bytes(last_bytes(&rt, &heap, b"a*"));
-    needs_none(&rt, &heap, "bytes", ia5_answers(made));
-    let accent = Ia5String::from_string(last_text(&rt, &heap, "\u{E9}"));
-    needs_none(&rt, &heap, "a text with an accent", accent.is_err());
-    let accent = Ia5String::from_bytes(last_bytes(&rt, &heap, b"\xC3\xA9"));
-    needs_none(&rt, &heap, "bytes with an accent", accent.is_err());
+    ia5_strings_are_made_over(&rt, &heap);
 }
 
 /// Half of a pair is kept, and the same when it is wrapped.
@@ -273,13 +317,18 @@ fn units_answer<A: Allocator + Copy>(made: Result<BmpString<A>, CharSetError>) -
     }
 }
 
+/// The test of this name, over any such allocator.
+fn bmp_strings_are_made_over<A: Heap>(rt: &impl Abort, heap: A) {
+    let made = BmpString::from_bytes(last_bytes(rt, heap, b"\xD8\x3D"));
+    needs_none(rt, heap, "half of a pair", units_answer(made));
+    let odd = BmpString::from_bytes(last_bytes(rt, heap, b"abc"));
+    needs_none(rt, heap, "an odd byte", odd.is_err());
+}
+
 #[test]
 fn bmp_strings_are_made(rt: HostRuntime) {
     let heap = Refusing::new(rt.alloc());
-    let made = BmpString::from_bytes(last_bytes(&rt, &heap, b"\xD8\x3D"));
-    needs_none(&rt, &heap, "half of a pair", units_answer(made));
-    let odd = BmpString::from_bytes(last_bytes(&rt, &heap, b"abc"));
-    needs_none(&rt, &heap, "an odd byte", odd.is_err());
+    bmp_strings_are_made_over(&rt, &heap);
 }
 
 /// A text is a UTF-8 string, and comes back from it.
@@ -289,9 +338,14 @@ fn text_answers<A: Allocator + Copy>(text: String<A>) -> bool {
     is_same && String::from(string).as_str() == "*\u{E9}"
 }
 
+/// The test of this name, over any such allocator.
+fn utf8_strings_are_made_over<A: Heap>(rt: &impl Abort, heap: A) {
+    let text = last_text(rt, heap, "*\u{E9}");
+    needs_none(rt, heap, "a text", text_answers(text));
+}
+
 #[test]
 fn utf8_strings_are_made(rt: HostRuntime) {
     let heap = Refusing::new(rt.alloc());
-    let text = last_text(&rt, &heap, "*\u{E9}");
-    needs_none(&rt, &heap, "a text", text_answers(text));
+    utf8_strings_are_made_over(&rt, &heap);
 }
