@@ -1,8 +1,8 @@
 -- Whether bytes are one element.
 use Rattle.std.proofs.Common.{◌≡◌, ◌↔◌, ◌==◌, ℕ, refl, List, [], ◌++◌, length, ap, sym, ◌∙◌, append-nil}
 use Rattle.std.specs.Prelude.{IsTrue}
-use Rattle.x509_der_parts.specs.ElementFacts.{element_one}
-use Rattle.x509_der_parts.specs.OptionalReads.{empty_is}
+use Rattle.x509_der_parts.specs.facts.Element.{element_one}
+use Rattle.x509_der_parts.specs.reads.Optional.{empty_is}
 use Rattle.x509_der_parts.specs.Reading.{IsRaw, Cursor, RawTaken}
 
 only_one : (old new : Cursor) (p : List ℕ) → RawTaken old new p → IsRaw old.rest → new.rest ≡ []

@@ -12,8 +12,8 @@ use Rattle.std.proofs.lemmas.List.Splits.{slice_split_none, slice_split_at, join
 use Rattle.std.proofs.lemmas.List.Elements.{All-nil, All-cons}
 use Rattle.std.proofs.lemmas.Grind.{common_steps}
 use native.Mathlib.Numerals.{unary_clauses}
-use Rattle.x509_der.specs.Arcs.{IsLawful}
-use Rattle.x509_der.specs.Dotted.{dotted}
+use Rattle.x509_der.specs.ObjectIdentifier.{IsLawful}
+use Rattle.x509_der.specs.ObjectIdentifier.{dotted}
 
 join_push : (c : ℕ) (x : List ℕ) (xs : List (List ℕ)) (y : List ℕ) → join_with_byte c (x ∷ (xs ++ y ∷ [])) ≡ join_with_byte c (x ∷ xs) ++ (c ∷ y)
 join_push c x [] y = refl

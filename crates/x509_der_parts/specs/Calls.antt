@@ -1,11 +1,13 @@
 -- What the calls on whole values give.
 use Rattle.std.specs.Prelude.{◌≡◌, ◌↔◌, ℕ, ◌≤◌, ◌<◌, ◌^◌, List, [], ◌++◌, length, drop, sum, Result, Ok, Err}
-use Rattle.x509_der_parts.specs.Placing.{Placing}
-use Rattle.x509_der_parts.specs.Tally.{Tally, Mark, counts_of}
-use Rattle.x509_der_parts.specs.Shape.{Shape}
 use Rattle.x509_der_parts.specs.declared.errors.ReadError.{ReadError}
 use Rattle.x509_der_parts.specs.declared.errors.ReadError.TheVariants.{OutOfMemory}
 use Rattle.x509_der_parts.specs.declared.errors.SliceError.{SliceError}
+use Rattle.std.proofs.Common.{◌≡◌, ℕ, ◌+◌, ◌*◌, ◌≤◌, [], length, None}
+use Rattle.x509_der_parts.specs.MarkOrder.{Placing}
+use Rattle.x509_der_parts.specs.Tally.{Tally, Mark, counts_of}
+use Rattle.x509_der_parts.specs.Shape.{Shape}
+use Rattle.x509_der_parts.specs.Reading.{Cursor, Accepts}
 use Rattle.x509_der_parts.specs.declared.errors.SliceError.TheVariants as slice
 
 -- the whole string is spelled with the value, and it is the value's strict spelling exactly where no deviation stands in it
@@ -36,7 +38,7 @@ CountedRead s string (Err e) = NoWhole s string e
 -- on accepted input the number is that of the headers of the spelling, at least the total of deviations; on refused input it is at least what is owed
 abbrev pub MeteredRead : {V : Type 0} → Shape V → List ℕ → Result (V × List ℕ) ReadError → ℕ → Type 0
 MeteredRead s string (Ok r) headers = ((y : Tally) → s.spelled r.0 string y → headers ≡ y.headers) × (sum r.1 ≤ headers)
-MeteredRead s string (Err e) headers = (e ≡ OutOfMemory → ⊥) → (n : ℕ) → s.least string n → n ≤ headers
+MeteredRead s string (Err e) headers = (e ≡ OutOfMemory → ⊥) → (n : ℕ) → s.min_headers string n → n ≤ headers
 
 -- the value, and where the marks of its spelling stand: within the input, by start and then by kind
 pub record Located {V : Type 0} (s : Shape V) (string : List ℕ) (v : V) (places : List Mark) : Type 0 where
@@ -50,3 +52,20 @@ abbrev pub FitsSlice : List ℕ → List ℕ → List ℕ → Result ℕ SliceEr
 FitsSlice string old new (Ok n) = (n ≡ length string) × (new ≡ string ++ drop (length string) old)
 FitsSlice string old new (Err slice.TooLong) = (new ≡ old) × (2 ^ 64 ≤ length string)
 FitsSlice string old new (Err slice.TooShort) = (new ≡ old) × (length string < 2 ^ 64) × (length old < length string)
+
+pub record TakesAll {V : Type 0} (s : Shape V) (old new : Cursor) (v : V) : Type 0 where
+  pub accepts : Accepts s old new v
+  pub ends : new.rest ≡ []
+  pub whole : IsWhole s old.rest v accepts.tally
+
+pub record RefusesAll {V : Type 0} (s : Shape V) (old new : Cursor) (e : ReadError) : Type 0 where
+  pub bound : 2 * new.headers ≤ 2 * old.headers + length old.rest + 2
+  pub min_headers : (e ≡ OutOfMemory → ⊥) → (n : ℕ) → s.min_headers old.rest n → old.headers + n ≤ new.headers
+  pub spares : s.frugal → old.places ≡ None → e ≡ OutOfMemory → ⊥
+  pub none : NoWhole s old.rest e
+  pub marked : s.frugal → (v : V) (y : Tally) → s.spelled v old.rest y → y.marks ≡ [] → ⊥
+
+-- a read of all that is left
+abbrev pub ReadsAll : {V : Type 0} → Shape V → Cursor → Cursor → Result V ReadError → Type 0
+ReadsAll s old new (Ok v) = TakesAll s old new v
+ReadsAll s old new (Err e) = RefusesAll s old new e

@@ -1,10 +1,15 @@
 -- Elements: one tag byte, length digits, content (X.690, 8.1 and 10.1).
 use Rattle.std.specs.Prelude.{◌≡◌, ◌<◌, Bool, true, not, ℕ, zero, suc, ◌+◌, ◌/◌, ◌*◌, ◌%◌, ◌==◌, nat_lt, if◌then◌else◌, List, [], ◌∷◌, ◌++◌, length, slice_index}
+use Rattle.std.proofs.Common.{ℕ, List, []}
 
 -- the digits of n in base 256, the highest first, in front of tail; fuel is at least n
 abbrev pub base256 : ℕ → ℕ → List ℕ → List ℕ
 base256 zero n tail = tail
 base256 (suc fuel) n tail = if n == 0 then tail else base256 fuel (n / 256) (n % 256 ∷ tail)
+
+-- the digits of n in base 256
+unfoldable pub base : ℕ → List ℕ
+base n = base256 n n []
 
 -- the length digits for a content of n bytes: n itself below 128, else 128 and the number of digits, and then the digits, of which the first is not zero (X.690, 8.1.3.4, 8.1.3.5 and 10.1)
 unfoldable pub digits : ℕ → List ℕ

@@ -1,15 +1,15 @@
 -- What reading does: the state of a reader, and what a read of a shape gives.
 use Rattle.std.specs.Prelude.{◌≡◌, ℕ, ◌+◌, ◌*◌, ◌≤◌, ◌<◌, ◌^◌, true, List, [], ◌∷◌, ◌++◌, length, map, take, drop, Option, Some, None, sum, slice_set, slice_index, Result, Ok, Err}
 use Rattle.std.specs.Borrow.{Bor}
-use Rattle.x509_der_parts.specs.Element.{AreBytes, element, header}
-pub use Rattle.x509_der_parts.specs.Element.{is_tag, IsRaw}
-use Rattle.x509_der_parts.specs.Kinds.{kind_index}
-use Rattle.x509_der_parts.specs.Tally.{Tally, Mark, moved}
-use Rattle.x509_der_parts.specs.Shape.{Shape, Follows, Same}
 use Rattle.x509_der_parts.specs.declared.deviation.Deviation.{Deviation}
 use Rattle.x509_der_parts.specs.declared.reader.Spot.{Spot}
 use Rattle.x509_der_parts.specs.declared.errors.ReadError.{ReadError}
 use Rattle.x509_der_parts.specs.declared.errors.ReadError.TheVariants.{OutOfMemory}
+use Rattle.x509_der_parts.specs.Element.{AreBytes, element, header}
+pub use Rattle.x509_der_parts.specs.Element.{is_tag, IsRaw}
+use Rattle.x509_der_parts.specs.Deviations.{kind_index}
+use Rattle.x509_der_parts.specs.Tally.{Tally, Mark, moved}
+use Rattle.x509_der_parts.specs.Shape.{Shape, Follows, Same}
 
 -- what a contract sees of a reader
 pub record Cursor : Type 0 where
@@ -75,7 +75,7 @@ pub record Accepts {V : Type 0} (s : Shape V) (old new : Cursor) (v : V) : Type 
   pub spelled : s.spelled v bytes tally
   pub moved : Moved old new bytes tally
   pub ready : Ready new
-  pub owes : (n : ℕ) → s.least old.rest n → n ≤ tally.headers
+  pub min_headers : (n : ℕ) → s.min_headers old.rest n → n ≤ tally.headers
   pub only : (w : V) (p q : List ℕ) (z : Tally) → s.spelled w p z → old.rest ≡ p ++ q → Follows s.avoids q → Same w v p bytes z tally
 
 -- why a spelling was refused: memory was; and where a read takes none but for places, a mark stands in the spelling
@@ -87,7 +87,7 @@ pub record ForMemory {V : Type 0} (s : Shape V) (e : ReadError) (z : Tally) : Ty
 pub record Refuses {V : Type 0} (s : Shape V) (old new : Cursor) (e : ReadError) : Type 0 where
   pub grows : old.headers ≤ new.headers
   pub bound : 2 * new.headers ≤ 2 * old.headers + length old.rest + 2
-  pub owes : (e ≡ OutOfMemory → ⊥) → (n : ℕ) → s.least old.rest n → old.headers + n ≤ new.headers
+  pub min_headers : (e ≡ OutOfMemory → ⊥) → (n : ℕ) → s.min_headers old.rest n → old.headers + n ≤ new.headers
   pub spares : s.frugal → old.places ≡ None → e ≡ OutOfMemory → ⊥
   pub none : (w : V) (p q : List ℕ) (z : Tally) → s.spelled w p z → old.rest ≡ p ++ q → Follows s.avoids q → ForMemory s e z
 

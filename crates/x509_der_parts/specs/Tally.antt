@@ -3,7 +3,7 @@ use Rattle.std.specs.Prelude.{ℕ, ◌+◌, ◌&&◌, ◌==◌, nat_le, Bool, Li
 use Rattle.std.specs.List.{count_by, filter}
 use Rattle.x509_der_parts.specs.declared.deviation.Deviation.{Deviation}
 use Rattle.x509_der_parts.specs.declared.deviation.Place.{Place}
-use Rattle.x509_der_parts.specs.Kinds.{kind_index}
+use Rattle.x509_der_parts.specs.Deviations.{kind_index}
 
 -- a deviation of a kind, and where it stands in the spelling: how many bytes stand before its start, and before its end
 abbrev pub Mark : Type 0

@@ -1,8 +1,8 @@
 //! Spellings that are read and not written: which there are, how many of each were met, and where.
 
 ghost use Rattle.std.specs.Prelude.{◌≡◌, ◌+◌, ◌<◌, ◌≤◌, ◌^◌, ◌↔◌, ℕ, IsTrue, sum, slice_set, slice_index, replicate, length};
-ghost use Rattle.x509_der_parts.specs.Counts.{Together};
-ghost use Rattle.x509_der_parts.specs.Kinds.{kind_index};
+ghost use Rattle.x509_der_parts.specs.Deviations.{Together};
+ghost use Rattle.x509_der_parts.specs.Deviations.{kind_index};
 
 use std::marker::Model;
 
@@ -73,7 +73,7 @@ pub struct Deviations {
 
 impl Model for Deviations {
     ghost use Rattle.std.specs.Prelude.{List, ℕ};
-    ghost use Rattle.x509_der_parts.specs.Counts.{IsCounts};
+    ghost use Rattle.x509_der_parts.specs.Deviations.{IsCounts};
 
     ghost Value = { List ℕ };
 

@@ -3,7 +3,7 @@
 ghost use Rattle.std.specs.Prelude.{◌≡◌, ◌+◌, ◌≤◌, IfOk, IfErr};
 ghost use Rattle.x509_der_parts.specs.Calls.{NoWhole};
 ghost use Rattle.x509_der_parts.specs.FirstField.{in_sequence, FirstPart, TakesBoth};
-ghost use Rattle.x509_der_parts.specs.Pair.{Apart};
+ghost use Rattle.x509_der_parts.specs.Join.{Apart};
 ghost use Rattle.x509_der_parts.specs.Reading.{Ready};
 ghost use Rattle.x509_der_parts.specs.declared.errors.ReadError.TheVariants.{OutOfMemory};
 

@@ -62,7 +62,7 @@ impl SameEq for TooLong {
 }
 
 impl<T: SameEq> SameEq for Option<T> {
-    ghost use Rattle.x509_der_parts.specs.Same.{options_decide};
+    ghost use Rattle.x509_der_parts.specs.facts.SameEq.{options_decide};
 
     ghost decides = { options_decide T.decides };
 }

@@ -2,27 +2,27 @@
 use Rattle.std.specs.Prelude.{◌≡◌, ℕ, ◌+◌, ◌<◌, length, Bool, true, false, if◌then◌else◌, nat_eq, List, [], ◌∷◌, ◌++◌, Option, Some, None}
 use Rattle.std.proofs.Common.{eqb}
 use Rattle.std.specs.Cmp.Lexicographic.{pointwise}
-use Rattle.x509_der.specs.Element.{element, header}
 use Rattle.x509_der.specs.Types.{Deviation}
-use Rattle.x509_der.specs.Types.deviation
+use Rattle.x509_der_structures_parts.specs.declared.features.FeatureValue.{FeatureValue}
+use Rattle.x509_der_structures_parts.specs.declared.features.FeatureKind.{FeatureKind}
+use Rattle.x509_der_structures_parts.specs.declared.features.Feature.{Feature}
+use Rattle.x509_der.specs.Element.{element, header}
 use Rattle.x509_der.specs.Tally.{Tally}
 use Rattle.x509_der.specs.Shape.{Shape}
-use Rattle.x509_der.specs.Around.{around}
-use Rattle.x509_der.specs.Arcs.{oids, oid_content}
-use Rattle.x509_der.specs.Contents.{octets}
-use Rattle.x509_der.specs.Small.{smalls, small_content}
-use Rattle.x509_der.specs.Truth.{truths, truth_content}
-use Rattle.x509_der.specs.Pair.{pair}
+use Rattle.x509_der.specs.Tagged.{tagged}
+use Rattle.x509_der.specs.ObjectIdentifier.{oids, oid_content}
+use Rattle.x509_der.specs.PrimitiveContent.{octets}
+use Rattle.x509_der.specs.SmallInteger.{small_integers, small_integer_content}
+use Rattle.x509_der.specs.Boolean.{booleans, boolean_content}
+use Rattle.x509_der.specs.Join.{join}
 use Rattle.x509_der.specs.Optional.{optional, optional_strict, OptionalAt}
 use Rattle.x509_der.specs.Fields.{FieldAt, Stands}
-use Rattle.x509_der.specs.Depending.{depending}
-use Rattle.x509_der.specs.Kind.{kind}
-use Rattle.x509_der.specs.Meaning.{Meaning, seen}
-use Rattle.x509_der_structures_parts.specs.declared.features.FeatureValue.{FeatureValue}
+use Rattle.x509_der.specs.DefinedBy.{defined_by}
+use Rattle.x509_der.specs.Variant.{variant}
+use Rattle.x509_der.specs.View.{Meaning, seen}
+use Rattle.x509_der.specs.Types.deviation
 use Rattle.x509_der_structures_parts.specs.declared.features.FeatureValue.TheVariants as value
-use Rattle.x509_der_structures_parts.specs.declared.features.FeatureKind.{FeatureKind}
 use Rattle.x509_der_structures_parts.specs.declared.features.FeatureKind.TheVariants as kinds
-use Rattle.x509_der_structures_parts.specs.declared.features.Feature.{Feature}
 
 abbrev pub is_arcs : List ℕ → List ℕ → Bool
 is_arcs x y = pointwise nat_eq x y
@@ -33,8 +33,8 @@ kind_of arcs = if is_arcs arcs (1 ∷ 2 ∷ 3 ∷ []) then kinds.Flag else if is
 
 -- what is written of a value: an OCTET STRING
 abbrev pub value_bytes : {A : Type 0} → FeatureValue A → List ℕ
-value_bytes (value.Flag b) = element 4 (element 1 (truth_content b))
-value_bytes (value.Number n) = element 4 (element 2 (small_content n))
+value_bytes (value.Flag b) = element 4 (element 1 (boolean_content b))
+value_bytes (value.Number n) = element 4 (element 2 (small_integer_content n))
 value_bytes (value.Other o) = element 4 o
 
 -- the values: numbers in range
@@ -45,9 +45,9 @@ IsValue (value.Other o) = octets.valid o
 
 -- how the values of a kind are spelled: OCTET STRING (CONTAINING BOOLEAN), OCTET STRING (CONTAINING INTEGER (0..255)), or OCTET STRING
 abbrev pub by_kind : {A : Type 0} → FeatureKind → Shape (FeatureValue A)
-by_kind kinds.Flag = kind value.Flag value_bytes IsValue (around 4 (around 1 truths))
-by_kind kinds.Number = kind value.Number value_bytes IsValue (around 4 (around 2 smalls))
-by_kind kinds.Other = kind value.Other value_bytes IsValue (around 4 octets)
+by_kind kinds.Flag = variant value.Flag value_bytes IsValue (tagged 4 (tagged 1 booleans))
+by_kind kinds.Number = variant value.Number value_bytes IsValue (tagged 4 (tagged 2 small_integers))
+by_kind kinds.Other = variant value.Other value_bytes IsValue (tagged 4 octets)
 
 -- what stands in front of a value: the object identifier, and whether it is critical, where that is spelled
 abbrev pub Key : Type 0
@@ -58,15 +58,15 @@ Fields A = Key × FeatureValue A
 
 -- OBJECT IDENTIFIER, BOOLEAN DEFAULT FALSE
 abbrev pub key : Shape Key
-key = pair (λ k. k.0) (λ k. k.1) (around 6 oids) (optional (around 1 truths))
+key = join (λ k. k.0) (λ k. k.1) (tagged 6 oids) (optional (tagged 1 booleans))
 
 -- and the value of the kind that the identifier says
 abbrev pub inner : {A : Type 0} → Shape (Fields A)
-inner = depending (λ c. c.0) (λ c. c.1) key (λ k. by_kind (kind_of k.0)) (λ b. eqb b 4) (λ b. false)
+inner = defined_by (λ c. c.0) (λ c. c.1) key (λ k. by_kind (kind_of k.0)) (λ b. eqb b 4) (λ b. false)
 
 -- SEQUENCE { name OBJECT IDENTIFIER, critical BOOLEAN DEFAULT FALSE, value OCTET STRING }
 abbrev pub feature_base : {A : Type 0} → Shape (Fields A)
-feature_base = around 48 inner
+feature_base = tagged 48 inner
 
 -- what is left out is false
 abbrev pub critical_of : Option Bool → Bool
@@ -101,7 +101,7 @@ abbrev pub feature : {A : Type 0} → Shape (Feature A)
 feature = seen feature_meaning feature_base
 
 abbrev pub feature_bytes : {A : Type 0} → Feature A → List ℕ
-feature_bytes v = element 48 ((element 6 (oid_content v.name) ++ optional_strict (λ b. element 1 (truth_content b)) (written_critical v.critical)) ++ value_bytes v.value)
+feature_bytes v = element 48 ((element 6 (oid_content v.name) ++ optional_strict (λ b. element 1 (boolean_content b)) (written_critical v.critical)) ++ value_bytes v.value)
 
 -- the fields of a spelling: the object identifier, whether it is critical, where that is spelled, and behind both the value in the shape of its kind
 pub record FieldsAt {A : Type 0} (v : Feature A) (string : List ℕ) (y : Tally) : Type 0 where
@@ -115,6 +115,6 @@ pub record FieldsAt {A : Type 0} (v : Feature A) (string : List ℕ) (y : Tally)
   pub key_fields : keys ≡ names ++ flags
   pub spelled : Option Bool
   pub means : critical_of spelled ≡ v.critical
-  pub name_at : FieldAt (around 6 oids) v.name (header content) names string y
-  pub critical_at : OptionalAt (around 1 truths) spelled (header content + length names) flags string y
+  pub name_at : FieldAt (tagged 6 oids) v.name (header content) names string y
+  pub critical_at : OptionalAt (tagged 1 booleans) spelled (header content + length names) flags string y
   pub value_at : Stands (by_kind (kind_of v.name)) v.value (header content + length keys) values string y

@@ -2,45 +2,44 @@
 use Rattle.std.specs.Prelude.{ℕ, if◌then◌else◌, List, [], ◌∷◌, ◌++◌, Option, Some, None}
 use Rattle.x509_der.specs.Types.{Choice, Deviation}
 use Rattle.x509_der.specs.Types.choice.{First, Second}
-use Rattle.x509_der.specs.Types.deviation
+use Rattle.x509_der_structures_parts.specs.declared.key_reference.KeyReference.{KeyReference}
 use Rattle.x509_der.specs.Element.{element}
 use Rattle.x509_der.specs.Shape.{Shape}
-use Rattle.x509_der.specs.Around.{around}
-use Rattle.x509_der.specs.Choice.{one_of}
+use Rattle.x509_der.specs.Tagged.{tagged}
+use Rattle.x509_der.specs.Choice.{choice}
 use Rattle.x509_der.specs.Items.{items}
 use Rattle.x509_der.specs.Optional.{optional, optional_strict}
-use Rattle.x509_der.specs.Contents.{octets}
-use Rattle.x509_der.specs.Small.{smalls}
-use Rattle.x509_der.specs.Integers.{integers}
-use Rattle.x509_der.specs.Meaning.{Meaning, seen}
+use Rattle.x509_der.specs.PrimitiveContent.{octets}
+use Rattle.x509_der.specs.SmallInteger.{small_integers}
+use Rattle.x509_der.specs.Integer.{integers}
+use Rattle.x509_der.specs.View.{Meaning, seen}
 use Rattle.x509_der_structures_parts.specs.Lasts.{later, last, ascends}
-use Rattle.x509_der_structures_parts.specs.declared.key_reference.KeyReference.{KeyReference}
+use Rattle.x509_der.specs.Types.deviation
 
 -- [0] IMPLICIT OCTET STRING
 abbrev pub identifier_field : Shape (List ℕ)
-identifier_field = around 128 octets
+identifier_field = tagged 128 octets
 
 -- [1] EXPLICIT INTEGER (0..255)
 abbrev pub issuer_field : Shape ℕ
-issuer_field = around 161 (around 2 smalls)
+issuer_field = tagged 161 (tagged 2 small_integers)
 
 -- [2] IMPLICIT INTEGER
 abbrev pub serial_field : Shape (List ℕ)
-serial_field = around 130 integers
+serial_field = tagged 130 integers
 
 abbrev pub Hint : Type 0
 Hint = Choice (List ℕ) (Choice ℕ (List ℕ))
 
 -- CHOICE { [0] IMPLICIT OCTET STRING, [1] EXPLICIT INTEGER (0..255), [2] IMPLICIT INTEGER }
 abbrev pub hint : Shape Hint
-hint = one_of identifier_field (one_of issuer_field serial_field)
+hint = choice identifier_field (choice issuer_field serial_field)
 
 -- SEQUENCE OF CHOICE { [0] IMPLICIT OCTET STRING, [1] EXPLICIT INTEGER (0..255), [2] IMPLICIT INTEGER }
 abbrev pub reference_base : Shape (List Hint)
-reference_base = around 48 (items hint)
+reference_base = tagged 48 (items hint)
 
 -- what a field has under each tag
-
 abbrev pub identifier_in : Hint → Option (List ℕ)
 identifier_in (First k) = Some k
 identifier_in (Second h) = None

@@ -1,23 +1,23 @@
 -- A label in one of eight forms, six of which are also spelled in other ways.
-use Rattle.std.specs.Prelude.{◌≡◌, ◌⊎◌, true, length, ℕ, Bool, List, [], ◌∷◌, ◌++◌, Option, Some}
+use Rattle.std.specs.Prelude.{◌≡◌, ◌⊎◌, true, length, ℕ, Bool, List, [], ◌∷◌, Option, Some}
 use Rattle.x509_der.specs.Types.{Choice, Deviation}
 use Rattle.x509_der.specs.Types.choice.{First, Second}
-use Rattle.x509_der.specs.Types.deviation
-use Rattle.x509_der.specs.Tally.{Tally, marked}
-use Rattle.x509_der.specs.Shape.{Shape}
-use Rattle.x509_der.specs.Around.{around}
-use Rattle.x509_der.specs.Items.{items}
-use Rattle.x509_der.specs.Choice.{one_of}
-use Rattle.x509_der.specs.Small.{smalls}
-use Rattle.x509_der.specs.Truth.{truths}
-use Rattle.x509_der.specs.Contents.{octets}
-use Rattle.x509_der.specs.Integers.{integers}
-use Rattle.x509_der.specs.Bits.{bit_strings}
-use Rattle.x509_der.specs.Arcs.{oids}
-use Rattle.x509_der.specs.Meaning.{Meaning, seen}
-use Rattle.x509_der_structures_parts.specs.Alternatives.{among}
 use Rattle.x509_der_structures_parts.specs.declared.labels.Label.{Label}
 use Rattle.x509_der_structures_parts.specs.declared.labels.Label.TheVariants.{Codes, Text, Number, Flag, Level, Serial, Uses, Name}
+use Rattle.x509_der.specs.Tally.{Tally, marked}
+use Rattle.x509_der.specs.Shape.{Shape}
+use Rattle.x509_der.specs.Tagged.{tagged}
+use Rattle.x509_der.specs.Items.{items}
+use Rattle.x509_der.specs.Choice.{choice}
+use Rattle.x509_der.specs.SmallInteger.{small_integers}
+use Rattle.x509_der.specs.Boolean.{booleans}
+use Rattle.x509_der.specs.PrimitiveContent.{octets}
+use Rattle.x509_der.specs.Integer.{integers}
+use Rattle.x509_der.specs.BitString.{bit_strings}
+use Rattle.x509_der.specs.ObjectIdentifier.{oids}
+use Rattle.x509_der.specs.View.{Meaning, seen}
+use Rattle.x509_der_structures_parts.specs.Alternatives.{among}
+use Rattle.x509_der.specs.Types.deviation
 
 -- the forms, in the order of their tags
 abbrev pub Strict : Type 0
@@ -60,18 +60,18 @@ loose_label (Second (Second (Second v))) = Flag v
 --   level [5] EXPLICIT INTEGER (0..255), serial [6] IMPLICIT INTEGER, uses [7] IMPLICIT BIT STRING, name [8] IMPLICIT OBJECT IDENTIFIER }
 abbrev pub strict_base : Shape Strict
 strict_base =
-    one_of
-    (one_of (one_of (around 160 (items (around 2 smalls))) (around 129 octets)) (one_of (around 130 smalls) (around 164 (around 1 truths))))
-    (one_of (one_of (around 165 (around 2 smalls)) (around 134 integers)) (one_of (around 135 bit_strings) (around 136 oids)))
+    choice
+    (choice (choice (tagged 160 (items (tagged 2 small_integers))) (tagged 129 octets)) (choice (tagged 130 small_integers) (tagged 164 (tagged 1 booleans))))
+    (choice (choice (tagged 165 (tagged 2 small_integers)) (tagged 134 integers)) (choice (tagged 135 bit_strings) (tagged 136 oids)))
 
 -- CHOICE {
 --   text [1] EXPLICIT OCTET STRING, number [2] EXPLICIT INTEGER (0..255), serial [6] EXPLICIT INTEGER, uses [7] EXPLICIT BIT STRING,
 --   name [8] EXPLICIT OBJECT IDENTIFIER, flag [4] IMPLICIT BOOLEAN }
 abbrev pub loose_base : Shape Loose
 loose_base =
-    one_of
-    (one_of (around 161 (around 4 octets)) (around 162 (around 2 smalls)))
-    (one_of (one_of (around 166 (around 2 integers)) (around 167 (around 3 bit_strings))) (one_of (around 168 (around 6 oids)) (around 132 truths)))
+    choice
+    (choice (tagged 161 (tagged 4 octets)) (tagged 162 (tagged 2 small_integers)))
+    (choice (choice (tagged 166 (tagged 2 integers)) (tagged 167 (tagged 3 bit_strings))) (choice (tagged 168 (tagged 6 oids)) (tagged 132 booleans)))
 
 -- the tags of the one and of the other
 abbrev pub strict_tags : List ℕ
@@ -80,12 +80,9 @@ strict_tags = 160 ∷ 129 ∷ 130 ∷ 164 ∷ 165 ∷ 134 ∷ 135 ∷ 136 ∷ []
 abbrev pub loose_tags : List ℕ
 loose_tags = 161 ∷ 162 ∷ 166 ∷ 167 ∷ 168 ∷ 132 ∷ []
 
-abbrev pub label_tags : List ℕ
-label_tags = strict_tags ++ loose_tags
-
 -- either, of which the first is written
 abbrev pub label_base : Shape (Choice Strict Loose)
-label_base = one_of strict_base loose_base
+label_base = choice strict_base loose_base
 
 -- the second has a mark over the whole
 abbrev pub label_means : {A : Type 0} → Choice Strict Loose → Option (Label A × List Deviation)

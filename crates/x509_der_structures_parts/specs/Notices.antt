@@ -1,24 +1,23 @@
 -- A value whose kind an object identifier says, with an optional field behind it.
-use Rattle.std.proofs.Common.{ap}
-use Rattle.std.specs.Prelude.{◌≡◌, ℕ, ◌<◌, Bool, true, nat_eq, if◌then◌else◌, List, [], ◌∷◌, ◌++◌, Option}
+use Rattle.std.specs.Prelude.{ℕ, ◌<◌, Bool, true, nat_eq, if◌then◌else◌, List, [], ◌∷◌, ◌++◌, Option}
 use Rattle.std.proofs.Common.{eqb}
 use Rattle.std.specs.Cmp.Lexicographic.{pointwise}
+use Rattle.x509_der_structures_parts.specs.declared.notice.Claim.{Claim}
+use Rattle.x509_der_structures_parts.specs.declared.notice.ClaimKind.{ClaimKind}
+use Rattle.x509_der_structures_parts.specs.declared.notice.Notice.{Notice}
 use Rattle.x509_der.specs.Element.{element}
 use Rattle.x509_der.specs.Shape.{Shape}
-use Rattle.x509_der.specs.Around.{around}
-use Rattle.x509_der.specs.Pair.{pair}
+use Rattle.x509_der.specs.Tagged.{tagged}
+use Rattle.x509_der.specs.Join.{join}
 use Rattle.x509_der.specs.Optional.{optional, optional_strict, IfThere}
-use Rattle.x509_der.specs.Arcs.{oids, oid_content}
-use Rattle.x509_der.specs.Small.{smalls, small_content}
-use Rattle.x509_der.specs.Truth.{truths, truth_content}
-use Rattle.x509_der.specs.Depending.{depending}
-use Rattle.x509_der.specs.Kind.{kind, no_kind, bare}
-use Rattle.x509_der.specs.Mapped.{mapped}
-use Rattle.x509_der_structures_parts.specs.declared.notice.Claim.{Claim}
+use Rattle.x509_der.specs.ObjectIdentifier.{oids, oid_content}
+use Rattle.x509_der.specs.SmallInteger.{small_integers, small_integer_content}
+use Rattle.x509_der.specs.Boolean.{booleans, boolean_content}
+use Rattle.x509_der.specs.DefinedBy.{defined_by}
+use Rattle.x509_der.specs.Variant.{variant, no_variant, bare}
+use Rattle.x509_der.specs.Structure.{structure}
 use Rattle.x509_der_structures_parts.specs.declared.notice.Claim.TheVariants as claim
-use Rattle.x509_der_structures_parts.specs.declared.notice.ClaimKind.{ClaimKind}
 use Rattle.x509_der_structures_parts.specs.declared.notice.ClaimKind.TheVariants as kinds
-use Rattle.x509_der_structures_parts.specs.declared.notice.Notice.{Notice}
 
 abbrev pub is_arcs : List ℕ → List ℕ → Bool
 is_arcs x y = pointwise nat_eq x y
@@ -33,8 +32,8 @@ kind_of arcs =
 
 -- what is written of a value
 abbrev pub claim_bytes : Claim → List ℕ
-claim_bytes (claim.Flag b) = element 1 (truth_content b)
-claim_bytes (claim.Count n) = optional_strict (λ m. element 2 (small_content m)) n
+claim_bytes (claim.Flag b) = element 1 (boolean_content b)
+claim_bytes (claim.Count n) = optional_strict (λ m. element 2 (small_integer_content m)) n
 claim_bytes claim.Absent = []
 
 -- the values: numbers in range
@@ -45,10 +44,10 @@ IsClaim claim.Absent = Unit {0}
 
 -- how the values of a kind are spelled: a BOOLEAN; an INTEGER (0..255) OPTIONAL; nothing
 abbrev pub by_kind : ClaimKind → Shape Claim
-by_kind kinds.Flag = kind claim.Flag claim_bytes IsClaim (around 1 truths)
-by_kind kinds.Count = kind claim.Count claim_bytes IsClaim (optional (around 2 smalls))
-by_kind kinds.Absent = kind (λ u. claim.Absent) claim_bytes IsClaim bare
-by_kind kinds.Unknown = no_kind claim_bytes IsClaim
+by_kind kinds.Flag = variant claim.Flag claim_bytes IsClaim (tagged 1 booleans)
+by_kind kinds.Count = variant claim.Count claim_bytes IsClaim (optional (tagged 2 small_integers))
+by_kind kinds.Absent = variant (λ u. claim.Absent) claim_bytes IsClaim bare
+by_kind kinds.Unknown = no_variant claim_bytes IsClaim
 
 -- what may not follow a value: a number, behind the kind whose number may be absent; anything may follow the others, also where there is no value
 abbrev pub claim_avoids : ℕ → Bool
@@ -60,26 +59,20 @@ Fields = (List ℕ × Claim) × Option Bool
 abbrev pub notice_parts : {A : Type 0} → Notice A → Fields
 notice_parts v = ((v.name, v.claim), v.note)
 
-abbrev pub notice_of : {A : Type 0} → Fields → Notice A
-notice_of f = record { name = f.0.0; claim = f.0.1; note = f.1 }
-
-pub notice_same : {A : Type 0} (v w : Notice A) → notice_parts v ≡ notice_parts w → v ≡ w
-notice_same v w e = ap notice_of e
-
 -- OBJECT IDENTIFIER, ANY DEFINED BY it OPTIONAL
 abbrev pub named : Shape (List ℕ × Claim)
-named = depending (λ c. c.0) (λ c. c.1) (around 6 oids) (λ arcs. by_kind (kind_of arcs)) (λ b. true) claim_avoids
+named = defined_by (λ c. c.0) (λ c. c.1) (tagged 6 oids) (λ arcs. by_kind (kind_of arcs)) (λ b. true) claim_avoids
 
 -- [1] EXPLICIT BOOLEAN
 abbrev pub note : Shape Bool
-note = around 161 (around 1 truths)
+note = tagged 161 (tagged 1 booleans)
 
 -- SEQUENCE { name OBJECT IDENTIFIER, value ANY DEFINED BY name OPTIONAL, note [1] EXPLICIT BOOLEAN OPTIONAL }
 abbrev pub notice_base : Shape Fields
-notice_base = around 48 (pair (λ j. j.0) (λ j. j.1) named (optional note))
+notice_base = tagged 48 (join (λ j. j.0) (λ j. j.1) named (optional note))
 
 abbrev pub notice : {A : Type 0} → Shape (Notice A)
-notice = mapped notice_parts notice_base
+notice = structure notice_parts notice_base
 
 abbrev pub notice_bytes : Fields → List ℕ
 notice_bytes f = element 48 ((element 6 (oid_content f.0.0) ++ claim_bytes f.0.1) ++ optional_strict note.strict f.1)

@@ -1,16 +1,16 @@
 -- A release of a format, by a small number.
 use Rattle.std.specs.Prelude.{ℕ, ◌==◌, if◌then◌else◌, Option, Some, None}
-use Rattle.x509_der.specs.Shape.{Shape}
-use Rattle.x509_der.specs.Around.{around}
-use Rattle.x509_der.specs.Small.{smalls}
-use Rattle.x509_der.specs.Meaning.{Meaning, seen}
-use Rattle.x509_der_structures_parts.specs.Partly.{partly}
 use Rattle.x509_der_structures_parts.specs.declared.releases.Release.{Release}
 use Rattle.x509_der_structures_parts.specs.declared.releases.Release.TheVariants.{V1, V2, V3}
+use Rattle.x509_der.specs.Shape.{Shape}
+use Rattle.x509_der.specs.Tagged.{tagged}
+use Rattle.x509_der.specs.SmallInteger.{small_integers}
+use Rattle.x509_der.specs.View.{Meaning, seen}
+use Rattle.x509_der_structures_parts.specs.Partly.{partly}
 
 -- INTEGER { v1(0), v2(1), v3(2) } (0..2), among the numbers from 0 to 255
 abbrev pub release_base : Shape ℕ
-release_base = around 2 smalls
+release_base = tagged 2 small_integers
 
 abbrev pub release_number : Release → ℕ
 release_number V1 = 0

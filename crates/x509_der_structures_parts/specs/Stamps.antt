@@ -1,13 +1,13 @@
 -- A structure that also stands under an implicit tag.
-use Rattle.std.proofs.Common.{◌≡◌, ap, ℕ, List}
-use Rattle.x509_der.specs.Shape.{Shape}
-use Rattle.x509_der.specs.Around.{around}
-use Rattle.x509_der.specs.Pair.{pair}
-use Rattle.x509_der.specs.Contents.{octets}
-use Rattle.x509_der.specs.Arcs.{oids}
-use Rattle.x509_der.specs.Mapped.{mapped}
-use Rattle.x509_der.specs.Alone.{alone}
+use Rattle.std.proofs.Common.{ℕ, List}
 use Rattle.x509_der_structures_parts.specs.declared.stamp.Stamp.{Stamp}
+use Rattle.x509_der.specs.Shape.{Shape}
+use Rattle.x509_der.specs.Tagged.{tagged}
+use Rattle.x509_der.specs.Join.{join}
+use Rattle.x509_der.specs.PrimitiveContent.{octets}
+use Rattle.x509_der.specs.ObjectIdentifier.{oids}
+use Rattle.x509_der.specs.Structure.{structure}
+use Rattle.x509_der.specs.ContentOf.{content_of}
 
 abbrev pub Fields : Type 0
 Fields = List ℕ × List ℕ
@@ -15,23 +15,17 @@ Fields = List ℕ × List ℕ
 abbrev pub stamp_parts : {A : Type 0} → Stamp A → Fields
 stamp_parts v = (v.name, v.octets)
 
-abbrev pub stamp_of : {A : Type 0} → Fields → Stamp A
-stamp_of f = record { name = f.0; octets = f.1 }
-
-pub stamp_same : {A : Type 0} (v w : Stamp A) → stamp_parts v ≡ stamp_parts w → v ≡ w
-stamp_same v w e = ap stamp_of e
-
 -- OBJECT IDENTIFIER, OCTET STRING
 abbrev pub stamp_inner : Shape Fields
-stamp_inner = pair (λ j. j.0) (λ j. j.1) (around 6 oids) (around 4 octets)
+stamp_inner = join (λ j. j.0) (λ j. j.1) (tagged 6 oids) (tagged 4 octets)
 
 -- SEQUENCE { OBJECT IDENTIFIER, OCTET STRING }
 abbrev pub stamp_base : Shape Fields
-stamp_base = around 48 stamp_inner
+stamp_base = tagged 48 stamp_inner
 
 abbrev pub stamp : {A : Type 0} → Shape (Stamp A)
-stamp = mapped stamp_parts stamp_base
+stamp = structure stamp_parts stamp_base
 
 -- its content, without the header
 abbrev pub stamp_content : {A : Type 0} → Shape (Stamp A)
-stamp_content = alone (mapped stamp_parts stamp_inner)
+stamp_content = content_of (structure stamp_parts stamp_inner)

@@ -2,13 +2,15 @@
 
 ghost use Rattle.std.specs.Prelude.{◌≡◌, false, refl};
 ghost use Rattle.std.proofs.Common.{eqb};
-ghost use Rattle.x509_der.specs.Meaning.{if_found, sequence_seen, sequence_lawful, seen_element};
+ghost use Rattle.x509_der.specs.View.{if_found};
+ghost use Rattle.x509_der.specs.laws.Meaning.{sequence_seen, sequence_lawful, seen_element};
 ghost use Rattle.x509_der.specs.Reading.{Ready, Reads};
 ghost use Rattle.x509_der_structures_parts.specs.Features.{value_bytes, IsValue, kind_of as kind_by, by_kind, critical_of, written_critical, critical_kinds, inner, feature_base, feature_meaning, feature_bytes, feature};
 
 use std::alloc::{Allocator, Global};
 use x509_der::parts::{
-    Chosen, Field, Found, Join, Keyed, Optional, Reader, Sequence, Tagged, View, read_viewed,
+    AnyDefinedBy, DefinedBy, Field, Found, Join, Optional, Reader, Sequence, Tagged, View,
+    read_viewed,
 };
 use x509_der::{
     Deviation, FromDer, ObjectIdentifierAsn1, OctetStringAsn1, OctetStringAsn1Container, ReadError,
@@ -116,20 +118,20 @@ fn read_as<A: Allocator + Copy>(
 /// What stands in front of a value: the object identifier, and whether it is critical where that is spelled.
 type Key<A> = Join<ObjectIdentifierAsn1<A>, Optional<bool>>;
 
-impl<A: Allocator + Copy> Keyed<Key<A>, A> for FeatureValue<A> {
-    ghost use Rattle.x509_der_structures_parts.specs.FeatureFacts.{value_family, value_agrees};
+impl<A: Allocator + Copy> AnyDefinedBy<Key<A>, A> for FeatureValue<A> {
+    ghost use Rattle.x509_der_structures_parts.specs.facts.FeatureFacts.{value_family, value_agrees};
 
-    ghost kinds = { λ key. by_kind (kind_by key.0) };
+    ghost shapes = { λ key. by_kind (kind_by key.0) };
 
-    ghost begins = { λ b. eqb b 4 };
+    ghost starts = { λ b. eqb b 4 };
 
-    ghost ends = { λ b. false };
+    ghost avoids = { λ b. false };
 
     ghost family = { value_family };
 
-    ghost kinds_agree = { λ key v. value_agrees (kind_by key.0) v };
+    ghost shapes_agree = { λ key v. value_agrees (kind_by key.0) v };
 
-    fn may_start(byte: u8) -> bool {
+    fn starts(byte: u8) -> bool {
         byte == 4
     }
 
@@ -155,7 +157,7 @@ pub struct Feature<A: Allocator = Global> {
 }
 
 /// The fields in the SEQUENCE, owned.
-type Inner<A> = Chosen<Key<A>, FeatureValue<A>>;
+type Inner<A> = DefinedBy<Key<A>, FeatureValue<A>>;
 
 /// The fields, owned.
 type Fields<A> = Tagged<Sequence, Inner<A>>;
@@ -163,7 +165,7 @@ type Fields<A> = Tagged<Sequence, Inner<A>>;
 /// The fields that are written, borrowed.
 type Written<'a, A> = Tagged<
     Sequence,
-    Chosen<Join<&'a ObjectIdentifierAsn1<A>, Optional<&'a bool>>, &'a FeatureValue<A>>,
+    DefinedBy<Join<&'a ObjectIdentifierAsn1<A>, Optional<&'a bool>>, &'a FeatureValue<A>>,
 >;
 
 /// The fields of a feature, to be written.
@@ -175,7 +177,7 @@ fn written<A: Allocator>(value: &Feature<A>) -> Written<'_, A>
     } else {
         Optional(None)
     };
-    Tagged::new(Chosen(Join(&value.name, critical), &value.value))
+    Tagged::new(DefinedBy(Join(&value.name, critical), &value.value))
 }
 
 /// Whether a feature is critical: not, where it isn't spelled.
@@ -211,12 +213,12 @@ impl<A: Allocator> ToDer for Feature<A> {
 }
 
 impl<A: Allocator + Copy> View<Fields<A>, A> for Feature<A> {
-    ghost use Rattle.x509_der_structures_parts.specs.FeatureFacts.{feature_is, feature_one};
+    ghost use Rattle.x509_der_structures_parts.specs.facts.FeatureFacts.{feature_is, feature_one};
 
     ghost view = { feature_meaning };
 
     fn meaning(parts: Fields<A>) -> Option<(Self, Found)> {
-        let Chosen(Join(name, Optional(spelled)), value) = parts.into_inner();
+        let DefinedBy(Join(name, Optional(spelled)), value) = parts.into_inner();
         let found = Found::of(spelled_false(spelled));
         let critical = critical_in(spelled);
         Some((
@@ -233,7 +235,7 @@ impl<A: Allocator + Copy> View<Fields<A>, A> for Feature<A> {
 }
 
 impl<A: Allocator + Copy> Field<A> for Feature<A> {
-    ghost use Rattle.x509_der_structures_parts.specs.FeatureFacts.{feature_is, feature_one, feature_agrees, key_apart};
+    ghost use Rattle.x509_der_structures_parts.specs.facts.FeatureFacts.{feature_is, feature_one, feature_agrees, key_apart};
 
     ghost shape = { feature };
 

@@ -1,17 +1,18 @@
 //! A list of fields, each under its own tag, of which the last of each tag counts.
 
 ghost use Rattle.std.specs.Prelude.{◌≡◌, ◌<◌};
-ghost use Rattle.x509_der.specs.Meaning.{if_found, sequence_seen, sequence_lawful, seen_element};
-ghost use Rattle.x509_der_structures_parts.specs.Alternatives.{hints_apart, numbers_apart};
+ghost use Rattle.x509_der.specs.View.{if_found};
+ghost use Rattle.x509_der.specs.laws.Meaning.{sequence_seen, sequence_lawful, seen_element};
+ghost use Rattle.x509_der_structures_parts.specs.facts.Alternatives.{hints_apart, numbers_apart};
 ghost use Rattle.x509_der_structures_parts.specs.KeyReferences.{hint, number, order_kinds, reference_of, reference_base, reference_meaning, key_reference, reference_bytes, with_hint};
 ghost use Rattle.x509_der_structures_parts.specs.Lasts.{ascends};
-ghost use Rattle.x509_der_structures_parts.specs.KeyReferenceFacts.{reference_is, one_kind, reference_agrees};
+ghost use Rattle.x509_der_structures_parts.specs.facts.KeyReferenceFacts.{reference_is, one_kind, reference_agrees};
 ghost use Rattle.x509_der.specs.Items.{items};
 
 use std::alloc::{Allocator, Global};
 use x509_der::parts::{
-    Body, Choice, Explicit1, Field, Found, Implicit0, Implicit2, Items, Join, Optional, Reader,
-    Sequence, Tagged, View, known_there, read_viewed,
+    Choice, ContentOf, Explicit1, Field, Found, Implicit0, Implicit2, Items, Join, Optional,
+    Reader, Sequence, Tagged, View, known_there, read_viewed,
 };
 use x509_der::{Deviation, FromDer, IntegerAsn1, OctetStringAsn1, ReadError, ToDer, TooLong};
 
@@ -31,8 +32,8 @@ pub struct KeyReference<A: Allocator = Global> {
 
 /// One field, by its tag.
 type Hint<A> = Choice<
-    Tagged<Implicit0, Body<OctetStringAsn1<A>>>,
-    Choice<Tagged<Explicit1, u8>, Tagged<Implicit2, Body<IntegerAsn1<A>>>>,
+    Tagged<Implicit0, ContentOf<OctetStringAsn1<A>>>,
+    Choice<Tagged<Explicit1, u8>, Tagged<Implicit2, ContentOf<IntegerAsn1<A>>>>,
 >;
 
 /// The fields that are read, in their order.
@@ -45,10 +46,10 @@ type Fields<A> = Tagged<Sequence, Inner<A>>;
 type Written<'a, A> = Tagged<
     Sequence,
     Join<
-        Optional<Tagged<Implicit0, Body<&'a OctetStringAsn1<A>>>>,
+        Optional<Tagged<Implicit0, ContentOf<&'a OctetStringAsn1<A>>>>,
         Join<
             Optional<Tagged<Explicit1, &'a u8>>,
-            Optional<Tagged<Implicit2, Body<&'a IntegerAsn1<A>>>>,
+            Optional<Tagged<Implicit2, ContentOf<&'a IntegerAsn1<A>>>>,
         >,
     >,
 >;
@@ -69,13 +70,13 @@ fn number_of<A: Allocator>(field: &Hint<A>) -> u8
 fn are_ascending<A: Allocator>(fields: &[Hint<A>]) -> bool
     ensures { result ≡ ascends number fields.now }
 {
-    let mut least: u8 = 0;
+    let mut min_headers: u8 = 0;
     'fields: for field in fields {
         let number = number_of(field);
-        if number < least {
+        if number < min_headers {
             return false;
         }
-        least = number + 1;
+        min_headers = number + 1;
     }
     true
 }
@@ -98,14 +99,14 @@ impl<A: Allocator> KeyReference<A> {
     {
         match field {
             Choice::First(identifier) => {
-                let Body(octets) = identifier.into_inner();
+                let ContentOf(octets) = identifier.into_inner();
                 self.identifier = Some(octets);
             }
             Choice::Second(Choice::First(issuer)) => {
                 self.issuer = Some(issuer.into_inner());
             }
             Choice::Second(Choice::Second(serial)) => {
-                let Body(integer) = serial.into_inner();
+                let ContentOf(integer) = serial.into_inner();
                 self.serial = Some(integer);
             }
         }

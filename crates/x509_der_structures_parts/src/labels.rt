@@ -2,12 +2,12 @@
 
 ghost use Rattle.std.specs.Prelude.{◌≡◌, refl};
 ghost use Rattle.x509_der_structures_parts.specs.Labels.{strict_base, label_base, label_parts, strict_label, loose_label, label_meaning, label};
-ghost use Rattle.x509_der_structures_parts.specs.LabelFacts.{label_seen, label_lawful, label_element};
+ghost use Rattle.x509_der_structures_parts.specs.facts.LabelFacts.{label_seen, label_lawful, label_element};
 
 use std::alloc::{Allocator, Global};
 use x509_der::parts::Choice::{First, Second};
 use x509_der::parts::{
-    Body, Choice, Explicit0, Explicit1, Explicit2, Explicit4, Explicit5, Explicit6, Explicit7,
+    Choice, ContentOf, Explicit0, Explicit1, Explicit2, Explicit4, Explicit5, Explicit6, Explicit7,
     Explicit8, Field, Found, Implicit1, Implicit2, Implicit4, Implicit6, Implicit7, Implicit8,
     Reader, Tagged, View, read_viewed,
 };
@@ -48,12 +48,12 @@ pub enum Label<A: Allocator = Global> {
 /// The alternatives that are written, owned or borrowed.
 type Nest<C, T, N, F, S, U, I> = Choice<
     Choice<
-        Choice<Tagged<Explicit0, Body<C>>, Tagged<Implicit1, Body<T>>>,
-        Choice<Tagged<Implicit2, Body<N>>, Tagged<Explicit4, F>>,
+        Choice<Tagged<Explicit0, ContentOf<C>>, Tagged<Implicit1, ContentOf<T>>>,
+        Choice<Tagged<Implicit2, ContentOf<N>>, Tagged<Explicit4, F>>,
     >,
     Choice<
-        Choice<Tagged<Explicit5, N>, Tagged<Implicit6, Body<S>>>,
-        Choice<Tagged<Implicit7, Body<U>>, Tagged<Implicit8, Body<I>>>,
+        Choice<Tagged<Explicit5, N>, Tagged<Implicit6, ContentOf<S>>>,
+        Choice<Tagged<Implicit7, ContentOf<U>>, Tagged<Implicit8, ContentOf<I>>>,
     >,
 >;
 
@@ -84,7 +84,7 @@ type Loose<A> = Choice<
     Choice<Tagged<Explicit1, OctetStringAsn1<A>>, Tagged<Explicit2, u8>>,
     Choice<
         Choice<Tagged<Explicit6, IntegerAsn1<A>>, Tagged<Explicit7, BitStringAsn1<A>>>,
-        Choice<Tagged<Explicit8, ObjectIdentifierAsn1<A>>, Tagged<Implicit4, Body<bool>>>,
+        Choice<Tagged<Explicit8, ObjectIdentifierAsn1<A>>, Tagged<Implicit4, ContentOf<bool>>>,
     >,
 >;
 
@@ -96,22 +96,22 @@ fn written<A: Allocator>(value: &Label<A>) -> Written<'_, A>
     ensures { ⟦<Written<'static, A> as ToDer>⟧.strict result ≡ strict_base.strict (label_parts value.now) }
 {
     match value {
-        Label::Codes(codes) => First(First(First(Tagged::new(Body(codes))))),
-        Label::Text(text) => First(First(Second(Tagged::new(Body(text))))),
-        Label::Number(number) => First(Second(First(Tagged::new(Body(number))))),
+        Label::Codes(codes) => First(First(First(Tagged::new(ContentOf(codes))))),
+        Label::Text(text) => First(First(Second(Tagged::new(ContentOf(text))))),
+        Label::Number(number) => First(Second(First(Tagged::new(ContentOf(number))))),
         Label::Flag(flag) => First(Second(Second(Tagged::new(flag)))),
         Label::Level(level) => Second(First(First(Tagged::new(level)))),
-        Label::Serial(serial) => Second(First(Second(Tagged::new(Body(serial))))),
-        Label::Uses(uses) => Second(Second(First(Tagged::new(Body(uses))))),
-        Label::Name(name) => Second(Second(Second(Tagged::new(Body(name))))),
+        Label::Serial(serial) => Second(First(Second(Tagged::new(ContentOf(serial))))),
+        Label::Uses(uses) => Second(Second(First(Tagged::new(ContentOf(uses))))),
+        Label::Name(name) => Second(Second(Second(Tagged::new(ContentOf(name))))),
     }
 }
 
 /// The value under an implicit tag.
-fn value_in<N, T>(element: Tagged<N, Body<T>>) -> T
+fn value_in<N, T>(element: Tagged<N, ContentOf<T>>) -> T
     ensures { result ≡ element }
 {
-    let Body(value) = element.into_inner();
+    let ContentOf(value) = element.into_inner();
     value
 }
 
@@ -167,15 +167,15 @@ impl<A: Allocator + Copy> View<Fields<A>, A> for Label<A> {
         }
     }
 
-    ghost is_seen = { λ f. label_seen (⟦<Body<Asn1SequenceOf<u8, A>> as Field<A>>⟧.lawful (tt, tt)) };
+    ghost is_seen = { λ f. label_seen (⟦<ContentOf<Asn1SequenceOf<u8, A>> as Field<A>>⟧.lawful (tt, tt)) };
 }
 
 impl<A: Allocator + Copy> Field<A> for Label<A> {
     ghost shape = { label };
 
-    ghost lawful = { λ h. label_lawful (⟦<Body<Asn1SequenceOf<u8, A>> as Field<A>>⟧.lawful (tt, tt)) };
+    ghost lawful = { λ h. label_lawful (⟦<ContentOf<Asn1SequenceOf<u8, A>> as Field<A>>⟧.lawful (tt, tt)) };
 
-    ghost elements = { λ h. label_element (⟦<Body<Asn1SequenceOf<u8, A>> as Field<A>>⟧.lawful (tt, tt)) };
+    ghost elements = { λ h. label_element (⟦<ContentOf<Asn1SequenceOf<u8, A>> as Field<A>>⟧.lawful (tt, tt)) };
 
     ghost agrees = { λ v. refl };
 

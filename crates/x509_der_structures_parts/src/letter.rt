@@ -1,14 +1,15 @@
 //! A structure with another in it, under an implicit tag.
 
 ghost use Rattle.std.specs.Prelude.{◌≡◌, refl};
-ghost use Rattle.x509_der.specs.Mapped.{mapped_lawful, mapped_element};
-ghost use Rattle.x509_der_structures_parts.specs.Alternatives.{stamp_apart};
-ghost use Rattle.x509_der_structures_parts.specs.Letters.{letter_parts, letter_same, letter_base, letter};
+ghost use Rattle.x509_der.specs.laws.Structure.{structure_lawful, structure_element};
+ghost use Rattle.x509_der_structures_parts.specs.facts.Alternatives.{stamp_apart};
+ghost use Rattle.x509_der_structures_parts.specs.Letters.{letter_parts, letter_base, letter};
+ghost use Rattle.x509_der_structures_parts.specs.facts.Letters.{letter_same};
 
 use crate::stamp::Stamp;
 use std::alloc::{Allocator, Global};
 use x509_der::parts::{
-    Body, Explicit0, Field, Join, Optional, Reader, Sequence, Structure, Tagged, known_there,
+    ContentOf, Explicit0, Field, Join, Optional, Reader, Sequence, Structure, Tagged, known_there,
     read_fields,
 };
 use x509_der::{FromDer, ReadError, ToDer, TooLong};
@@ -25,7 +26,7 @@ pub struct Letter<A: Allocator = Global> {
 }
 
 /// The fields as they stand in the SEQUENCE, owned or borrowed.
-type Nest<S, N> = Tagged<Sequence, Join<Optional<Tagged<Explicit0, Body<S>>>, Join<N, N>>>;
+type Nest<S, N> = Tagged<Sequence, Join<Optional<Tagged<Explicit0, ContentOf<S>>>, Join<N, N>>>;
 
 /// The fields, owned.
 type Fields<A> = Nest<Stamp<A>, u8>;
@@ -73,9 +74,9 @@ impl<A: Allocator> Structure<Fields<A>> for Letter<A> {
 impl<A: Allocator + Copy> Field<A> for Letter<A> {
     ghost shape = { letter };
 
-    ghost lawful = { λ h. mapped_lawful letter_parts letter_base letter_same (⟦<Fields<A> as Field<A>>⟧.lawful ((tt, tt), (tt, tt, λ c h. refl), stamp_apart)) };
+    ghost lawful = { λ h. structure_lawful letter_parts letter_base letter_same (⟦<Fields<A> as Field<A>>⟧.lawful ((tt, tt), (tt, tt, λ c h. refl), stamp_apart)) };
 
-    ghost elements = { λ h. mapped_element letter_parts letter_base (⟦<Fields<A> as Field<A>>⟧.elements tt) };
+    ghost elements = { λ h. structure_element letter_parts letter_base (⟦<Fields<A> as Field<A>>⟧.elements tt) };
 
     ghost agrees = { λ v. refl };
 

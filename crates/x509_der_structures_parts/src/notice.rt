@@ -2,13 +2,14 @@
 
 ghost use Rattle.std.specs.Prelude.{◌≡◌, true, refl};
 ghost use Rattle.x509_der.specs.Reading.{Ready, Reads};
-ghost use Rattle.x509_der_structures_parts.specs.Alternatives.{note_apart};
-ghost use Rattle.x509_der_structures_parts.specs.Notices.{claim_bytes, claim_avoids, kind_of as kind_by, by_kind, notice_parts, notice_same, notice_bytes, notice_base, notice};
-ghost use Rattle.x509_der.specs.Mapped.{mapped_lawful, mapped_element};
+ghost use Rattle.x509_der_structures_parts.specs.facts.Alternatives.{note_apart};
+ghost use Rattle.x509_der_structures_parts.specs.Notices.{claim_bytes, claim_avoids, kind_of as kind_by, by_kind, notice_parts, notice_bytes, notice_base, notice};
+ghost use Rattle.x509_der_structures_parts.specs.facts.Notices.{notice_same};
+ghost use Rattle.x509_der.specs.laws.Structure.{structure_lawful, structure_element};
 
 use std::alloc::{Allocator, Global};
 use x509_der::parts::{
-    Chosen, Explicit1, Field, Join, Keyed, Optional, Reader, Sequence, Structure, Tagged,
+    AnyDefinedBy, DefinedBy, Explicit1, Field, Join, Optional, Reader, Sequence, Structure, Tagged,
     known_there, read_fields,
 };
 use x509_der::{FromDer, ObjectIdentifierAsn1, ReadError, ToDer, TooLong};
@@ -101,20 +102,20 @@ fn read_as<A: Allocator + Copy>(
     }
 }
 
-impl<A: Allocator + Copy> Keyed<ObjectIdentifierAsn1<A>, A> for Claim {
-    ghost use Rattle.x509_der_structures_parts.specs.NoticeFacts.{claim_family, claim_agrees};
+impl<A: Allocator + Copy> AnyDefinedBy<ObjectIdentifierAsn1<A>, A> for Claim {
+    ghost use Rattle.x509_der_structures_parts.specs.facts.NoticeFacts.{claim_family, claim_agrees};
 
-    ghost kinds = { λ arcs. by_kind (kind_by arcs) };
+    ghost shapes = { λ arcs. by_kind (kind_by arcs) };
 
-    ghost begins = { λ b. true };
+    ghost starts = { λ b. true };
 
-    ghost ends = { claim_avoids };
+    ghost avoids = { claim_avoids };
 
     ghost family = { claim_family };
 
-    ghost kinds_agree = { λ arcs v. claim_agrees (kind_by arcs) v };
+    ghost shapes_agree = { λ arcs v. claim_agrees (kind_by arcs) v };
 
-    fn may_start(_byte: u8) -> bool {
+    fn starts(_byte: u8) -> bool {
         true
     }
 
@@ -146,7 +147,7 @@ pub struct Notice<A: Allocator = Global> {
 }
 
 /// The fields as they stand in the SEQUENCE, owned or borrowed.
-type Nest<K, V, N> = Tagged<Sequence, Join<Chosen<K, V>, Optional<Tagged<Explicit1, N>>>>;
+type Nest<K, V, N> = Tagged<Sequence, Join<DefinedBy<K, V>, Optional<Tagged<Explicit1, N>>>>;
 
 /// The fields, owned.
 type Fields<A> = Nest<ObjectIdentifierAsn1<A>, Claim, bool>;
@@ -159,7 +160,7 @@ fn written<A: Allocator>(value: &Notice<A>) -> Written<'_, A>
     ensures { ⟦<Written<'static, A> as ToDer>⟧.strict result ≡ notice_bytes (notice_parts value.now) }
 {
     Tagged::new(Join(
-        Chosen(&value.name, &value.claim),
+        DefinedBy(&value.name, &value.claim),
         Optional::lent(&value.note),
     ))
 }
@@ -180,7 +181,7 @@ impl<A: Allocator> Structure<Fields<A>> for Notice<A> {
     ghost fields = { notice_parts };
 
     fn from_fields(parts: Fields<A>) -> Self {
-        let Join(Chosen(name, claim), note) = parts.into_inner();
+        let Join(DefinedBy(name, claim), note) = parts.into_inner();
         Notice {
             name,
             claim,
@@ -192,13 +193,13 @@ impl<A: Allocator> Structure<Fields<A>> for Notice<A> {
 }
 
 impl<A: Allocator + Copy> Field<A> for Notice<A> {
-    ghost use Rattle.x509_der_structures_parts.specs.NoticeFacts.{notice_agrees};
+    ghost use Rattle.x509_der_structures_parts.specs.facts.NoticeFacts.{notice_agrees};
 
     ghost shape = { notice };
 
-    ghost lawful = { λ h. mapped_lawful notice_parts notice_base notice_same (⟦<Fields<A> as Field<A>>⟧.lawful ((tt, λ c h. refl), (tt, tt), note_apart)) };
+    ghost lawful = { λ h. structure_lawful notice_parts notice_base notice_same (⟦<Fields<A> as Field<A>>⟧.lawful ((tt, λ c h. refl), (tt, tt), note_apart)) };
 
-    ghost elements = { λ h. mapped_element notice_parts notice_base (⟦<Fields<A> as Field<A>>⟧.elements tt) };
+    ghost elements = { λ h. structure_element notice_parts notice_base (⟦<Fields<A> as Field<A>>⟧.elements tt) };
 
     ghost agrees = { λ v. notice_agrees (notice_parts v) };
 

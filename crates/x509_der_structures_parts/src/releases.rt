@@ -1,9 +1,9 @@
 //! A small number of which few values have a meaning.
 
 ghost use Rattle.std.specs.Prelude.{◌≡◌, refl};
-ghost use Rattle.x509_der.specs.Meaning.{seen_lawful, seen_element};
+ghost use Rattle.x509_der.specs.laws.Meaning.{seen_lawful, seen_element};
 ghost use Rattle.x509_der_structures_parts.specs.Releases.{release_number, release_of, release_base, release_meaning, release};
-ghost use Rattle.x509_der_structures_parts.specs.ReleaseFacts.{release_is, release_seen};
+ghost use Rattle.x509_der_structures_parts.specs.facts.ReleaseFacts.{release_is, release_seen};
 
 use std::alloc::Allocator;
 use x509_der::parts::{Field, Found, Reader, View, read_viewed};

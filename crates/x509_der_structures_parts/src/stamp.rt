@@ -1,14 +1,16 @@
 //! A structure that also stands under an implicit tag.
 
 ghost use Rattle.std.specs.Prelude.{◌≡◌, true, refl};
-ghost use Rattle.x509_der.specs.Alone.{alone_lawful, around_fields};
-ghost use Rattle.x509_der.specs.Mapped.{mapped, mapped_lawful, mapped_element};
-ghost use Rattle.x509_der_structures_parts.specs.Stamps.{stamp_parts, stamp_same, stamp_inner, stamp_base, stamp, stamp_content};
+ghost use Rattle.x509_der.specs.laws.ContentOf.{content_of_lawful, tagged_fields};
+ghost use Rattle.x509_der.specs.Structure.{structure};
+ghost use Rattle.x509_der.specs.laws.Structure.{structure_lawful, structure_element};
+ghost use Rattle.x509_der_structures_parts.specs.Stamps.{stamp_parts, stamp_inner, stamp_base, stamp, stamp_content};
+ghost use Rattle.x509_der_structures_parts.specs.facts.Stamps.{stamp_same};
 
 use std::alloc::{Allocator, Global};
 use x509_der::parts::{
-    Content, Field, Join, OneTag, Reader, Sequence, Structure, Tagged, ToBody, element_len,
-    read_content, read_sequence, write_element,
+    Content, Field, Join, OneTag, Reader, Sequence, Structure, Tagged, ToContent, element_len,
+    read_as_content, read_sequence, write_element,
 };
 use x509_der::{FromDer, ObjectIdentifierAsn1, OctetStringAsn1, ReadError, ToDer, TooLong};
 
@@ -37,14 +39,14 @@ impl<A: Allocator> ToDer for Stamp<A> {
     }
 }
 
-impl<A: Allocator> ToBody for Stamp<A> {
-    ghost body = { λ v. stamp_inner.strict (stamp_parts v) };
+impl<A: Allocator> ToContent for Stamp<A> {
+    ghost content = { λ v. stamp_inner.strict (stamp_parts v) };
 
-    fn body_len(&self) -> Result<usize, TooLong> {
+    fn content_len(&self) -> Result<usize, TooLong> {
         Join(&self.name, &self.octets).encoded_len()
     }
 
-    fn write_body(&self, out: &mut [u8]) -> usize {
+    fn write_content(&self, out: &mut [u8]) -> usize {
         Join(&self.name, &self.octets).write_back(out)
     }
 }
@@ -63,9 +65,9 @@ impl<A: Allocator> Structure<Inner<A>> for Stamp<A> {
 impl<A: Allocator + Copy> Field<A> for Stamp<A> {
     ghost shape = { stamp };
 
-    ghost lawful = { λ h. mapped_lawful stamp_parts stamp_base stamp_same (⟦<Tagged<Sequence, Inner<A>> as Field<A>>⟧.lawful (tt, tt, λ c h. refl)) };
+    ghost lawful = { λ h. structure_lawful stamp_parts stamp_base stamp_same (⟦<Tagged<Sequence, Inner<A>> as Field<A>>⟧.lawful (tt, tt, λ c h. refl)) };
 
-    ghost elements = { λ h. mapped_element stamp_parts stamp_base (⟦<Tagged<Sequence, Inner<A>> as Field<A>>⟧.elements tt) };
+    ghost elements = { λ h. structure_element stamp_parts stamp_base (⟦<Tagged<Sequence, Inner<A>> as Field<A>>⟧.elements tt) };
 
     ghost agrees = { λ v. refl };
 
@@ -84,23 +86,23 @@ impl<A: Allocator + Copy> Field<A> for Stamp<A> {
 }
 
 impl<A: Allocator + Copy> Content<A> for Stamp<A> {
-    ghost form = { stamp_content };
+    ghost content_shape = { stamp_content };
 
-    ghost form_lawful = { λ h. alone_lawful (mapped stamp_parts stamp_inner) (mapped_lawful stamp_parts stamp_inner stamp_same (⟦<Inner<A> as Field<A>>⟧.lawful (tt, tt, λ c h. refl))) };
+    ghost content_lawful = { λ h. content_of_lawful (structure stamp_parts stamp_inner) (structure_lawful stamp_parts stamp_inner stamp_same (⟦<Inner<A> as Field<A>>⟧.lawful (tt, tt, λ c h. refl))) };
 
-    fn known_body(&self) {
+    fn known_content(&self) {
         self.known();
     }
 
-    fn read_body(alloc: A, reader: &mut Reader<'_, A>) -> Result<Self, ReadError> {
-        read_content::<Self, Inner<A>, A>(alloc, reader)
+    fn read_content(alloc: A, reader: &mut Reader<'_, A>) -> Result<Self, ReadError> {
+        read_as_content::<Self, Inner<A>, A>(alloc, reader)
     }
 
-    ghost form_always = { tt };
+    ghost content_always = { tt };
 
     ghost open = { λ b. refl };
 
-    ghost form_agrees = { λ v. refl };
+    ghost content_agrees = { λ v. refl };
 }
 
 impl<A: Allocator + Copy> FromDer<A> for Stamp<A> {
@@ -112,7 +114,7 @@ impl<A: Allocator + Copy> FromDer<A> for Stamp<A> {
 impl<A: Allocator + Copy> OneTag<A> for Stamp<A> {
     ghost tag = { 48 };
 
-    ghost spelled_around = { λ v p y. around_fields 48 stamp_parts stamp_inner v p y };
+    ghost spelled_around = { λ v p y. tagged_fields 48 stamp_parts stamp_inner v p y };
 
     ghost strict_around = { λ v. refl };
 }

@@ -2,10 +2,10 @@
 //!
 //! Each has a constant, its dotted text, and a function that makes it. This file is written by
 //! `tools/make_object_identifiers.py` from `tools/object_identifiers.tsv`.
-#![tactic(auto, unfolding(x509_der::specs::Dotted::digits))]
+#![tactic(auto, unfolding(x509_der::specs::ObjectIdentifier::digits))]
 
 ghost use Rattle.std.specs.Prelude.{◌≡◌, ◌∷◌, [], IfOk};
-ghost use Rattle.x509_der.specs.Dotted.{dotted};
+ghost use Rattle.x509_der.specs.ObjectIdentifier.{dotted};
 
 use std::alloc::{AllocError, Allocator};
 use x509_der::ObjectIdentifier;

@@ -1,7 +1,7 @@
 -- The definitions and lemmas of the crate below, which crates above name by this one.
 pub use Rattle.x509_prim_parts.specs.Calendar
 pub use Rattle.x509_prim_parts.specs.Times
-pub use Rattle.x509_prim_parts.specs.TimeFacts
-pub mod Texts
 pub mod CharSets
+pub mod Texts
 pub mod Utf16
+pub mod facts

@@ -1,8 +1,8 @@
 -- Contents that are texts: the bytes as they are, where the type allows them (X.690, 8.23).
-use Rattle.std.specs.Prelude.{◌≡◌, ℕ, Bool, IsTrue, List}
+use Rattle.std.specs.Prelude.{ℕ, Bool, IsTrue, List}
 use Rattle.std.specs.Str.{IsUtf8}
 use Rattle.x509_der.specs.Shape.{Shape}
-use Rattle.x509_der.specs.Contents.{itself}
+use Rattle.x509_der.specs.PrimitiveContent.{itself}
 
 -- bytes that are allowed, which are their own content
 abbrev pub texts : (List ℕ → Type 0) → Shape (List ℕ)

@@ -1,3 +1,3 @@
 pub mod Calendar
 pub mod Times
-pub mod TimeFacts
+pub mod facts

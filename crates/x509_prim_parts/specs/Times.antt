@@ -1,7 +1,7 @@
 -- UTCTime and GeneralizedTime as texts in ASCII (X.690, 11.7 and 11.8; RFC 5280, 4.1.2.5.1 and 4.1.2.5.2).
 use Rattle.std.specs.Prelude.{◌≡◌, ℕ, ◌+◌, ◌/◌, ◌%◌, ◌<◌, ◌≤◌, List, [], ◌∷◌, ◌++◌, nat_lt, if◌then◌else◌}
 use Rattle.x509_der.specs.Shape.{Shape}
-use Rattle.x509_der.specs.Contents.{plain}
+use Rattle.x509_der.specs.PrimitiveContent.{plain}
 use Rattle.x509_prim_parts.specs.Calendar.{Moment, IsMoment}
 
 -- a number below 100 as two decimal digits

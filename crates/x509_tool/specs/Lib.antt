@@ -1,5 +1,5 @@
 pub mod Faults
+pub mod Output
 pub mod Stops
 pub mod Text
-pub mod Output
-pub mod TextFacts
+pub mod facts

@@ -3,11 +3,11 @@ use Rattle.std.specs.Prelude.{◌≡◌, ◌⊎◌, ℕ, ◌≤◌, ◌^◌, Lis
 use Rattle.std.specs.List.{join_with_byte}
 use Rattle.std.specs.Fmt.{decimal}
 use Rattle.hex.specs.Hex.{encode_lower}
+use Rattle.x509_tool.specs.declared.fault.ToolFault.{ToolFault}
+use Rattle.x509_tool.specs.declared.fault.ToolFault.TheVariants.{Refused, Usage, OutOfMemory, TooLong}
 use Rattle.x509_der.specs.Tally.{Tally, counts_of}
 use Rattle.x509_der.specs.Shape.{Shape}
 use Rattle.x509_keys.specs.RawAlgorithm.{raw_algorithm}
-use Rattle.x509_tool.specs.declared.fault.ToolFault.{ToolFault}
-use Rattle.x509_tool.specs.declared.fault.ToolFault.TheVariants.{Refused, Usage, OutOfMemory, TooLong}
 
 -- numbers in decimal, joined by single spaces
 abbrev pub spaced : List ℕ → List ℕ

@@ -1,11 +1,11 @@
 -- What the program answers where it ends without output.
 use Rattle.std.specs.Prelude.{ℕ, List, codes}
 use Rattle.std.specs.declared.io.ErrorKind.{ErrorKind}
-use Rattle.std.specs.declared.io.ErrorKind.TheVariants as kind
 use Rattle.x509_tool.specs.declared.console.Stop.{Stop}
 use Rattle.x509_tool.specs.declared.console.Stop.TheVariants.{Fault, Console}
 use Rattle.x509_tool.specs.declared.fault.ToolFault.TheVariants.{OutOfMemory}
 use Rattle.x509_tool.specs.Faults.{status_of, line_of}
+use Rattle.std.specs.declared.io.ErrorKind.TheVariants as kind
 
 abbrev pub status_of_stop : Stop → ℕ
 status_of_stop (Fault fault) = status_of fault

@@ -4,7 +4,7 @@ use super::Heap;
 use refusing::{Refusing, Turn};
 use std::alloc::Global;
 use std::process::Abort;
-use x509_der::parts::{Body, Content, Explicit0, Tagged};
+use x509_der::parts::{Content, ContentOf, Explicit0, Tagged};
 use x509_der::{
     Asn1SequenceOf, Asn1SetOf, BitStringAsn1Container, FromDer, IntegerAsn1,
     OctetStringAsn1Container, ReadError, from_bytes,
@@ -34,9 +34,9 @@ fn contained_values_are_as_stated(rt: HostRuntime) {
 
 /// What a run showed that should read this value under an implicit tag.
 fn content_turn<A: Heap, T: Content<A> + PartialEq>(heap: A, bytes: &[u8], stated: &T) -> Turn {
-    match from_bytes::<Tagged<Explicit0, Body<T>>, A>(heap, bytes) {
+    match from_bytes::<Tagged<Explicit0, ContentOf<T>>, A>(heap, bytes) {
         Ok(element) => {
-            let Body(value) = element.into_inner();
+            let ContentOf(value) = element.into_inner();
             Turn::right(value == *stated)
         }
         Err(ReadError::OutOfMemory) => Turn::Refused,

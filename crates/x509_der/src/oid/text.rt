@@ -2,8 +2,8 @@
 
 ghost use Rattle.std.specs.Prelude.{◌≡◌, ◌≢◌, ◌⊎◌, ℕ, ◌<◌, ◌^◌, List, Some, IfOk, IfErr, MatchOption};
 ghost use Rattle.std.specs.Fmt.{decimal};
-ghost use Rattle.x509_der.specs.Arcs.{IsLawful};
-ghost use Rattle.x509_der.specs.Dotted.{dotted};
+ghost use Rattle.x509_der.specs.ObjectIdentifier.{IsLawful};
+ghost use Rattle.x509_der.specs.ObjectIdentifier.{dotted};
 
 use super::{ObjectIdentifier, OidError, is_lawful};
 use std::alloc::Allocator;

@@ -1,6 +1,6 @@
 use Rattle.std.proofs.Common.{◌∙◌, arith}
 use Rattle.std.proofs.lemmas.Bool.Decides.{nat_tests}
-use Rattle.x509_der.specs.BitEdits.{bit_here, bit_past}
+use Rattle.x509_der.specs.facts.BitEdits.{bit_here, bit_past}
 use Rattle.x509_der.proofs.bits.bit_at.Goals as goal
 
 pub returns-then-at-bytes : goal.returns-then-at-bytes

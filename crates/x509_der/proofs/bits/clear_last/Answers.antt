@@ -1,5 +1,5 @@
 use Rattle.std.proofs.Common.{arith}
-use Rattle.x509_der.specs.BitEdits.{last_cleared, none_cleared}
+use Rattle.x509_der.specs.facts.BitEdits.{last_cleared, none_cleared}
 use Rattle.x509_der.proofs.bits.clear_last.Goals as goal
 
 pub returns-then-len-gt0-clause-bits : goal.returns-then-len-gt0-clause-bits

@@ -1,5 +1,5 @@
 use Rattle.std.proofs.Common.{arith}
-use Rattle.x509_der.specs.BitEdits.{none_padded, last_tested}
+use Rattle.x509_der.specs.facts.BitEdits.{none_padded, last_tested}
 use Rattle.x509_der.proofs.bits.is_padded.Goals as goal
 
 pub returns-then-len-eq0 : goal.returns-then-len-eq0

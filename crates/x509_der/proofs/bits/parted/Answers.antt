@@ -1,5 +1,5 @@
 use Rattle.std.proofs.Common.{◌≡◌, ◌∷◌, true, false, get_or, sym, ap, ◌∙◌, arith}
-use Rattle.x509_der.specs.BitFacts.{parted_is, not_parted, head_tail}
+use Rattle.x509_der.specs.facts.BitString.{parted_is, not_parted, head_tail}
 use Rattle.x509_der.proofs.bits.parted.Goals as goal
 
 pub returns-then-is_padded-clause-some : goal.returns-then-is_padded-clause-some

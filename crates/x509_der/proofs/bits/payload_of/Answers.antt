@@ -1,5 +1,5 @@
 use Rattle.std.proofs.Common.{sym, arith}
-use Rattle.x509_der.specs.BitFacts.{payload-used}
+use Rattle.x509_der.specs.facts.BitString.{payload-used}
 use Rattle.x509_der.proofs.bits.payload_of.Goals as goal
 
 pub returns : goal.returns

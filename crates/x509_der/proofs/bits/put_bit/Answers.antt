@@ -1,5 +1,5 @@
 use Rattle.std.proofs.Common.{arith}
-use Rattle.x509_der.specs.BitEdits.{bit_put}
+use Rattle.x509_der.specs.facts.BitEdits.{bit_put}
 use Rattle.x509_der.proofs.bits.put_bit.Goals as goal
 
 pub returns-clause-bits : goal.returns-clause-bits

@@ -1,5 +1,5 @@
 use Rattle.std.proofs.Common.{sym}
-use Rattle.x509_der_parts.specs.Whole.{located_whole}
+use Rattle.x509_der_parts.specs.reads.WholeInput.{located_whole}
 use Rattle.x509_der.proofs.calls.read_located.Goals as goal
 
 pub returns-clause-ok : goal.returns-clause-ok

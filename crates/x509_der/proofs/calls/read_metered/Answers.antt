@@ -1,4 +1,4 @@
-use Rattle.x509_der_parts.specs.Whole.{counted_whole, metered_whole}
+use Rattle.x509_der_parts.specs.reads.WholeInput.{counted_whole, metered_whole}
 use Rattle.x509_der.proofs.calls.read_metered.Goals as goal
 
 pub returns-in-Ok-clause-read : goal.returns-in-Ok-clause-read

@@ -1,4 +1,4 @@
-use Rattle.x509_der.specs.Naturals.{padded_bytes}
+use Rattle.x509_der.specs.facts.NaturalNumber.{padded_bytes}
 use Rattle.x509_der.proofs.integer.padded_digits.Goals as goal
 
 pub returns-clause-bytes : goal.returns-clause-bytes

@@ -1,5 +1,5 @@
 use Rattle.std.proofs.Common.{sym, ◌∙◌, arith}
-use Rattle.x509_der.specs.IntegerFacts.{padding_step, padding_end}
+use Rattle.x509_der.specs.facts.Integer.{padding_step, padding_end}
 use Rattle.x509_der.proofs.integer.padding_len.Goals as goal
 
 pub padding-preserved : goal.padding-preserved

@@ -1,5 +1,5 @@
 use Rattle.std.proofs.Common.{◌≡◌, ◌<◌, ◌-◌, length, drop}
-use Rattle.x509_der.specs.Integers.{signed_value}
+use Rattle.x509_der.specs.Integer.{signed_value}
 use Rattle.x509_der.proofs.integer.padding_len.Given as goal
 
 abbrev pub invariant-padding : goal.invariant-padding

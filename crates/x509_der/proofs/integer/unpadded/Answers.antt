@@ -1,5 +1,5 @@
 use Rattle.std.proofs.Common.{arith}
-use Rattle.x509_der.specs.IntegerFacts.{signed_value-positive}
+use Rattle.x509_der.specs.facts.Integer.{signed_value-positive}
 use Rattle.x509_der.proofs.integer.unpadded.Goals as goal
 
 pub returns-in_default-2-clause-number : goal.returns-in_default-2-clause-number

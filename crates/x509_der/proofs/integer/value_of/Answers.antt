@@ -1,5 +1,5 @@
 use Rattle.std.proofs.Common.{arith}
-use Rattle.x509_der.specs.Naturals.{value_passes, value_ends}
+use Rattle.x509_der.specs.facts.NaturalNumber.{value_passes, value_ends}
 use Rattle.x509_der.proofs.integer.value_of.Goals as goal
 
 pub returns-then-number-ge-FULL-clause-none : goal.returns-then-number-ge-FULL-clause-none

@@ -7,7 +7,7 @@ returns-clause-sequence g c = λ list front after behind y a. inr (record {
   after = behind;
   inner = y.headers;
   bytes = refl;
-  least = record { list = list; front = front; after = after; tally = y; spelled = a; bytes = refl; sum = refl };
+  min_headers = record { list = list; front = front; after = after; tally = y; spelled = a; bytes = refl; sum = refl };
   sum = refl;
 })
 
@@ -17,6 +17,6 @@ returns-clause-set g c = λ list front after behind y a. inr (record {
   after = behind;
   inner = y.headers;
   bytes = refl;
-  least = record { list = list; front = front; after = after; tally = y; spelled = a; bytes = refl; sum = refl };
+  min_headers = record { list = list; front = front; after = after; tally = y; spelled = a; bytes = refl; sum = refl };
   sum = refl;
 })

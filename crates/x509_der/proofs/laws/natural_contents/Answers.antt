@@ -1,4 +1,4 @@
-use Rattle.x509_der.specs.Naturals.{natural_bytes, natural_minimal, natural_value, natural_once}
+use Rattle.x509_der.specs.facts.NaturalNumber.{natural_bytes, natural_minimal, natural_value, natural_once}
 use Rattle.x509_der.proofs.laws.natural_contents.Goals as goal
 
 pub returns-clause-bytes : goal.returns-clause-bytes

@@ -1,6 +1,6 @@
 use Rattle.std.proofs.Common.{length, arith, sym, ap, ◌∙◌}
-use Rattle.x509_der.specs.Arcs.{high_digits}
-use Rattle.x509_der.specs.ArcFacts.{highs_zero, highs_longer}
+use Rattle.x509_der.specs.ObjectIdentifier.{high_digits}
+use Rattle.x509_der.specs.facts.ObjectIdentifier.{highs_zero, highs_longer}
 use Rattle.x509_der.proofs.oid.+high_len.Goals as goal
 
 pub returns-then-number-eq0-clause-len : goal.returns-then-number-eq0-clause-len

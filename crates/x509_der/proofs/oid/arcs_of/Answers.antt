@@ -1,5 +1,5 @@
 use Rattle.std.proofs.Common.{arith, refl, sym, ◌∙◌}
-use Rattle.x509_der.specs.ArcFacts.{numbering_large, numbering_zero, numbering_end, numbering_cut, sofar_low, sofar_high}
+use Rattle.x509_der.specs.facts.ObjectIdentifier.{numbering_large, numbering_zero, numbering_end, numbering_cut, sofar_low, sofar_high}
 use Rattle.x509_der.proofs.oid.arcs_of.Goals as goal
 use Rattle.x509_der.proofs.oid.arcs_of.Goals.{then-digit-lt128+in_ok-push_number, else-digit-lt128+else-padded}
 

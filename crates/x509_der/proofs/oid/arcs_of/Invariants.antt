@@ -1,4 +1,4 @@
-use Rattle.x509_der.specs.ArcFacts.{SoFar}
+use Rattle.x509_der.specs.facts.ObjectIdentifier.{SoFar}
 use Rattle.x509_der.proofs.oid.arcs_of.Given as goal
 
 abbrev pub invariant-loop-byte : goal.invariant-loop-byte

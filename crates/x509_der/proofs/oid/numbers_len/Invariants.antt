@@ -1,6 +1,6 @@
 use Rattle.std.proofs.Common.{◌≡◌, length, take}
 use Rattle.std.specs.List.{flat_map}
-use Rattle.x509_der.specs.Arcs.{septets}
+use Rattle.x509_der.specs.ObjectIdentifier.{septets}
 use Rattle.x509_der.proofs.oid.numbers_len.Given as goal
 
 abbrev pub invariant-loop-number : goal.invariant-loop-number

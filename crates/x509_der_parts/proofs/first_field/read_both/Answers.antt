@@ -1,5 +1,5 @@
 use Rattle.std.proofs.lemmas.Result.{err_from_is_err_and}
-use Rattle.x509_der_parts.specs.FirstField.{both_first, both_second}
+use Rattle.x509_der_parts.specs.reads.FirstField.{both_first, both_second}
 use Rattle.x509_der_parts.proofs.first_field.read_both.Goals as goal
 
 pub returns-in_err-first : goal.returns-in_err-first

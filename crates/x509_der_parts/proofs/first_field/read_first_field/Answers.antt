@@ -1,7 +1,7 @@
 use Rattle.std.proofs.Common.{◌-◌, take, drop, refl, sym, ◌∙◌, arith}
 use Rattle.std.proofs.lemmas.Result.{err_from_is_err_and}
-use Rattle.x509_der_parts.specs.FirstField.{both_grow, first_part, places_in, none_entered, none_refused, none_more, none_behind, spares_memory}
-use Rattle.x509_der_parts.specs.OptionalReads.{empty_is, not_empty_is}
+use Rattle.x509_der_parts.specs.reads.FirstField.{both_grow, first_part, places_in, none_entered, none_refused, none_more, none_behind, spares_memory}
+use Rattle.x509_der_parts.specs.reads.Optional.{empty_is, not_empty_is}
 use Rattle.x509_der_parts.proofs.first_field.read_first_field.Goals as goal
 
 pub returns-in_err-behind-clause-err : goal.returns-in_err-behind-clause-err

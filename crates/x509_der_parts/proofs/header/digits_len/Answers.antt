@@ -1,6 +1,7 @@
 use Rattle.std.proofs.Common.{◌≡◌, length, arith, sym, ap}
-use Rattle.x509_der_parts.specs.Digits.{base, base_zero, base_length, base_eight}
-use Rattle.x509_der_parts.specs.Writes.{low_size, high_size}
+use Rattle.x509_der_parts.specs.Element.{base}
+use Rattle.x509_der_parts.specs.facts.LengthDigits.{base_zero, base_length, base_eight}
+use Rattle.x509_der_parts.specs.facts.Writing.{low_size, high_size}
 use Rattle.x509_der_parts.proofs.header.digits_len.Goals as goal
 
 pub returns-then-len-lt128-clause-value : goal.returns-then-len-lt128-clause-value

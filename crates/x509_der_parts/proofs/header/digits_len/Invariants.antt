@@ -1,5 +1,5 @@
 use Rattle.std.proofs.Common.{◌≡◌, ◌+◌, ◌≤◌, length}
-use Rattle.x509_der_parts.specs.Digits.{base}
+use Rattle.x509_der_parts.specs.Element.{base}
 use Rattle.x509_der_parts.proofs.header.digits_len.Given as goal
 
 abbrev pub invariant-loop-rest : goal.invariant-loop-rest

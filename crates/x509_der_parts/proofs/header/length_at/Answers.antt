@@ -1,6 +1,6 @@
 use Rattle.std.proofs.Common.{◌≤◌, ◌-◌, length, take, get_or, arith, ap, ◌∙◌, inl, inr, ⊎_elim, refl}
 use Rattle.std.proofs.lemmas.Grind.{common_steps}
-use Rattle.x509_der_parts.specs.Digits.{none_empty, none_count, none_short, none_zero, none_low, digit_low_here, high_here}
+use Rattle.x509_der_parts.specs.facts.LengthDigits.{none_empty, none_count, none_short, none_zero, none_low, digit_low_here, high_here}
 use Rattle.x509_der_parts.specs.Element.{value_from}
 use Rattle.x509_der_parts.proofs.header.length_at.Goals as goal
 

@@ -1,5 +1,5 @@
 use Rattle.std.proofs.Common.{arith}
-use Rattle.x509_der_parts.specs.Digits.{step_fits}
+use Rattle.x509_der_parts.specs.facts.LengthDigits.{step_fits}
 use Rattle.x509_der_parts.proofs.header.number_of.Goals as goal
 
 pub overflow_mul-number : goal.overflow_mul-number

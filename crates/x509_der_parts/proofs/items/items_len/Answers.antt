@@ -1,7 +1,7 @@
 use Rattle.std.proofs.Common.{length, arith, ap}
 use Rattle.std.specs.List.{flat_map}
 use Rattle.std.proofs.lemmas.Result.{err_from_is_err_and}
-use Rattle.x509_der_parts.specs.Writes.{part_fits}
+use Rattle.x509_der_parts.specs.facts.Writing.{part_fits}
 use Rattle.x509_der_parts.proofs.items.items_len.Goals as goal
 
 pub returns-in_err-len : goal.returns-in_err-len

@@ -1,5 +1,5 @@
 use Rattle.std.proofs.lemmas.Result.{err_from_is_err_and}
-use Rattle.x509_der_parts.specs.Writes.{too_long, measured}
+use Rattle.x509_der_parts.specs.facts.Writing.{too_long, measured}
 use Rattle.x509_der_parts.proofs.tagged.element_len.Goals as goal
 
 pub returns-in_err-encoded_len : goal.returns-in_err-encoded_len

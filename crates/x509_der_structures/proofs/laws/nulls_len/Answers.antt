@@ -1,5 +1,5 @@
 use Rattle.std.proofs.Common.{arith}
-use Rattle.x509_der_structures.specs.Nulls.{list_length}
+use Rattle.x509_der_structures.specs.facts.Nulls.{list_length}
 use Rattle.x509_der_structures.proofs.laws.nulls_len.Goals as goal
 
 pub returns-in-Ok-clause-long : goal.returns-in-Ok-clause-long

@@ -3,7 +3,7 @@ use Rattle.std.proofs.lemmas.List.{map-id}
 use Rattle.std.proofs.lemmas.Iterator.Adapters.{YieldsList-from_vec}
 use Rattle.std.proofs.lemmas.Iterator.Consumers.{YieldsList-end}
 use Rattle.x509_der_structures_parts.specs.KeyReferences.{reference_of}
-use Rattle.x509_der_structures_parts.specs.KeyReferenceFacts.{reference_push}
+use Rattle.x509_der_structures_parts.specs.facts.KeyReferenceFacts.{reference_push}
 use Rattle.x509_der_structures_parts.proofs.key_reference.last_of_each.Goals as goal
 
 pub fields-preserved : goal.fields-preserved

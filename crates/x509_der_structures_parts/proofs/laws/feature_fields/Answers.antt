@@ -1,7 +1,7 @@
 use Rattle.std.proofs.Common.{refl, subst}
-use Rattle.x509_der.specs.ElementPlaces.{content_first}
+use Rattle.x509_der.specs.facts.ElementPlaces.{content_first}
 use Rattle.x509_der_structures_parts.specs.Features.{FieldsAt, inner}
-use Rattle.x509_der_structures_parts.specs.FeatureFacts.{means_one}
+use Rattle.x509_der_structures_parts.specs.facts.FeatureFacts.{means_one}
 use Rattle.x509_der_structures_parts.specs.declared.features.Feature.{Feature}
 use Rattle.x509_der_structures_parts.proofs.laws.feature_fields.Goals as goal
 

@@ -1,5 +1,5 @@
-use Rattle.x509_der.specs.ElementPlaces.{content_first}
-use Rattle.x509_der_structures_parts.specs.KeyReferenceFacts.{means_one}
+use Rattle.x509_der.specs.facts.ElementPlaces.{content_first}
+use Rattle.x509_der_structures_parts.specs.facts.KeyReferenceFacts.{means_one}
 use Rattle.x509_der_structures_parts.proofs.laws.key_reference_fields.Goals as goal
 
 pub returns : goal.returns

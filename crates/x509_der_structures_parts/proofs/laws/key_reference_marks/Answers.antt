@@ -1,4 +1,4 @@
-use Rattle.x509_der_structures_parts.specs.KeyReferenceLaws.{reference_marks}
+use Rattle.x509_der_structures_parts.specs.facts.KeyReferenceLaws.{reference_marks}
 use Rattle.x509_der_structures_parts.proofs.laws.key_reference_marks.Goals as goal
 
 pub returns : goal.returns

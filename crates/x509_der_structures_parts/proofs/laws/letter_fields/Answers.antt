@@ -1,4 +1,4 @@
-use Rattle.x509_der.specs.ElementPlaces.{content_first}
+use Rattle.x509_der.specs.facts.ElementPlaces.{content_first}
 use Rattle.x509_der_structures_parts.proofs.laws.letter_fields.Goals as goal
 
 pub returns : goal.returns

@@ -1,5 +1,5 @@
 use Rattle.std.proofs.Common.{length, ap, arith}
-use Rattle.x509_der.specs.BitFacts.{length-used}
+use Rattle.x509_der.specs.facts.BitString.{length-used}
 use Rattle.x509_der.proofs.bit_string.BitString.get_num_bits.Goals as goal
 
 pub returns : goal.returns

@@ -1,6 +1,6 @@
 use Rattle.std.proofs.Common.{sym, ap, length, ◌∙◌}
-use Rattle.x509_der.specs.Bits.{unused_bits}
-use Rattle.x509_der.specs.BitFacts.{unused-used}
+use Rattle.x509_der.specs.BitString.{unused_bits}
+use Rattle.x509_der.specs.facts.BitString.{unused-used}
 use Rattle.x509_der.proofs.bit_string.BitString.get_num_unused_bits.Goals as goal
 
 pub returns : goal.returns

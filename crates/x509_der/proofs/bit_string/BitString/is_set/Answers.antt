@@ -1,6 +1,6 @@
 use Rattle.std.proofs.Common.{false, get_or, ap, ◌∙◌}
-use Rattle.x509_der.specs.Bits.{bits_of}
-use Rattle.x509_der.specs.BitEdits.{bit_used}
+use Rattle.x509_der.specs.BitString.{bits_of}
+use Rattle.x509_der.specs.facts.BitEdits.{bit_used}
 use Rattle.x509_der.proofs.bit_string.BitString.is_set.Goals as goal
 
 pub returns : goal.returns

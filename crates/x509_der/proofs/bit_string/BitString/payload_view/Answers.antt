@@ -1,6 +1,6 @@
 use Rattle.std.proofs.Common.{ap, ◌∙◌}
-use Rattle.x509_der.specs.Bits.{bits_of, payload, used}
-use Rattle.x509_der.specs.BitFacts.{bits_of-payload}
+use Rattle.x509_der.specs.BitString.{bits_of, payload, used}
+use Rattle.x509_der.specs.facts.BitString.{bits_of-payload}
 use Rattle.x509_der.proofs.bit_string.BitString.payload_view.Goals as goal
 
 pub returns-clause-bits : goal.returns-clause-bits

@@ -1,7 +1,7 @@
 use Rattle.std.proofs.Common.{◌≡◌, ◌<◌, length, set, ap, ◌∙◌, rules, arith}
 use Rattle.std.proofs.lemmas.List.{with_items_is, places}
-use Rattle.x509_der.specs.Bits.{bits_of, used}
-use Rattle.x509_der.specs.BitEdits.{pads_set}
+use Rattle.x509_der.specs.BitString.{bits_of, used}
+use Rattle.x509_der.specs.facts.BitEdits.{pads_set}
 use Rattle.x509_der.proofs.bit_string.BitString.set.Goals as goal
 
 pub returns-clause-bits : goal.returns-clause-bits

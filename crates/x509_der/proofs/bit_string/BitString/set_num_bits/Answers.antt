@@ -1,8 +1,8 @@
 use Rattle.std.proofs.Common.{◌≡◌, ◌-◌, ◌*◌, ◌++◌, List, ℕ, false, length, take, ap, sym, subst, ◌∙◌, rules}
 use Rattle.std.specs.Prelude.{replicate}
 use Rattle.std.proofs.lemmas.List.{with_items_is, places}
-use Rattle.x509_der.specs.Bits.{bits_of, resized, used, IsPadded}
-use Rattle.x509_der.specs.BitEdits.{pads_resized}
+use Rattle.x509_der.specs.BitString.{bits_of, resized, used, IsPadded}
+use Rattle.x509_der.specs.facts.BitEdits.{pads_resized}
 use Rattle.x509_der.proofs.bit_string.BitString.set_num_bits.Goals as goal
 
 pub invariant_of-self-2 : goal.invariant_of-self-2

@@ -1,4 +1,4 @@
-use Rattle.x509_der.specs.BitFacts.{pads_all}
+use Rattle.x509_der.specs.facts.BitString.{pads_all}
 use Rattle.x509_der.proofs.bit_string.BitString.with_bytes.Goals as goal
 
 pub invariant_of-result : goal.invariant_of-result

@@ -1,5 +1,5 @@
 use Rattle.std.proofs.Common.{◌≡◌, true, false, length, ap, arith}
-use Rattle.x509_der.specs.BitFacts.{length-bits_of}
+use Rattle.x509_der.specs.facts.BitString.{length-bits_of}
 use Rattle.x509_der.proofs.bit_string.BitString.with_bytes_and_len.Goals as goal
 
 pub returns-in_err-set_num_bits-clause-spares : goal.returns-in_err-set_num_bits-clause-spares

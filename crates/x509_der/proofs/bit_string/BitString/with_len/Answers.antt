@@ -1,6 +1,6 @@
 use Rattle.std.proofs.Common.{ap, ◌∙◌}
-use Rattle.x509_der.specs.Bits.{used}
-use Rattle.x509_der.specs.BitEdits.{pads_zeros}
+use Rattle.x509_der.specs.BitString.{used}
+use Rattle.x509_der.specs.facts.BitEdits.{pads_zeros}
 use Rattle.x509_der.proofs.bit_string.BitString.with_len.Goals as goal
 
 pub invariant_of-result : goal.invariant_of-result

@@ -1,8 +1,8 @@
 use Rattle.std.proofs.Common.{sym, ap, ◌∙◌}
 use Rattle.std.specs.Prelude.{nat_eq}
 use Rattle.std.specs.Cmp.Lexicographic.{pointwise}
-use Rattle.x509_der.specs.Bits.{payload}
-use Rattle.x509_der.specs.BitFacts.{same_tested}
+use Rattle.x509_der.specs.BitString.{payload}
+use Rattle.x509_der.specs.facts.BitString.{same_tested}
 use Rattle.x509_der.proofs.bit_string.BitStringPartialEq.eq.Goals as goal
 
 pub returns-then-get_num_unused_bits : goal.returns-then-get_num_unused_bits

@@ -1,7 +1,7 @@
 use Rattle.std.proofs.Common.{◌≡◌, sym, ap, ◌∙◌}
 use Rattle.std.specs.Prelude.{pos}
-use Rattle.x509_der.specs.Integers.{signed_value, unsigned_value, sign_bit}
-use Rattle.x509_der.specs.IntegerFacts.{signed_value-low, signed_value-zero}
+use Rattle.x509_der.specs.Integer.{signed_value, unsigned_value, sign_bit}
+use Rattle.x509_der.specs.facts.Integer.{signed_value-low, signed_value-zero}
 use Rattle.x509_der.proofs.integer.IntegerAsn1.from_bytes_be_unsigned.Goals as goal
 use Rattle.x509_der.proofs.integer.IntegerAsn1.from_bytes_be_unsigned.Goals.{then-has_sign_bit+in_ok-insert, else-has_sign_bit}
 

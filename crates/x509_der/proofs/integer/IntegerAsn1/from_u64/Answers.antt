@@ -1,6 +1,6 @@
 use Rattle.std.proofs.Common.{◌≡◌, drop, ap, ◌∙◌}
-use Rattle.x509_der.specs.Integers.{signed_value}
-use Rattle.x509_der.specs.Naturals.{natural_once, bytes_behind}
+use Rattle.x509_der.specs.Integer.{signed_value}
+use Rattle.x509_der.specs.facts.NaturalNumber.{natural_once, bytes_behind}
 use Rattle.x509_der.proofs.integer.IntegerAsn1.from_u64.Goals as goal
 
 pub returns : goal.returns

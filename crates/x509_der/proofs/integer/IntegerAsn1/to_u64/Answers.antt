@@ -1,7 +1,7 @@
 use Rattle.std.proofs.Common.{◌≡◌, sym, ap, ◌∙◌}
-use Rattle.x509_der.specs.Integers.{sign_bit}
-use Rattle.x509_der.specs.IntegerUnique.{sign_negative}
-use Rattle.x509_der.specs.Naturals.{read_some}
+use Rattle.x509_der.specs.Integer.{sign_bit}
+use Rattle.x509_der.specs.facts.IntegerUnique.{sign_negative}
+use Rattle.x509_der.specs.facts.NaturalNumber.{read_some}
 use Rattle.x509_der.proofs.integer.IntegerAsn1.to_u64.Goals as goal
 
 pub returns-then-has_sign_bit-clause-none : goal.returns-then-has_sign_bit-clause-none

@@ -1,6 +1,6 @@
 use Rattle.x509_der.proofs.Oids.{under}
-use Rattle.x509_der.specs.Arcs.{is_strictly_under}
-use Rattle.x509_der.specs.Under.{strictly_under, short_test, same_test}
+use Rattle.x509_der.specs.ObjectIdentifier.{is_strictly_under}
+use Rattle.x509_der.specs.facts.Under.{strictly_under, short_test, same_test}
 use Rattle.x509_der.proofs.oid.ObjectIdentifier.starts_under.Goals as goal
 
 pub returns-then-front-arcs-clause-under : goal.returns-then-front-arcs-clause-under

@@ -1,5 +1,5 @@
 use Rattle.std.proofs.Common.{arith}
-use Rattle.x509_der.specs.ArcFacts.{septets_length}
+use Rattle.x509_der.specs.facts.ObjectIdentifier.{septets_length}
 use Rattle.x509_der.proofs.oid.SeptetsToDer.encoded_len.Goals as goal
 
 pub returns : goal.returns

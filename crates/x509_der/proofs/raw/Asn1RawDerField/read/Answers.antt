@@ -1,4 +1,4 @@
-use Rattle.x509_der_parts.specs.ContentReads.{raw_accepts}
+use Rattle.x509_der_parts.specs.reads.PrimitiveContent.{raw_accepts}
 use Rattle.x509_der.proofs.raw.Asn1RawDerField.read.Goals as goal
 
 pub returns : goal.returns

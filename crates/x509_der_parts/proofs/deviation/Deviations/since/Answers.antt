@@ -1,4 +1,4 @@
-use Rattle.x509_der_parts.specs.CountsFacts.{part_counts}
+use Rattle.x509_der_parts.specs.facts.Deviations.{part_counts}
 use Rattle.x509_der_parts.proofs.deviation.Deviations.since.Goals as goal
 
 pub invariant_of-result : goal.invariant_of-result

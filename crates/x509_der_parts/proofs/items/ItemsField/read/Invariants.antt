@@ -1,5 +1,5 @@
 use Rattle.std.proofs.Common.{length}
-use Rattle.x509_der_parts.specs.ItemReads.{SoFar}
+use Rattle.x509_der_parts.specs.reads.Items.{SoFar}
 use Rattle.x509_der_parts.proofs.items.ItemsField.read.Given as goal
 
 abbrev pub invariant-items : goal.invariant-items

@@ -1,7 +1,7 @@
 use Rattle.std.proofs.Common.{◌≡◌, length, ◌+◌, ◌-◌, length-append, arith, ap, ◌∙◌}
-use Rattle.x509_der_parts.specs.Enters.{other_tag, entered}
+use Rattle.x509_der_parts.specs.reads.Header.{other_tag, entered}
 use Rattle.x509_der_parts.specs.Reading.{Cursor}
-use Rattle.x509_der_parts.specs.ElementFacts.{element_length}
+use Rattle.x509_der_parts.specs.facts.Element.{element_length}
 use Rattle.x509_der_parts.specs.Element.{element}
 use Rattle.x509_der_parts.proofs.reader.Reader.enter.Goals as goal
 

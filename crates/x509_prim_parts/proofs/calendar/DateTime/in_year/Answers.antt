@@ -1,6 +1,6 @@
 use Rattle.std.proofs.Common.{Option, Some, None, IfNone, sym, ◌∙◌, arith}
 use Rattle.x509_prim_parts.specs.Times.{from_day, from_hour, from_minute, from_second}
-use Rattle.x509_prim_parts.specs.TimeFacts.{same_digits}
+use Rattle.x509_prim_parts.specs.facts.Times.{same_digits}
 use Rattle.x509_prim_parts.proofs.calendar.DateTime.in_year.Goals as goal
 
 none_holds : {T P : Type 0} (o : Option T) → P → IfNone o P

@@ -1,6 +1,6 @@
 use Rattle.std.proofs.Common.{◌∷◌, get_or, take}
 use Rattle.std.specs.Fmt.{HasWritten, IsPlainFormatter}
-use Rattle.x509_der.specs.Dotted.{dotted}
+use Rattle.x509_der.specs.ObjectIdentifier.{dotted}
 use Rattle.x509_der.proofs.oid.text.ObjectIdentifierDisplay.fmt.Given as goal
 
 abbrev pub invariant-loop-arc : goal.invariant-loop-arc

@@ -1,0 +1,21 @@
+-- Lemmas about the definitions.
+pub use Rattle.x509_der_parts.specs.facts.Deviations
+pub use Rattle.x509_der_parts.specs.facts.LengthDigits
+pub use Rattle.x509_der_parts.specs.facts.Element
+pub use Rattle.x509_der_parts.specs.facts.ElementPlaces
+pub use Rattle.x509_der_parts.specs.facts.FieldPlaces
+pub use Rattle.x509_der_parts.specs.facts.Fields
+pub use Rattle.x509_der_parts.specs.facts.ItemPlaces
+pub use Rattle.x509_der_parts.specs.facts.Lists
+pub use Rattle.x509_der_parts.specs.facts.Parts
+pub use Rattle.x509_der_parts.specs.facts.MarkOrder
+pub use Rattle.x509_der_parts.specs.facts.SameEq
+pub use Rattle.x509_der_parts.specs.facts.Tally
+pub use Rattle.x509_der_parts.specs.facts.Writing
+pub mod ObjectIdentifier
+pub mod BitEdits
+pub mod BitString
+pub mod Integer
+pub mod IntegerUnique
+pub mod NaturalNumber
+pub mod Under

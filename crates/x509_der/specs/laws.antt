@@ -1,0 +1,21 @@
+-- That shapes keep their laws.
+pub use Rattle.x509_der_parts.specs.laws.StrictSpelling
+pub use Rattle.x509_der_parts.specs.laws.ContentOf
+pub use Rattle.x509_der_parts.specs.laws.Tagged
+pub use Rattle.x509_der_parts.specs.laws.Choice
+pub use Rattle.x509_der_parts.specs.laws.PrimitiveContent
+pub use Rattle.x509_der_parts.specs.laws.DefinedBy
+pub use Rattle.x509_der_parts.specs.laws.Items
+pub use Rattle.x509_der_parts.specs.laws.Variant
+pub use Rattle.x509_der_parts.specs.laws.RoundTrip
+pub use Rattle.x509_der_parts.specs.laws.Structure
+pub use Rattle.x509_der_parts.specs.laws.Meaning
+pub use Rattle.x509_der_parts.specs.laws.Optional
+pub use Rattle.x509_der_parts.specs.laws.Join
+pub use Rattle.x509_der_parts.specs.laws.Prefixed
+pub use Rattle.x509_der_parts.specs.laws.RawElement
+pub use Rattle.x509_der_parts.specs.laws.SmallInteger
+pub use Rattle.x509_der_parts.specs.laws.NotEmpty
+pub use Rattle.x509_der_parts.specs.laws.Boolean
+pub use Rattle.x509_der_parts.specs.laws.View
+pub mod RawIn

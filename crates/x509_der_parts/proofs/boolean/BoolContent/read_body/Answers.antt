@@ -1,6 +1,0 @@
-use Rattle.x509_der_parts.specs.Truth.{IsTruth, truth_content, truth_plain}
-use Rattle.x509_der_parts.specs.ContentReads.{plain_accepts}
-use Rattle.x509_der_parts.proofs.boolean.BoolContent.read_body.Goals as goal
-
-pub returns-in-Some : goal.returns-in-Some
-returns-in-Some g c = plain_accepts IsTruth truth_content (λ v. Unit {0}) (Unit {0}) truth_plain c.args.reader.now c.take_rest-bytes.new.self c.take_rest-bytes.result.now c.in-Some.value c.requires c.take_rest-bytes.ensures c.in-Some.ensures.some

@@ -1,0 +1,20 @@
+-- That shapes keep their laws.
+pub mod StrictSpelling
+pub mod ContentOf
+pub mod Tagged
+pub mod Choice
+pub mod PrimitiveContent
+pub mod DefinedBy
+pub mod Items
+pub mod Variant
+pub mod RoundTrip
+pub mod Structure
+pub mod Meaning
+pub mod Optional
+pub mod Join
+pub mod Prefixed
+pub mod RawElement
+pub mod SmallInteger
+pub mod NotEmpty
+pub mod Boolean
+pub mod View

@@ -1,0 +1,71 @@
+//! A field, and then another that the first one's value chooses.
+
+ghost use Rattle.std.specs.Prelude.{◌≡◌, ◌++◌, ◌||◌, refl};
+ghost use Rattle.x509_der_parts.specs.facts.Lists.{same_append, same_pair};
+ghost use Rattle.x509_der_parts.specs.DefinedBy.{defined_by, KeyApart};
+ghost use Rattle.x509_der_parts.specs.laws.DefinedBy.{defined_by_lawful};
+
+use crate::errors::{ReadError, TooLong};
+use crate::reader::Reader;
+use crate::traits::{AnyDefinedBy, Field, ToDer};
+use crate::write::write_before;
+use std::alloc::Allocator;
+use std::marker::Model;
+
+/// A key, and then the value whose spelling the key chooses: a field DEFINED BY another, as a value by its object identifier.
+/// The key is any field that may be followed by whatever begins a value. Contracts see the pair of the two.
+///
+/// # Errors
+/// A read is refused where the key is, or where no value that the key allows follows it.
+#[derive(Drop)]
+pub struct DefinedBy<K, V>(pub K, pub V);
+
+impl<K, V> Model for DefinedBy<K, V> {
+    ghost Value = { K × V };
+
+    ghost view = { λ c. (c.0, c.1) };
+}
+
+impl<K: ToDer, V: ToDer> ToDer for DefinedBy<K, V> {
+    ghost strict = { λ c. K.strict c.0 ++ V.strict c.1 };
+
+    fn encoded_len(&self) -> Result<usize, TooLong> {
+        let key = self.0.encoded_len()?;
+        let value = self.1.encoded_len()?;
+        key.checked_add(value).ok_or(TooLong)
+    }
+
+    fn write_back(&self, out: &mut [u8]) -> usize {
+        let value = self.1.write_back(out);
+        write_before(&self.0, out, value)
+    }
+}
+
+impl<A: Allocator + Copy, K: Field<A>, V: AnyDefinedBy<K, A>> Field<A> for DefinedBy<K, V> {
+    ghost shape = { defined_by (λ c. c.0) (λ c. c.1) K.shape V.shapes V.starts V.avoids };
+
+    ghost fits = { K.fits × KeyApart K.shape V.starts };
+
+    ghost lawful = { λ h. defined_by_lawful (λ c. c.0) (λ c. c.1) (same_pair (λ c. c.0) (λ c. c.1) (λ a b. (a, b)) (λ x. refl)) K.shape V.shapes V.starts V.avoids (K.lawful h.0) V.family h.1 };
+
+    ghost alone = { ⊥ };
+
+    ghost elements = { λ h. absurd h };
+
+    ghost agrees = { λ c. same_append (K.agrees c.0) (V.shapes_agree c.0 c.1) };
+
+    fn starts(byte: u8) -> bool {
+        K::starts(byte) || V::starts(byte)
+    }
+
+    fn known(&self) {
+        self.0.known();
+        self.1.known_behind(&self.0);
+    }
+
+    fn read(alloc: A, reader: &mut Reader<'_, A>) -> Result<Self, ReadError> {
+        let key = K::read(alloc, reader)?;
+        let value = V::read_behind(alloc, &key, reader)?;
+        Ok(DefinedBy(key, value))
+    }
+}

@@ -1,0 +1,25 @@
+-- Lemmas about the definitions.
+pub use Rattle.x509_der_structures_parts.specs.facts.Alternatives
+pub use Rattle.x509_der_structures_parts.specs.facts.FeatureFacts
+pub use Rattle.x509_der_structures_parts.specs.facts.KeyReferenceFacts
+pub use Rattle.x509_der_structures_parts.specs.facts.KeyReferenceLaws
+pub use Rattle.x509_der_structures_parts.specs.facts.LabelFacts
+pub use Rattle.x509_der_structures_parts.specs.facts.Labels
+pub use Rattle.x509_der_structures_parts.specs.facts.LastFacts
+pub use Rattle.x509_der_structures_parts.specs.facts.Letters
+pub use Rattle.x509_der_structures_parts.specs.facts.NoticeFacts
+pub use Rattle.x509_der_structures_parts.specs.facts.Notices
+pub use Rattle.x509_der_structures_parts.specs.facts.Partly
+pub use Rattle.x509_der_structures_parts.specs.facts.ReleaseFacts
+pub use Rattle.x509_der_structures_parts.specs.facts.Stamps
+pub mod Apart
+pub mod Choices
+pub mod Contacts
+pub mod EditionFacts
+pub mod KindFacts
+pub mod Kinds
+pub mod Loose
+pub mod Nulls
+pub mod Optionals
+pub mod Times
+pub mod Validities

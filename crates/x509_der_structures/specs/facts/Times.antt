@@ -1,0 +1,20 @@
+-- The two forms of a time.
+use Rattle.std.specs.Prelude.{◌≡◌, refl}
+use Rattle.x509_der.specs.Types.{Choice}
+use Rattle.x509_der.specs.Types.choice.{First, Second}
+use Rattle.x509_der_structures.specs.declared.validity.Time.{Time}
+use Rattle.x509_der_structures.specs.declared.validity.Time.TheVariants.{Utc, Generalized}
+use Rattle.x509_der.specs.facts.Lists.{same_one}
+use Rattle.x509_prim.specs.Calendar.{Moment}
+use Rattle.x509_der_structures.specs.Times.{time_parts}
+
+abbrev pub time_of : Choice Moment Moment → Time
+time_of (First t) = Utc t
+time_of (Second t) = Generalized t
+
+time_made : (v : Time) → time_of (time_parts v) ≡ v
+time_made (Utc t) = refl
+time_made (Generalized t) = refl
+
+pub time_same : (v w : Time) → time_parts v ≡ time_parts w → v ≡ w
+time_same = same_one time_parts time_of time_made
