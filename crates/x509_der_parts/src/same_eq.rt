@@ -2,6 +2,7 @@
 
 use crate::deviation::{Deviation, Deviations, Place};
 use crate::errors::{ReadError, SliceError, TooLong, WriteError};
+use crate::reader::Spot;
 
 /// A type whose `==` answers true exactly where the two values are the same.
 pub trait SameEq: Eq {
@@ -32,6 +33,12 @@ impl SameEq for Deviations {
 }
 
 impl SameEq for Place {
+    ghost use Rattle.std.proofs.Common.{rules};
+
+    ghost decides = { Prim.search (rules) };
+}
+
+impl SameEq for Spot {
     ghost use Rattle.std.proofs.Common.{rules};
 
     ghost decides = { Prim.search (rules) };
