@@ -2,14 +2,20 @@
 use Rattle.std.proofs.Common.{◌≡◌, lit<, ℕ, ◌+◌, ◌≤◌, Bool, true, false, cond, List, [], ◌∷◌, ◌++◌, length, append-nil, refl, ap, sym, subst, ◌∙◌, arith, Option, Some, None}
 use Rattle.std.proofs.lemmas.Bool.Decides.{nat_tests}
 use Rattle.x509_der.specs.Types.{Deviation}
-use Rattle.x509_der.specs.Reading.{IsRaw}
+use Rattle.x509_der.specs.Reading.{IsRaw, Cursor, Ready, RawTaken, Accepts}
+use Rattle.x509_der.specs.reads.Cursor.{booked_none}
+use Rattle.x509_der.specs.reads.PrimitiveContent.{raw_accepts}
+use Rattle.x509_der.specs.reads.View.{viewed_accepts}
 use Rattle.x509_der.specs.facts.Lists.{same_pair}
 use Rattle.x509_der.specs.Element.{element, digits, header}
 use Rattle.x509_der.specs.Optional.{optional}
 use Rattle.x509_der.specs.RawElement.{raws}
 use Rattle.x509_der.specs.laws.View.{some_one}
-use Rattle.x509_der.specs.laws.Meaning.{IsMeaning}
-use Rattle.x509_der.specs.Tally.{Tally, none, joined}
+use Rattle.x509_der.specs.laws.RawElement.{raws_lawful, raws_element, raws_inner}
+use Rattle.x509_der.specs.View.{IsSeen}
+use Rattle.x509_der.specs.MarkOrder.{Deep}
+use Rattle.x509_der.specs.laws.Meaning.{IsMeaning, Markable, seen_one, seen_lawful, seen_element}
+use Rattle.x509_der.specs.Tally.{Tally, Mark, none, joined}
 use Rattle.x509_der.specs.facts.Element.{element_one}
 use Rattle.x509_der.specs.Shape.{Shape, Lawful, IsElement}
 use Rattle.x509_der.specs.laws.NotEmpty.{full}
@@ -20,7 +26,7 @@ use Rattle.x509_der.specs.facts.Fields.{stands_whole}
 use Rattle.x509_der.specs.Items.{Items, items}
 use Rattle.x509_der.specs.laws.Items.{items_lawful}
 use Rattle.x509_der.specs.facts.ItemPlaces.{item_exactly}
-use Rattle.x509_keys.specs.RawAlgorithm.{RawAlgorithm, is_null, without_null, from_parts, written_parameters, Fields, inner, base, kinds_of, meaning, written_fields, NotNull, RawIfThere, IsRawAlgorithm, raw_meaning, raw_algorithm, TwoAt}
+use Rattle.x509_keys.specs.RawAlgorithm.{RawAlgorithm, is_null, without_null, written_parameters, NotNull, RawIfThere, IsParameters, AnyParameters, element_meaning, parameters_meaning, parameters, Fields, inner, base, kinds_of, if_there, meaning, written_fields, IsRawAlgorithm, raw_meaning, raw_algorithm, TwoAt}
 
 null_raw : IsRaw (5 ∷ 0 ∷ [])
 unfolding element digits
@@ -29,9 +35,6 @@ null_raw = record { tag = 5; content = []; fits = refl; byte = lit< tt; bytes = 
 written_valid : (p : Option (List ℕ)) → RawIfThere p → IsRaw (written_parameters p)
 written_valid None h = null_raw
 written_valid (Some r) h = h
-
-pub written_fields_valid : (v : RawAlgorithm) → IsRawAlgorithm v → inner.valid (written_fields v)
-written_fields_valid v h = (h.lawful, written_valid v.parameters h.element)
 
 null_is : (r : List ℕ) → is_null r ≡ true → r ≡ 5 ∷ 0 ∷ []
 null_is [] h = cc
@@ -47,7 +50,7 @@ not_null_test : (r : List ℕ) (t : Bool) → is_null r ≡ t → NotNull (cond 
 not_null_test r true e = tt
 not_null_test r false e = e
 
-without_null_is : (p : Option (List ℕ)) → NotNull (without_null p)
+pub without_null_is : (p : Option (List ℕ)) → NotNull (without_null p)
 without_null_is None = tt
 without_null_is (Some r) = not_null_test r (is_null r) refl
 
@@ -55,44 +58,84 @@ raw_test : (r : List ℕ) (t : Bool) → IsRaw r → RawIfThere (cond t None (So
 raw_test r true h = tt
 raw_test r false h = h
 
-still_raw : (p : Option (List ℕ)) → RawIfThere p → RawIfThere (without_null p)
-still_raw None h = tt
-still_raw (Some r) h = raw_test r (is_null r) h
-
-raw_there : (p : Option (List ℕ)) → (optional raws).valid p → RawIfThere p
-raw_there None h = tt
-raw_there (Some r) h = h
-
 written_test : (r : List ℕ) (t : Bool) → is_null r ≡ t → r ≡ written_parameters (cond t None (Some r))
 written_test r true e = null_is r e
 written_test r false e = refl
 
-clean_parameters : (p : Option (List ℕ)) → kinds_of p ≡ [] → p ≡ Some (written_parameters (without_null p))
-clean_parameters None e = cc
-clean_parameters (Some r) e = ap Some (written_test r (is_null r) refl)
+parameters_means : IsMeaning parameters_meaning raws
+parameters_means = record {
+  written = λ v d r. (ap (λ p. Some (p, [])) (back_again v d.not_null), written_valid v d.element, tt);
+  stays = λ v d. written_valid v d.element;
+  clean = λ b v e d r. written_test b (is_null b) refl ∙ ap written_parameters (some_one (without_null (Some b)) v [] [] e).0;
+  kept = λ b v ks e d. rw (← (some_one (without_null (Some b)) v [] ks e).0) (record { element = raw_test b (is_null b) d; not_null = without_null_is (Some b) });
+  read = λ b v ks e r. tt;
+}
 
-few_kinds : (p : Option (List ℕ)) → length (kinds_of p) ≤ 1
+no_kind : (b : List ℕ) (v : Option (List ℕ)) (ks : List Deviation) → element_meaning b ≡ Some (v, ks) → length ks ≤ 1
+no_kind b v ks e = omega (arith, ap length (some_one (without_null (Some b)) v [] ks e).1)
+
+deep_none : (ms : List Mark) → ms ≡ [] → Deep ms
+deep_none [] e = tt
+deep_none (m ∷ ms) e = cc
+
+raws_markable : Markable raws
+raws_markable = record {
+  deep = λ b p y a. (omega (arith, raws_lawful.cost b p y a, ap (λ (x : Tally). x.headers) a.tally), deep_none y.marks (ap (λ (x : Tally). x.marks) a.tally));
+  spare = λ b p y a. omega (arith, ap (λ (x : Tally). x.headers) a.tally, ap (λ (x : Tally). length x.marks) a.tally);
+  inner = raws_inner;
+}
+
+parameters_seen : IsSeen parameters_meaning raws
+parameters_seen = seen_one parameters_meaning raws raws_markable parameters_means no_kind
+
+pub parameters_lawful : Lawful parameters
+parameters_lawful = seen_lawful parameters_meaning raws raws_lawful parameters_seen
+
+pub parameters_element : IsElement parameters
+parameters_element = seen_element parameters_meaning raws raws_element parameters_means
+
+-- an element was taken: it is the parameters
+pub parameters_taken : (old new : Cursor) (p : List ℕ) → Ready old → RawTaken old new p → new.headers ≡ old.headers + 1 → new.counts ≡ old.counts → new.at + length new.rest ≡ old.at + length old.rest → new.places ≡ old.places → Accepts parameters old new (without_null (Some p))
+parameters_taken old new p r t h c at places =
+    viewed_accepts element_meaning written_parameters IsParameters AnyParameters raws raws_lawful parameters_seen old new new p (without_null (Some p)) [] r (raw_accepts old new p p r t refl h c at places) refl (booked_none old new)
+
+parameters_there : (p : Option (Option (List ℕ))) → (optional parameters).valid p → IsParameters (if_there p)
+parameters_there None h = record { element = tt; not_null = tt }
+parameters_there (Some p) h = h
+
+clean_parameters : (p : Option (Option (List ℕ))) → kinds_of p ≡ [] → p ≡ Some (if_there p)
+clean_parameters None e = cc
+clean_parameters (Some p) e = refl
+
+few_kinds : (p : Option (Option (List ℕ))) → length (kinds_of p) ≤ 1
 few_kinds None = omega arith
-few_kinds (Some r) = omega arith
+few_kinds (Some p) = omega arith
+
+abbrev of_fields : Fields → RawAlgorithm
+of_fields b = record { algorithm = b.0; parameters = if_there b.1 }
+
+pub written_fields_valid : (v : RawAlgorithm) → IsRawAlgorithm v → inner.valid (written_fields v)
+written_fields_valid v h = (h.lawful, record { element = h.element; not_null = h.not_null })
 
 pub raw_algorithm_means : IsMeaning raw_meaning base
 raw_algorithm_means = record {
-  written = λ v d r. (ap (λ p. Some (record { algorithm = v.algorithm; parameters = p }, [])) (back_again v.parameters d.not_null), written_fields_valid v d, (tt, tt));
+  written = λ v d r. (refl, written_fields_valid v d, (tt, tt));
   stays = written_fields_valid;
   clean = λ b v e d r.
-      let k = some_one (from_parts b.0 b.1) v (kinds_of b.1) [] e in
-      let p : b.1 ≡ Some (written_parameters v.parameters) = clean_parameters b.1 k.1 ∙ ap (λ (x : RawAlgorithm). Some (written_parameters x.parameters)) k.0 in
+      let k = some_one (of_fields b) v (kinds_of b.1) [] e in
+      let p : b.1 ≡ Some v.parameters = clean_parameters b.1 k.1 ∙ ap (λ (x : RawAlgorithm). Some x.parameters) k.0 in
       let o : b.0 ≡ v.algorithm = ap (λ (x : RawAlgorithm). x.algorithm) k.0 in
       same_pair (λ (x : Fields). x.0) (λ x. x.1) (λ x y. (x, y)) (λ x. refl) b (written_fields v) o p;
   kept = λ b v ks e d.
-      let k = (some_one (from_parts b.0 b.1) v (kinds_of b.1) ks e).0 in
-      rw (← k) (record { lawful = d.0; element = still_raw b.1 (raw_there b.1 d.1); not_null = without_null_is b.1 });
+      let k = (some_one (of_fields b) v (kinds_of b.1) ks e).0 in
+      let h = parameters_there b.1 d.1 in
+      rw (← k) (record { lawful = d.0; element = h.element; not_null = h.not_null });
   read = λ b v ks e r. tt;
 }
 
 -- at most one deviation
 pub one_kind : (b : Fields) (v : RawAlgorithm) (ks : List Deviation) → meaning b ≡ Some (v, ks) → length ks ≤ 1
-one_kind b v ks e = omega (arith, few_kinds b.1, ap length (some_one (from_parts b.0 b.1) v (kinds_of b.1) ks e).1)
+one_kind b v ks e = omega (arith, few_kinds b.1, ap length (some_one (of_fields b) v (kinds_of b.1) ks e).1)
 
 -- a list of two
 abbrev list : Shape (List RawAlgorithm)
