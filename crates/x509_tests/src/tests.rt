@@ -3,10 +3,12 @@
 mod clones;
 mod elements;
 mod fields;
+mod forms;
 mod identifiers;
 mod lists;
 mod no_memory;
 mod numbers;
+mod parts;
 mod raw_algorithms;
 mod refusals;
 mod rows;

@@ -15,8 +15,8 @@ use x509_der::{
     IntegerAsn1, ObjectIdentifierAsn1, OctetStringAsn1, OctetStringAsn1Container, ReadError,
     read_metered,
 };
-use x509_der_structures::{Contact, Mark, Optionals, Preference, Validity};
-use x509_keys::{DigestInfo, RawAlgorithmIdentifier};
+use x509_der_structures::{Contact, Mark, Optionals, Preference, Stamp, Validity};
+use x509_keys::RawAlgorithmIdentifier;
 use x509_prim::{
     BmpStringAsn1, GeneralizedTimeAsn1, Ia5StringAsn1, PrintableStringAsn1, UtcTimeAsn1, Utf8String,
 };
@@ -583,20 +583,22 @@ const ALGORITHM_LISTS: &[Refusal<'static>] = &[
     ("3005300306012a00", 3, Some(LeftOver)),
 ];
 
-/// No algorithm and OCTET STRING.
-const DIGESTS: &[Refusal<'static>] = &[
-    // no digest
-    ("3005300306012a", 4, None),
-    // bits in its place
-    ("3009300306012a03020055", 4, Some(WrongTag)),
-    // a digest that is cut
-    ("3008300306012a0402a5", 4, Some(Truncated)),
-    // an algorithm without its last byte
-    ("30083003060180040155", 3, Some(BadOid)),
-    // an element behind the digest
-    ("300a300306012a0401a50500", 4, Some(LeftOver)),
+/// No identifier and octets.
+const STAMPS: &[Refusal<'static>] = &[
+    // no identifier
+    ("3000", 2, None),
+    // no octets
+    ("300306012a", 3, None),
+    // bits in their place
+    ("300706012a03020055", 3, Some(WrongTag)),
+    // octets that are cut
+    ("300606012a0402a5", 3, Some(Truncated)),
+    // an identifier without its last byte
+    ("3006060180040155", 2, Some(BadOid)),
+    // an element behind the octets
+    ("300806012a0401a50500", 3, Some(LeftOver)),
     // a byte behind it
-    ("3008300306012a0401a500", 4, Some(LeftOver)),
+    ("300606012a0401a500", 3, Some(LeftOver)),
 ];
 
 #[test]
@@ -607,7 +609,7 @@ fn algorithms(rt: HostRuntime) {
 }
 
 #[test]
-fn digests(rt: HostRuntime) {
+fn stamps(rt: HostRuntime) {
     let alloc = rt.alloc();
-    all_refused::<DigestInfo>(&rt, alloc, DIGESTS);
+    all_refused::<Stamp>(&rt, alloc, STAMPS);
 }
