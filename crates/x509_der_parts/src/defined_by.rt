@@ -12,7 +12,7 @@ use crate::write::write_before;
 use std::alloc::Allocator;
 use std::marker::Model;
 
-/// A key, and then the value whose spelling the key chooses: a field DEFINED BY another, as a value by its object identifier.
+/// A key, and then the value whose encoding the key chooses: a field DEFINED BY another, as a value by its object identifier.
 /// The key is any field that may be followed by whatever begins a value. Contracts see the pair of the two.
 ///
 /// # Errors

@@ -1,4 +1,4 @@
-//! Spellings that are read and not written: which there are, how many of each were met, and where.
+//! Encodings that are read and not written: which there are, how many of each were met, and where.
 
 ghost use Rattle.std.specs.Prelude.{◌≡◌, ◌+◌, ◌<◌, ◌≤◌, ◌^◌, ◌↔◌, ℕ, IsTrue, sum, slice_set, slice_index, replicate, length};
 ghost use Rattle.x509_der_parts.specs.Deviations.{Together};
@@ -6,7 +6,7 @@ ghost use Rattle.x509_der_parts.specs.Deviations.{kind_index};
 
 use std::marker::Model;
 
-/// The ten loose spellings that are read and not written. The list is closed.
+/// The ten loose encodings that are read and not written. The list is closed.
 #[derive(Clone, Copy, Debug, PartialEq, Eq)]
 pub enum Deviation {
     /// An algorithm of the RSA family stands without parameters (RFC 4055, 1.2 and 5; RFC 8017, A.1). They are written as NULL.
@@ -131,7 +131,7 @@ impl Deviations {
         self.counts.iter().sum()
     }
 
-    /// Whether none was met, so that the input is the strict spelling of its value.
+    /// Whether none was met, so that the input is the DER encoding of its value.
     pub fn is_none(&self) -> bool
         ensures { IsTrue result ↔ (sum self.now ≡ 0) }
     {

@@ -61,25 +61,25 @@ pub enum WriteError {
     /// The one request for memory was refused.
     #[error("out of memory")]
     OutOfMemory,
-    /// The spelling's length is above the greatest `usize`.
-    #[error("the spelling is too long")]
+    /// The encoding's length is above the greatest `usize`.
+    #[error("the encoding is too long")]
     TooLong,
 }
 
 /// Why a write into a slice is refused. The slice is as it was.
 #[derive(Clone, Copy, Debug, PartialEq, Eq, Error)]
 pub enum SliceError {
-    /// The slice is shorter than the spelling.
+    /// The slice is shorter than the encoding.
     #[error("the slice is too short")]
     TooShort,
-    /// The spelling's length is above the greatest `usize`.
-    #[error("the spelling is too long")]
+    /// The encoding's length is above the greatest `usize`.
+    #[error("the encoding is too long")]
     TooLong,
 }
 
-/// A spelling's length is above the greatest `usize`.
+/// An encoding's length is above the greatest `usize`.
 #[derive(Clone, Copy, Debug, PartialEq, Eq, Error)]
-#[error("the spelling is too long")]
+#[error("the encoding is too long")]
 pub struct TooLong;
 
 impl From<AllocError> for ReadError {

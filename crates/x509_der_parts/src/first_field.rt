@@ -52,7 +52,7 @@ fn read_both<F: Field<A>, G: Field<A>, A: Allocator + Copy>(
 
 /// Reads a value from the whole of the bytes, which are a SEQUENCE of the fields `F` and `G`, and answers the bytes of the
 /// first field with it, as a signature covers them. The deviations inside those bytes are counted apart from the others:
-/// where there are none inside, the bytes are the first field's strict spelling, and else they aren't.
+/// where there are none inside, the bytes are the first field's DER encoding, and else they aren't.
 ///
 /// # Errors
 /// Refused exactly where the grammar relates the bytes to no value, or memory is refused. Fields that can be read without

@@ -45,7 +45,7 @@ pub fn release_takes_no_memory<A: Allocator + Copy>()
 /// Reads a release.
 ///
 /// # Errors
-/// Refused where the bytes are none of its spellings, also where they spell another number; never for memory.
+/// Refused where the bytes are none of its encodings, also where they spell another number; never for memory.
 pub fn read_release<A: Allocator + Copy>(alloc: A, bytes: &[u8]) -> Result<Release, ReadError>
     ensures read { WholeRead release bytes.now result }
     ensures memory { IfErr result (λ e. e ≡ OutOfMemory → ⊥) }
@@ -67,7 +67,7 @@ pub fn key_reference_fields<A: Allocator + Copy>()
     fields::<KeyReference<A>, A>();
 }
 
-/// A spelling of a key reference has one deviation over the whole where its fields aren't strictly ascending, and no other.
+/// An encoding of a key reference has one deviation over the whole where its fields aren't strictly ascending, and no other.
 pub fn key_reference_marks<A: Allocator>()
     ensures { (v : KeyReference A) (string : List ℕ) (y : Tally) → key_reference.spelled v string y → ReferenceMarks v string y }
 {}

@@ -11,7 +11,7 @@ use x509_der::{ReadError, SameEq, WriteError};
 /// Why a text gives no output.
 #[derive(Clone, Copy, Debug, PartialEq, Eq, Error)]
 pub enum ToolFault {
-    /// The input is no spelling of the type.
+    /// The input is no encoding of the type.
     #[error("refused")]
     Refused,
     /// The type is not one that is served, or the input isn't hexadecimal text.
@@ -20,7 +20,7 @@ pub enum ToolFault {
     /// A request for memory was refused.
     #[error("out of memory")]
     OutOfMemory,
-    /// The strict spelling's length is above the greatest `usize`.
+    /// The DER encoding's length is above the greatest `usize`.
     #[error("too long")]
     TooLong,
 }

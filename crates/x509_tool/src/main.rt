@@ -1,4 +1,4 @@
-//! The program `x509_tool TYPE`: reads hexadecimal DER from standard input, and prints its strict spelling and how many
+//! The program `x509_tool TYPE`: reads hexadecimal DER from standard input, and prints its DER encoding and how many
 //! deviations of each kind stood in it.
 #![tactic(auto)]
 

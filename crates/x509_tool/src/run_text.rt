@@ -33,13 +33,13 @@ fn answer<T: FromDer<A>, A: Allocator + Copy>(
     Ok(text)
 }
 
-/// What the program prints for the type's name and the hexadecimal text of an input: the strict spelling of the value in
+/// What the program prints for the type's name and the hexadecimal text of an input: the DER encoding of the value in
 /// lower-case hexadecimal on a line, and the ten counts of deviations on a line.
 ///
 /// # Errors
 /// `Usage`, exactly where the name isn't that of a type that is served, and before memory is asked for, or the text isn't an
 /// even number of hexadecimal digits of either case with at most one line feed at its end; else `Refused`, exactly where the
-/// bytes aren't spelled with a value of the type; `TooLong`, exactly where its strict spelling is longer than a `usize` can
+/// bytes aren't spelled with a value of the type; `TooLong`, exactly where its DER encoding is longer than a `usize` can
 /// say. `OutOfMemory` may stand in place of any answer but that to an unknown name, where memory is refused.
 pub fn run_text<A: Allocator + Copy>(
     alloc: A,

@@ -12,7 +12,7 @@ fn identifier_of(rt: &impl Abort, alloc: Global, text: &str) -> ObjectIdentifier
     ObjectIdentifier::from(wrapped.expect(rt, text))
 }
 
-/// Spellings in hexadecimal, and their two arcs.
+/// Encodings in hexadecimal, and their two arcs.
 const TWO_ARCS: &[(&str, u64, u64)] = &[
     ("06028837", 2, 999),
     ("060a81ffffffffffffffff7f", 2, 18446744073709551535),

@@ -21,7 +21,7 @@ fn numbers_of_utc(time: &UTCTime) -> Numbers {
     (year, month, day, time.hour(), time.minute(), time.second())
 }
 
-/// Spellings and their numbers.
+/// Encodings and their numbers.
 const UTC_TIMES: &[(&str, Numbers)] = &[
     // 500101000000Z
     ("170d3530303130313030303030305a", (1950, 1, 1, 0, 0, 0)),
@@ -63,7 +63,7 @@ fn numbers_of_generalized(time: &GeneralizedTime) -> Numbers {
     (year, month, day, time.hour(), time.minute(), time.second())
 }
 
-/// Spellings and their numbers.
+/// Encodings and their numbers.
 const GENERALIZED_TIMES: &[(&str, Numbers)] = &[
     // 00000229000000Z
     ("180f30303030303232393030303030305a", (0, 2, 29, 0, 0, 0)),

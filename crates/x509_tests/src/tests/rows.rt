@@ -47,7 +47,7 @@ impl Heap for &Refusing<Global> {
     }
 }
 
-/// A spelling in hexadecimal, the strict spelling of its value, where its deviations stand, how many headers it has, and
+/// An encoding in hexadecimal, the DER encoding of its value, where its deviations stand, how many headers it has, and
 /// its fields.
 #[derive(Clone, Copy)]
 pub struct Row<'a> {
@@ -59,7 +59,7 @@ pub struct Row<'a> {
 }
 
 impl<'a> Row<'a> {
-    /// A strict spelling with so many headers and no fields.
+    /// A DER encoding with so many headers and no fields.
     pub(super) fn strict(input: &'a str, headers: usize) -> Row<'a> {
         Row {
             input,
@@ -71,7 +71,7 @@ impl<'a> Row<'a> {
     }
 }
 
-/// What is stated of a type, in hexadecimal: strict spellings with their headers, other rows, and what isn't read.
+/// What is stated of a type, in hexadecimal: DER encodings with their headers, other rows, and what isn't read.
 #[derive(Clone, Copy)]
 pub struct Table<'a> {
     pub strict: &'a [(&'a str, usize)],
@@ -246,7 +246,7 @@ fn first<T: Drop, R: Drop>(answer: Result<(T, R), ReadError>) -> Result<T, ReadE
     }
 }
 
-/// What a read showed whose value should have this strict spelling, for which there is room.
+/// What a read showed whose value should have this DER encoding, for which there is room.
 fn read_turn<T: ToDer + Drop>(
     answer: Result<T, ReadError>,
     strict: &[u8],
@@ -262,7 +262,7 @@ fn read_turn<T: ToDer + Drop>(
     }
 }
 
-/// How many requests the call makes where it reads the value of this strict spelling, and want of memory where one is
+/// How many requests the call makes where it reads the value of this DER encoding, and want of memory where one is
 /// refused.
 fn requests_of<A: Heap, T: FromDer<A>>(
     reading: Reading,
@@ -307,7 +307,7 @@ fn writes_in_turn<A: Heap, T: ToDer>(heap: A, value: &T, strict: &[u8]) -> Optio
     })
 }
 
-/// Every call that writes gives the strict spelling and leaves what stands behind it; `to_vec` takes memory once, and the
+/// Every call that writes gives the DER encoding and leaves what stands behind it; `to_vec` takes memory once, and the
 /// others never.
 pub(super) fn writes<A: Heap, T: FromDer<A>>(
     rt: &impl Abort,
@@ -379,7 +379,7 @@ fn copies_in_turn<'v, A: Heap, T: CloneEq + PartialEq>(
     heap.in_turn(|| copy_turn(value.clone_eq(), value, before))
 }
 
-/// The value of the spelling is cloned as itself, by either call, also where memory is refused first.
+/// The value of the encoding is cloned as itself, by either call, also where memory is refused first.
 fn copies<A: Heap, T: FromDer<A> + OwnClone + PartialEq>(rt: &impl Abort, heap: A, text: &str) {
     let input = bytes_of(rt, heap, text);
     let value = from_bytes::<T, _>(heap, &input).expect(rt, text);

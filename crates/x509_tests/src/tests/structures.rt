@@ -111,7 +111,7 @@ fn values_of_known_kinds(rt: HostRuntime) {
     values_of_known_kinds_over(&rt, &heap);
 }
 
-/// A number, the texts a, CH and a@b, the character a, and 17 October 2019 at 17:41:28 in both spellings.
+/// A number, the texts a, CH and a@b, the character a, and 17 October 2019 at 17:41:28 in both encodings.
 const CONTACT: &str =
     "30330201050c01611302434880036140621e020061170d3139313031373137343132385a180f32303139313031373137343132385a";
 

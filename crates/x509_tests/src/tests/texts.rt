@@ -67,7 +67,7 @@ fn rows_of_bmp_strings(rt: HostRuntime) {
     rows_of_bmp_strings_over(&rt, &heap);
 }
 
-/// The examples of RFC 3629, 7; and spellings that are too long, are surrogates, or pass U+10FFFF (RFC 3629, 3 and 10).
+/// The examples of RFC 3629, 7; and encodings that are too long, are surrogates, or pass U+10FFFF (RFC 3629, 3 and 10).
 const UTF8_STRINGS: Table<'static> = Table {
     strict: &[
         ("0c00", 1),
