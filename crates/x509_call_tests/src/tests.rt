@@ -2,6 +2,8 @@
 
 mod checks;
 mod elements;
+mod equality;
+mod first_fields;
 mod identifiers;
 mod lists;
 mod memory;

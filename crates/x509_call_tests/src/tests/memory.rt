@@ -5,7 +5,9 @@ use super::checks::same;
 use refusing::{Refusing, Turn};
 use std::alloc::{AllocError, Allocator};
 use std::process::Abort;
-use x509_der::{BitString, IntegerAsn1, ObjectIdentifier, OidError};
+use x509_der::{
+    BitString, IntegerAsn1, ObjectIdentifier, ObjectIdentifierAsn1, OidError, ReadError, from_bytes,
+};
 use x509_prim::BmpString;
 
 /// What a run of a maker showed.
@@ -36,6 +38,32 @@ fn identifiers_are_made_over<A: Heap>(rt: &impl Abort, heap: A) {
 fn identifiers_are_made(rt: HostRuntime) {
     let heap = Refusing::new(rt.alloc());
     identifiers_are_made_over(&rt, &heap);
+}
+
+/// What a run showed that should read an identifier of these arcs.
+fn read_turn<A: Allocator>(
+    answer: Result<ObjectIdentifierAsn1<A>, ReadError>,
+    arcs: &[u64],
+) -> Turn {
+    match answer {
+        Ok(value) => Turn::right(value.0.is_arcs(arcs)),
+        Err(ReadError::OutOfMemory) => Turn::Refused,
+        Err(_other) => Turn::Wrong,
+    }
+}
+
+/// An identifier that is read takes memory once, however many arcs it has.
+fn identifiers_are_read_over<A: Heap>(rt: &impl Abort, heap: A) {
+    let bytes = b"\x06\x08\x2A\x86\x48\x86\xF7\x0D\x02\x09".as_slice();
+    let arcs = [1, 2, 840, 113549, 2, 9];
+    let requests = heap.in_turn(|| read_turn(from_bytes(heap, bytes), &arcs));
+    same(rt, &requests, &Some(1), "requests");
+}
+
+#[test]
+fn identifiers_are_read(rt: HostRuntime) {
+    let heap = Refusing::new(rt.alloc());
+    identifiers_are_read_over(&rt, &heap);
 }
 
 /// The bytes of a signed number are held as these.
@@ -112,6 +140,50 @@ fn zero_is_made_over<A: Heap>(rt: &impl Abort, heap: A) {
 fn zero_is_made(rt: HostRuntime) {
     let heap = Refusing::new(rt.alloc());
     zero_is_made_over(&rt, &heap);
+}
+
+/// The integer of a number is held as these bytes, and tells the number.
+fn natural_is_right<A: Allocator + Copy>(
+    alloc: A,
+    number: u64,
+    held: &[u8],
+) -> Result<bool, AllocError> {
+    let made = IntegerAsn1::from_u64(alloc, number)?;
+    Ok(made.as_bytes() == held && made.to_u64() == Some(number))
+}
+
+/// How many requests the integer of a number makes.
+fn natural_requests<A: Heap>(heap: A, number: u64, held: &[u8]) -> Option<u64> {
+    heap.in_turn(|| made_turn(natural_is_right(heap, number, held)))
+}
+
+/// Numbers, and the contents of their integers.
+const NATURALS: &[(u64, &[u8])] = &[
+    (0, b"\x00"),
+    (127, b"\x7F"),
+    (128, b"\x00\x80"),
+    (255, b"\x00\xFF"),
+    (256, b"\x01\x00"),
+    (9223372036854775807, b"\x7F\xFF\xFF\xFF\xFF\xFF\xFF\xFF"),
+    (9223372036854775808, b"\x00\x80\x00\x00\x00\x00\x00\x00\x00"),
+    (
+        18446744073709551615,
+        b"\x00\xFF\xFF\xFF\xFF\xFF\xFF\xFF\xFF",
+    ),
+];
+
+/// The test of this name, over any such allocator.
+fn naturals_are_made_over<A: Heap>(rt: &impl Abort, heap: A) {
+    for (number, held) in NATURALS {
+        let requests = natural_requests(heap, *number, *held);
+        same(rt, &requests, &Some(1), "requests");
+    }
+}
+
+#[test]
+fn naturals_are_made(rt: HostRuntime) {
+    let heap = Refusing::new(rt.alloc());
+    naturals_are_made_over(&rt, &heap);
 }
 
 /// So many bits, none of which is set.

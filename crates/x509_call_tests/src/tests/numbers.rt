@@ -1,6 +1,6 @@
 //! Truth values and integers.
 
-use super::checks::{bytes_of, same_bytes};
+use super::checks::{bytes_of, same, same_bytes};
 use std::alloc::Global;
 use x509_der::{IntegerAsn1, from_bytes, to_vec};
 
@@ -79,4 +79,26 @@ fn minimal_contents_are_taken(rt: HostRuntime) {
         .expect(&rt, "a number");
     let written = to_vec(alloc, &number).expect(&rt, "memory");
     same_bytes(&rt, &written, &[2, 2, 0xFF, 0x7F], "written");
+}
+
+/// Contents of numbers below 0 and above 2^64 - 1.
+const NO_NATURALS: &[&str] = &[
+    "ff",
+    "80",
+    "ff7f",
+    "8000000000000000",
+    "ff0000000000000000",
+    "010000000000000000",
+    "0100000000000000000000",
+];
+
+#[test]
+fn other_numbers_are_not_told(rt: HostRuntime) {
+    for content in NO_NATURALS {
+        let bytes = bytes_of(&rt, rt.alloc(), *content);
+        let number = IntegerAsn1::from_signed_content(bytes)
+            .ok()
+            .expect(&rt, "a number");
+        same(&rt, &number.to_u64(), &None, *content);
+    }
 }

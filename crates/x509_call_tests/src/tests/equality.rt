@@ -1,0 +1,34 @@
+//! Places and errors that are compared.
+
+use super::checks::is_so;
+use x509_der::{Deviation, OidError, Place};
+use x509_prim::CharSetError;
+
+/// The deviation of a name's form over the bytes from `start` to `end`.
+fn form_at(start: usize, end: usize) -> Place {
+    Place {
+        kind: Deviation::GeneralNameForm,
+        start,
+        end,
+    }
+}
+
+#[test]
+fn places_are_compared(rt: HostRuntime) {
+    let other = Place {
+        kind: Deviation::SkippedKeyElement,
+        start: 2,
+        end: 7,
+    };
+    is_so(&rt, form_at(2, 7) == form_at(2, 7), "the same place");
+    is_so(&rt, form_at(2, 7) != form_at(3, 7), "another start");
+    is_so(&rt, form_at(2, 7) != form_at(2, 8), "another end");
+    is_so(&rt, form_at(2, 7) != other, "another kind");
+}
+
+#[test]
+fn errors_are_compared(rt: HostRuntime) {
+    is_so(&rt, OidError::Bad == OidError::Bad, "the same error");
+    is_so(&rt, OidError::Bad != OidError::OutOfMemory, "another error");
+    is_so(&rt, CharSetError == CharSetError, "the only error");
+}
