@@ -13,8 +13,8 @@ last under (h ∷ hs) = later (last under hs) (under h)
 
 -- the first tag's number is least or more, and each is above the one before it
 abbrev pub ascends_from : {H : Type 0} → (H → ℕ) → ℕ → List H → Bool
-ascends_from number min_headers [] = true
-ascends_from number min_headers (h ∷ hs) = nat_le min_headers (number h) && ascends_from number (number h + 1) hs
+ascends_from number least [] = true
+ascends_from number least (h ∷ hs) = nat_le least (number h) && ascends_from number (number h + 1) hs
 
 -- the tags' numbers are strictly ascending
 abbrev pub ascends : {H : Type 0} → (H → ℕ) → List H → Bool

@@ -70,13 +70,13 @@ fn number_of<A: Allocator>(field: &Hint<A>) -> u8
 fn are_ascending<A: Allocator>(fields: &[Hint<A>]) -> bool
     ensures { result ≡ ascends number fields.now }
 {
-    let mut min_headers: u8 = 0;
+    let mut least: u8 = 0;
     'fields: for field in fields {
         let number = number_of(field);
-        if number < min_headers {
+        if number < least {
             return false;
         }
-        min_headers = number + 1;
+        least = number + 1;
     }
     true
 }

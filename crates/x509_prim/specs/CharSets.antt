@@ -3,7 +3,7 @@ use Rattle.std.specs.Prelude.{ℕ, ◌%◌, Bool, ◌&&◌, ◌||◌, ◌==◌, 
 use Rattle.std.specs.List.{list_all, list_any}
 
 abbrev pub is_within : ℕ → ℕ → ℕ → Bool
-is_within min_headers most c = nat_le min_headers c && nat_le c most
+is_within least most c = nat_le least c && nat_le c most
 
 -- a letter, a digit, a space, or one of ' ( ) + , - . / : = ? (X.680, 41.4)
 abbrev pub is_printable : ℕ → Bool

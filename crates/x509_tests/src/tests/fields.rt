@@ -7,7 +7,7 @@ use std::process::Abort;
 /// starts, and the universal tags that may stand there.
 #[derive(Clone, Copy)]
 pub struct Field<'a> {
-    pub tagged: &'a [usize],
+    pub around: &'a [usize],
     pub start: usize,
     pub tags: &'a [u8],
 }
@@ -78,7 +78,7 @@ fn element<A: Heap>(rt: &impl Abort, heap: A, tag: u8, content: &[u8]) -> Vec<u8
 }
 
 /// The element at `outer` with another one in the place of what begins and ends within it.
-fn tagged<A: Heap>(
+fn around<A: Heap>(
     rt: &impl Abort,
     heap: A,
     input: &[u8],
@@ -87,7 +87,7 @@ fn tagged<A: Heap>(
     inner: &[u8],
 ) -> Vec<u8, A> {
     let tag = *input.get(outer).expect(rt, "a tag");
-    let (from, to) = content_of(input, outer).expect(rt, "an element tagged it");
+    let (from, to) = content_of(input, outer).expect(rt, "an element around it");
     let before = input.get(from..place.0).expect(rt, "a field within");
     let behind = input.get(place.1..to).expect(rt, "a field within");
     let mut content = Vec::from_slice(heap, before).expect(rt, "memory");
@@ -108,11 +108,11 @@ pub(super) fn replaced<A: Heap>(
     let (_from, mut end) = content_of(input, field.start).expect(rt, "an element");
     let mut start = field.start;
     let mut inner = element(rt, heap, tag, content);
-    for outer in field.tagged.iter().rev() {
-        inner = tagged(rt, heap, input, *outer, (start, end), &inner);
+    for outer in field.around.iter().rev() {
+        inner = around(rt, heap, input, *outer, (start, end), &inner);
         start = *outer;
         end = content_of(input, start)
-            .expect(rt, "an element tagged it")
+            .expect(rt, "an element around it")
             .1;
     }
     inner

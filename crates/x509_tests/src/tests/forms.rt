@@ -29,7 +29,7 @@ const LABELS: Table<'static> = Table {
             places: &[],
             headers: 2,
             fields: &[Field {
-                tagged: &[0],
+                around: &[0],
                 start: 2,
                 tags: &[0x01],
             }],
@@ -40,7 +40,7 @@ const LABELS: Table<'static> = Table {
             places: &[],
             headers: 2,
             fields: &[Field {
-                tagged: &[0],
+                around: &[0],
                 start: 2,
                 tags: &[0x02],
             }],
@@ -51,7 +51,7 @@ const LABELS: Table<'static> = Table {
             places: &[(Deviation::GeneralNameForm, 0, 6)],
             headers: 2,
             fields: &[Field {
-                tagged: &[0],
+                around: &[0],
                 start: 2,
                 tags: &[0x04],
             }],
@@ -62,7 +62,7 @@ const LABELS: Table<'static> = Table {
             places: &[(Deviation::GeneralNameForm, 0, 5)],
             headers: 2,
             fields: &[Field {
-                tagged: &[0],
+                around: &[0],
                 start: 2,
                 tags: &[0x02],
             }],
@@ -87,7 +87,7 @@ const LABELS: Table<'static> = Table {
             places: &[(Deviation::GeneralNameForm, 0, 6)],
             headers: 2,
             fields: &[Field {
-                tagged: &[0],
+                around: &[0],
                 start: 2,
                 tags: &[0x02],
             }],
@@ -98,7 +98,7 @@ const LABELS: Table<'static> = Table {
             places: &[(Deviation::GeneralNameForm, 0, 6)],
             headers: 2,
             fields: &[Field {
-                tagged: &[0],
+                around: &[0],
                 start: 2,
                 tags: &[0x03],
             }],
@@ -109,7 +109,7 @@ const LABELS: Table<'static> = Table {
             places: &[(Deviation::GeneralNameForm, 0, 6)],
             headers: 2,
             fields: &[Field {
-                tagged: &[0],
+                around: &[0],
                 start: 2,
                 tags: &[0x06],
             }],
@@ -194,17 +194,17 @@ const FEATURES: Table<'static> = Table {
             headers: 4,
             fields: &[
                 Field {
-                    tagged: &[0],
+                    around: &[0],
                     start: 2,
                     tags: &[0x06],
                 },
                 Field {
-                    tagged: &[0],
+                    around: &[0],
                     start: 6,
                     tags: &[],
                 },
                 Field {
-                    tagged: &[0, 6],
+                    around: &[0, 6],
                     start: 8,
                     tags: &[0x01],
                 },
@@ -217,17 +217,17 @@ const FEATURES: Table<'static> = Table {
             headers: 5,
             fields: &[
                 Field {
-                    tagged: &[0],
+                    around: &[0],
                     start: 6,
                     tags: &[0x01],
                 },
                 Field {
-                    tagged: &[0],
+                    around: &[0],
                     start: 9,
                     tags: &[],
                 },
                 Field {
-                    tagged: &[0, 9],
+                    around: &[0, 9],
                     start: 11,
                     tags: &[0x01],
                 },
@@ -240,12 +240,12 @@ const FEATURES: Table<'static> = Table {
             headers: 3,
             fields: &[
                 Field {
-                    tagged: &[0],
+                    around: &[0],
                     start: 2,
                     tags: &[0x06],
                 },
                 Field {
-                    tagged: &[0],
+                    around: &[0],
                     start: 6,
                     tags: &[0x04],
                 },
@@ -258,17 +258,17 @@ const FEATURES: Table<'static> = Table {
             headers: 4,
             fields: &[
                 Field {
-                    tagged: &[0],
+                    around: &[0],
                     start: 2,
                     tags: &[0x06],
                 },
                 Field {
-                    tagged: &[0],
+                    around: &[0],
                     start: 6,
                     tags: &[0x01],
                 },
                 Field {
-                    tagged: &[0],
+                    around: &[0],
                     start: 9,
                     tags: &[0x04],
                 },
@@ -281,12 +281,12 @@ const FEATURES: Table<'static> = Table {
             headers: 5,
             fields: &[
                 Field {
-                    tagged: &[0],
+                    around: &[0],
                     start: 6,
                     tags: &[0x01],
                 },
                 Field {
-                    tagged: &[0, 9],
+                    around: &[0, 9],
                     start: 11,
                     tags: &[0x01],
                 },
@@ -299,12 +299,12 @@ const FEATURES: Table<'static> = Table {
             headers: 5,
             fields: &[
                 Field {
-                    tagged: &[0],
+                    around: &[0],
                     start: 6,
                     tags: &[0x01],
                 },
                 Field {
-                    tagged: &[0, 9],
+                    around: &[0, 9],
                     start: 11,
                     tags: &[0x02],
                 },
@@ -317,12 +317,12 @@ const FEATURES: Table<'static> = Table {
             headers: 4,
             fields: &[
                 Field {
-                    tagged: &[0],
+                    around: &[0],
                     start: 6,
                     tags: &[0x01],
                 },
                 Field {
-                    tagged: &[0],
+                    around: &[0],
                     start: 9,
                     tags: &[0x04],
                 },
@@ -367,7 +367,7 @@ const EDITIONS: Table<'static> = Table {
             places: &[],
             headers: 3,
             fields: &[Field {
-                tagged: &[0, 2],
+                around: &[0, 2],
                 start: 4,
                 tags: &[0x02],
             }],
@@ -379,12 +379,12 @@ const EDITIONS: Table<'static> = Table {
             headers: 4,
             fields: &[
                 Field {
-                    tagged: &[0, 2],
+                    around: &[0, 2],
                     start: 4,
                     tags: &[0x30],
                 },
                 Field {
-                    tagged: &[0, 2, 4],
+                    around: &[0, 2, 4],
                     start: 6,
                     tags: &[0x02],
                 },
@@ -397,17 +397,17 @@ const EDITIONS: Table<'static> = Table {
             headers: 6,
             fields: &[
                 Field {
-                    tagged: &[0, 2],
+                    around: &[0, 2],
                     start: 4,
                     tags: &[0x02],
                 },
                 Field {
-                    tagged: &[0, 7],
+                    around: &[0, 7],
                     start: 9,
                     tags: &[0x30],
                 },
                 Field {
-                    tagged: &[0, 7, 9],
+                    around: &[0, 7, 9],
                     start: 11,
                     tags: &[0x02],
                 },
@@ -419,7 +419,7 @@ const EDITIONS: Table<'static> = Table {
             places: &[(Deviation::VersionZeroSpelled, 0, 7)],
             headers: 3,
             fields: &[Field {
-                tagged: &[0, 2],
+                around: &[0, 2],
                 start: 4,
                 tags: &[0x02],
             }],
@@ -430,7 +430,7 @@ const EDITIONS: Table<'static> = Table {
             places: &[(Deviation::EmptyExtensionsSpelled, 0, 6)],
             headers: 3,
             fields: &[Field {
-                tagged: &[0, 2],
+                around: &[0, 2],
                 start: 4,
                 tags: &[0x30],
             }],
@@ -445,12 +445,12 @@ const EDITIONS: Table<'static> = Table {
             headers: 5,
             fields: &[
                 Field {
-                    tagged: &[0, 2],
+                    around: &[0, 2],
                     start: 4,
                     tags: &[0x02],
                 },
                 Field {
-                    tagged: &[0, 7],
+                    around: &[0, 7],
                     start: 9,
                     tags: &[0x30],
                 },
@@ -462,7 +462,7 @@ const EDITIONS: Table<'static> = Table {
             places: &[(Deviation::VersionZeroSpelled, 0, 14)],
             headers: 6,
             fields: &[Field {
-                tagged: &[0, 2],
+                around: &[0, 2],
                 start: 4,
                 tags: &[0x02],
             }],
@@ -473,7 +473,7 @@ const EDITIONS: Table<'static> = Table {
             places: &[(Deviation::EmptyExtensionsSpelled, 0, 11)],
             headers: 5,
             fields: &[Field {
-                tagged: &[0, 2],
+                around: &[0, 2],
                 start: 4,
                 tags: &[0x02],
             }],
@@ -516,7 +516,7 @@ const LOOSE: Table<'static> = Table {
             places: &[(Deviation::GeneralNameForm, 0, 5)],
             headers: 2,
             fields: &[Field {
-                tagged: &[0],
+                around: &[0],
                 start: 2,
                 tags: &[0x02],
             }],
@@ -527,7 +527,7 @@ const LOOSE: Table<'static> = Table {
             places: &[(Deviation::GeneralNameForm, 0, 6)],
             headers: 2,
             fields: &[Field {
-                tagged: &[0],
+                around: &[0],
                 start: 2,
                 tags: &[0x02],
             }],
@@ -582,12 +582,12 @@ const VALIDITIES: Table<'static> = Table {
         headers: 3,
         fields: &[
             Field {
-                tagged: &[0],
+                around: &[0],
                 start: 2,
                 tags: &[0x17, 0x18],
             },
             Field {
-                tagged: &[0],
+                around: &[0],
                 start: 17,
                 tags: &[0x17, 0x18],
             },

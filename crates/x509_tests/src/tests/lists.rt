@@ -14,12 +14,12 @@ use x509_keys::RawAlgorithmIdentifier;
 /// Two integers stand in a list.
 const TWO_INTEGERS: &[Field<'static>] = &[
     Field {
-        tagged: &[0],
+        around: &[0],
         start: 2,
         tags: &[0x02],
     },
     Field {
-        tagged: &[0],
+        around: &[0],
         start: 5,
         tags: &[0x02],
     },
@@ -83,7 +83,7 @@ const IN_OCTETS: Table<'static> = Table {
         places: &[],
         headers: 2,
         fields: &[Field {
-            tagged: &[0],
+            around: &[0],
             start: 2,
             tags: &[0x02],
         }],
@@ -100,7 +100,7 @@ const IN_BITS: Table<'static> = Table {
         places: &[],
         headers: 2,
         fields: &[Field {
-            tagged: &[0],
+            around: &[0],
             start: 3,
             tags: &[0x02],
         }],
@@ -183,7 +183,7 @@ const ITEMS_WITHOUT_PARAMETERS: Table<'static> = Table {
             places: &[(Deviation::RawParametersAbsent, 2, 14)],
             headers: 3,
             fields: &[Field {
-                tagged: &[0, 2],
+                around: &[0, 2],
                 start: 4,
                 tags: &[0x06],
             }],

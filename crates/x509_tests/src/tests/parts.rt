@@ -21,7 +21,7 @@ const REFERENCES: Table<'static> = Table {
             places: &[],
             headers: 3,
             fields: &[Field {
-                tagged: &[0, 2],
+                around: &[0, 2],
                 start: 4,
                 tags: &[0x02],
             }],

@@ -17,21 +17,21 @@ const ATTRIBUTE: &str = "301606035504030c0f696e7465726d6564696174655f6361";
 
 /// The identifier, which comes first.
 const IDENTIFIER: Field<'static> = Field {
-    tagged: &[0],
+    around: &[0],
     start: 2,
     tags: &[0x06],
 };
 
 /// Any element behind the identifier of `WITH_NULL`.
 const PARAMETERS: Field<'static> = Field {
-    tagged: &[0],
+    around: &[0],
     start: 12,
     tags: ANY,
 };
 
 /// Any element behind the identifier of `ATTRIBUTE`.
 const ATTRIBUTE_VALUE: Field<'static> = Field {
-    tagged: &[0],
+    around: &[0],
     start: 7,
     tags: ANY,
 };

@@ -15,7 +15,7 @@ const CHOICES: Table<'static> = Table {
         places: &[],
         headers: 2,
         fields: &[Field {
-            tagged: &[0],
+            around: &[0],
             start: 2,
             tags: &[0x02],
         }],
@@ -46,7 +46,7 @@ const OPTIONAL_FIELDS: Table<'static> = Table {
         places: &[],
         headers: 3,
         fields: &[Field {
-            tagged: &[0, 2],
+            around: &[0, 2],
             start: 4,
             tags: &[0x02],
         }],
@@ -80,12 +80,12 @@ const PREFERENCES: Table<'static> = Table {
         headers: 3,
         fields: &[
             Field {
-                tagged: &[0],
+                around: &[0],
                 start: 2,
                 tags: &[],
             },
             Field {
-                tagged: &[0],
+                around: &[0],
                 start: 6,
                 tags: &[0x01],
             },
@@ -118,37 +118,37 @@ const CONTACT: &str =
 /// The fields; no universal tag may stand in the place of the implicit one.
 const FIELDS: &[Field<'static>] = &[
     Field {
-        tagged: &[0],
+        around: &[0],
         start: 2,
         tags: &[0x02],
     },
     Field {
-        tagged: &[0],
+        around: &[0],
         start: 5,
         tags: &[0x0C],
     },
     Field {
-        tagged: &[0],
+        around: &[0],
         start: 8,
         tags: &[0x13],
     },
     Field {
-        tagged: &[0],
+        around: &[0],
         start: 12,
         tags: &[],
     },
     Field {
-        tagged: &[0],
+        around: &[0],
         start: 17,
         tags: &[0x1E],
     },
     Field {
-        tagged: &[0],
+        around: &[0],
         start: 21,
         tags: &[0x17],
     },
     Field {
-        tagged: &[0],
+        around: &[0],
         start: 36,
         tags: &[0x18],
     },

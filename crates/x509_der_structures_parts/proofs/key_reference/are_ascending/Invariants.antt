@@ -4,4 +4,4 @@ use Rattle.x509_der_structures_parts.specs.Lasts.{ascends, ascends_from}
 use Rattle.x509_der_structures_parts.proofs.key_reference.are_ascending.Given as goal
 
 abbrev pub invariant-fields : goal.invariant-fields
-invariant-fields g l = record { few : l.min_headers ≤ 3; rest : ascends number l.fields ≡ ascends_from number l.min_headers (drop l.field-index l.fields) }
+invariant-fields g l = record { few : l.least ≤ 3; rest : ascends number l.fields ≡ ascends_from number l.least (drop l.field-index l.fields) }
