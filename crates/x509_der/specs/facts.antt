@@ -12,6 +12,9 @@ pub use Rattle.x509_der_parts.specs.facts.MarkOrder
 pub use Rattle.x509_der_parts.specs.facts.SameEq
 pub use Rattle.x509_der_parts.specs.facts.Tally
 pub use Rattle.x509_der_parts.specs.facts.Writing
+pub mod Alternatives
+pub mod Lasts
+pub mod Partly
 pub mod ObjectIdentifier
 pub mod BitEdits
 pub mod BitString

@@ -13,7 +13,7 @@ use Rattle.x509_der.specs.PrimitiveContent.{octets}
 use Rattle.x509_der.specs.SmallInteger.{small_integers}
 use Rattle.x509_der.specs.Integer.{integers}
 use Rattle.x509_der.specs.View.{Meaning, seen}
-use Rattle.x509_der_structures_parts.specs.Lasts.{later, last, ascends}
+use Rattle.x509_der.specs.Lasts.{later, last, ascends}
 use Rattle.x509_der.specs.Types.deviation
 
 -- [0] IMPLICIT OCTET STRING

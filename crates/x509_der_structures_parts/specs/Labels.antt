@@ -16,7 +16,7 @@ use Rattle.x509_der.specs.Integer.{integers}
 use Rattle.x509_der.specs.BitString.{bit_strings}
 use Rattle.x509_der.specs.ObjectIdentifier.{oids}
 use Rattle.x509_der.specs.View.{Meaning, seen}
-use Rattle.x509_der_structures_parts.specs.Alternatives.{among}
+use Rattle.x509_der.specs.Alternatives.{among}
 use Rattle.x509_der.specs.Types.deviation
 
 -- the forms, in the order of their tags

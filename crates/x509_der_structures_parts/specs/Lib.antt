@@ -1,12 +1,9 @@
-pub mod Alternatives
 pub mod Features
 pub mod KeyReferenceLaws
 pub mod KeyReferences
 pub mod Labels
-pub mod Lasts
 pub mod Letters
 pub mod Notices
-pub mod Partly
 pub mod Releases
 pub mod Stamps
 pub mod facts

@@ -6,7 +6,7 @@ use Rattle.x509_der.specs.Shape.{Shape}
 use Rattle.x509_der.specs.Tagged.{tagged}
 use Rattle.x509_der.specs.SmallInteger.{small_integers}
 use Rattle.x509_der.specs.View.{Meaning, seen}
-use Rattle.x509_der_structures_parts.specs.Partly.{partly}
+use Rattle.x509_der.specs.Partly.{partly}
 
 -- INTEGER { v1(0), v2(1), v3(2) } (0..2), among the numbers from 0 to 255
 abbrev pub release_base : Shape ℕ

@@ -3,9 +3,9 @@
 ghost use Rattle.std.specs.Prelude.{◌≡◌, ◌<◌};
 ghost use Rattle.x509_der.specs.View.{if_found};
 ghost use Rattle.x509_der.specs.laws.Meaning.{sequence_seen, sequence_lawful, seen_element};
-ghost use Rattle.x509_der_structures_parts.specs.facts.Alternatives.{hints_apart, numbers_apart};
+ghost use Rattle.x509_der_structures_parts.specs.facts.FieldTags.{hints_apart, numbers_apart};
 ghost use Rattle.x509_der_structures_parts.specs.KeyReferences.{hint, number, order_kinds, reference_of, reference_base, reference_meaning, key_reference, reference_bytes, with_hint};
-ghost use Rattle.x509_der_structures_parts.specs.Lasts.{ascends};
+ghost use Rattle.x509_der.specs.Lasts.{ascends};
 ghost use Rattle.x509_der_structures_parts.specs.facts.KeyReferenceFacts.{reference_is, one_kind, reference_agrees};
 ghost use Rattle.x509_der.specs.Items.{items};
 

@@ -9,7 +9,7 @@ ghost use Rattle.x509_der_structures_parts.specs.Features.{feature, FieldsAt as 
 ghost use Rattle.x509_der_structures_parts.specs.Releases.{release};
 ghost use Rattle.std.specs.List.{AllByRecursion};
 ghost use Rattle.x509_der_structures_parts.specs.KeyReferences.{key_reference};
-ghost use Rattle.x509_der_structures_parts.specs.Lasts.{last, ascends, NeighboursAscend};
+ghost use Rattle.x509_der.specs.Lasts.{last, ascends, NeighboursAscend};
 ghost use Rattle.x509_der_structures_parts.specs.KeyReferenceLaws.{ReferenceAt, ReferenceMarks};
 ghost use Rattle.x509_der_structures_parts.specs.Letters.{letter, LetterAt};
 

@@ -2,7 +2,7 @@
 
 ghost use Rattle.std.specs.Prelude.{◌≡◌, refl};
 ghost use Rattle.x509_der.specs.laws.Structure.{structure_lawful, structure_element};
-ghost use Rattle.x509_der_structures_parts.specs.facts.Alternatives.{stamp_apart};
+ghost use Rattle.x509_der_structures_parts.specs.facts.FieldTags.{stamp_apart};
 ghost use Rattle.x509_der_structures_parts.specs.Letters.{letter_parts, letter_base, letter};
 ghost use Rattle.x509_der_structures_parts.specs.facts.Letters.{letter_same};
 

@@ -2,7 +2,7 @@
 
 ghost use Rattle.std.specs.Prelude.{◌≡◌, true, refl};
 ghost use Rattle.x509_der.specs.Reading.{Ready, Reads};
-ghost use Rattle.x509_der_structures_parts.specs.facts.Alternatives.{note_apart};
+ghost use Rattle.x509_der_structures_parts.specs.facts.FieldTags.{note_apart};
 ghost use Rattle.x509_der_structures_parts.specs.Notices.{claim_bytes, claim_avoids, kind_of as kind_by, by_kind, notice_parts, notice_bytes, notice_base, notice};
 ghost use Rattle.x509_der_structures_parts.specs.facts.Notices.{notice_same};
 ghost use Rattle.x509_der.specs.laws.Structure.{structure_lawful, structure_element};

@@ -21,7 +21,7 @@ use Rattle.x509_der.specs.DefinedBy.{IsFamily}
 use Rattle.x509_der.specs.laws.Variant.{variant_lawful, IsVariant}
 use Rattle.x509_der.specs.laws.View.{some_one}
 use Rattle.x509_der.specs.laws.Meaning.{IsMeaning}
-use Rattle.x509_der_structures_parts.specs.facts.Alternatives.{byte_apart}
+use Rattle.x509_der.specs.facts.Alternatives.{byte_apart}
 use Rattle.x509_der_structures_parts.specs.Features.{kind_of, value_bytes, IsValue, by_kind, Key, Fields, feature_base, critical_of, written_critical, critical_kinds, feature_of, feature_means, feature_back, feature_meaning, feature, feature_bytes}
 use Rattle.x509_der_structures_parts.specs.declared.features.FeatureValue.TheVariants as value
 use Rattle.x509_der_structures_parts.specs.declared.features.FeatureKind.TheVariants as kinds

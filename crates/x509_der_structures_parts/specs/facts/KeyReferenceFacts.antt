@@ -10,8 +10,8 @@ use Rattle.x509_der.specs.facts.Lists.{same_append}
 use Rattle.x509_der.specs.Optional.{optional, optional_strict, IfThere}
 use Rattle.x509_der.specs.laws.View.{some_one}
 use Rattle.x509_der.specs.laws.Meaning.{IsMeaning}
-use Rattle.x509_der_structures_parts.specs.Lasts.{last, ascends, ascends_from}
-use Rattle.x509_der_structures_parts.specs.facts.LastFacts.{later_none, last_push, kept_last}
+use Rattle.x509_der.specs.Lasts.{last, ascends, ascends_from}
+use Rattle.x509_der.specs.facts.Lasts.{later_none, last_push, kept_last}
 use Rattle.x509_der_structures_parts.specs.KeyReferences.{Hint, hint, identifier_field, issuer_field, serial_field, reference_base, identifier_in, issuer_in, serial_in, number, order_kinds, reference_of, reference_means, there, back_of, reference_back, reference_meaning, key_reference, reference_bytes, with_hint}
 use Rattle.x509_der.specs.Types.deviation
 

@@ -24,7 +24,7 @@ use Rattle.x509_der.specs.facts.ObjectIdentifier.{oid_lawful}
 use Rattle.x509_der.specs.laws.View.{some_one}
 use Rattle.x509_der.specs.laws.Meaning.{IsMeaning, seen_one, seen_lawful, seen_element}
 use Rattle.x509_der.specs.View.{IsSeen}
-use Rattle.x509_der_structures_parts.specs.facts.Alternatives.{Alternative, under, either_of}
+use Rattle.x509_der.specs.facts.Alternatives.{Alternative, under, either_of}
 use Rattle.x509_der_structures_parts.specs.Labels.{Strict, Loose, label_parts, strict_label, loose_label, strict_base, loose_base, strict_tags, loose_tags, label_base, label_means, label_meaning, label, FormAt}
 use Rattle.x509_der_structures_parts.specs.facts.Labels.{label_tags}
 use Rattle.x509_der.specs.Types.deviation

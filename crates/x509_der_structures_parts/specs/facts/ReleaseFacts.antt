@@ -7,7 +7,7 @@ use Rattle.x509_der.specs.SmallInteger.{small_integers}
 use Rattle.x509_der.specs.laws.SmallInteger.{small_integer_lawful}
 use Rattle.x509_der.specs.laws.Meaning.{IsMeaning, tagged_markable}
 use Rattle.x509_der.specs.View.{IsSeen}
-use Rattle.x509_der_structures_parts.specs.facts.Partly.{partly_is, partly_seen}
+use Rattle.x509_der.specs.facts.Partly.{partly_is, partly_seen}
 use Rattle.x509_der_structures_parts.specs.Releases.{release_number, release_of, release_base, release_meaning}
 
 there : (v : Release) → release_of (release_number v) ≡ Some v

@@ -1,4 +1,4 @@
-use Rattle.x509_der_structures_parts.specs.facts.LastFacts.{last_there, last_absent}
+use Rattle.x509_der.specs.facts.Lasts.{last_there, last_absent}
 use Rattle.x509_der_structures_parts.proofs.laws.last_field_counts.Goals as goal
 
 pub returns-clause-there : goal.returns-clause-there

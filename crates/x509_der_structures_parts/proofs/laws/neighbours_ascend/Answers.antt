@@ -1,4 +1,4 @@
-use Rattle.x509_der_structures_parts.specs.facts.LastFacts.{neighbours}
+use Rattle.x509_der.specs.facts.Lasts.{neighbours}
 use Rattle.x509_der_structures_parts.proofs.laws.neighbours_ascend.Goals as goal
 
 pub returns : goal.returns

@@ -1,5 +1,5 @@
 use Rattle.std.proofs.Common.{rules}
-use Rattle.x509_der_structures_parts.specs.facts.Alternatives.{byte_apart, either_apart}
+use Rattle.x509_der.specs.facts.Alternatives.{byte_apart, either_apart}
 use Rattle.x509_der_structures_parts.proofs.labels.LabelField.read.Goals as goal
 
 pub read_viewed-requires-clause-fits : goal.read_viewed-requires-clause-fits

@@ -5,7 +5,7 @@ use Rattle.x509_der.specs.Shape.{Shape}
 use Rattle.x509_der.specs.laws.View.{some_one}
 use Rattle.x509_der.specs.laws.Meaning.{IsMeaning, Markable, seen_one}
 use Rattle.x509_der.specs.View.{IsSeen}
-use Rattle.x509_der_structures_parts.specs.Partly.{partly, unmarked}
+use Rattle.x509_der.specs.Partly.{partly, unmarked}
 
 means_value : {V : Type 0} (o : Option V) (v : V) (ks : List Deviation) → unmarked o ≡ Some (v, ks) → (o ≡ Some v) × (ks ≡ [])
 means_value None v ks e = cc

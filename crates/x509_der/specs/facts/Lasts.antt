@@ -3,7 +3,7 @@ use Rattle.std.proofs.Common.{◌≡◌, ◌↔◌, ℕ, ◌+◌, ◌<◌, ◌�
 use Rattle.std.proofs.lemmas.Bool.Decides.{nat_tests}
 use Rattle.std.specs.List.{AllByRecursion}
 use Rattle.x509_der.specs.Optional.{IfThere}
-use Rattle.x509_der_structures_parts.specs.Lasts.{later, last, ascends_from, ascends, NeighboursAscend}
+use Rattle.x509_der.specs.Lasts.{later, last, ascends_from, ascends, NeighboursAscend}
 
 pub later_none : {V : Type 0} (a : Option V) → later a None ≡ a
 later_none (Some v) = refl

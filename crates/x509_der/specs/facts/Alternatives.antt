@@ -9,7 +9,7 @@ use Rattle.x509_der.specs.laws.Tagged.{tagged_lawful, tagged_element}
 use Rattle.x509_der.specs.Choice.{choice, Disjoint}
 use Rattle.x509_der.specs.laws.Choice.{choice_lawful, choice_element}
 use Rattle.x509_der.specs.laws.Meaning.{Markable, tagged_markable, choice_markable}
-use Rattle.x509_der_structures_parts.specs.Alternatives.{among}
+use Rattle.x509_der.specs.Alternatives.{among}
 
 -- none of the first is one of the others
 abbrev pub apart : List ℕ → List ℕ → Bool
@@ -85,16 +85,3 @@ either_of {V} {W} {a} {b} {ts} {us} f g d = record {
   markable = choice_markable a b f.markable g.markable;
   begins = λ c. either_true (a.starts c) (b.starts c) (among (ts ++ us) c) (λ h. among_left ts us c (f.begins c h)) (λ h. among_right ts us c (g.begins c h));
 }
-
--- fields that may be absent, told from what follows
-pub stamp_apart : (c : ℕ) → (eqb c 2 || eqb c 2) ≡ true → (false || eqb c 160) ≡ false
-stamp_apart c h = grind (arith, nat_tests)
-
-pub note_apart : (c : ℕ) → eqb c 161 ≡ true → (false || eqb c 2) ≡ false
-note_apart c h = grind (arith, nat_tests)
-
-pub hints_apart : (c : ℕ) → eqb c 128 ≡ true → (eqb c 161 || eqb c 130) ≡ false
-hints_apart c h = grind (arith, nat_tests)
-
-pub numbers_apart : (c : ℕ) → eqb c 161 ≡ true → eqb c 130 ≡ false
-numbers_apart c h = grind (arith, nat_tests)
