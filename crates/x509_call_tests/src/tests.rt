@@ -1,5 +1,7 @@
 //! Calls by themselves: what they answer, what they take, and what they leave.
 
+mod bit_strings;
+mod character_strings;
 mod checks;
 mod elements;
 mod equality;
@@ -10,9 +12,7 @@ mod memory;
 mod no_memory;
 mod numbers;
 mod raw_algorithms;
-mod strings;
 mod tables;
-mod texts;
 mod times;
 
 use refusing::{Refusing, Turn};

@@ -1,5 +1,5 @@
 -- A field, and then another whose shape the first one's value chooses.
-use Rattle.std.proofs.Common.{◌≡◌, ℕ, ◌+◌, Bool, true, false, ◌||◌, ◌++◌}
+use Rattle.std.proofs.Common.{◌≡◌, ℕ, Bool, true, false, ◌||◌, ◌++◌}
 use Rattle.x509_der_parts.specs.Shape.{Shape, Lawful}
 use Rattle.x509_der_parts.specs.Fields.{Stands, Beside}
 use Rattle.x509_der_parts.specs.Join.{Joined}

@@ -1,5 +1,5 @@
 -- A whole SEQUENCE with the slice of its first field, and the deviations inside that slice and outside of it.
-use Rattle.std.proofs.Common.{◌≡◌, ◌↔◌, ℕ, ◌+◌, List, ◌++◌, sum}
+use Rattle.std.proofs.Common.{◌≡◌, ◌↔◌, ℕ, List, ◌++◌, sum}
 use Rattle.std.specs.Prelude.{Result, Ok, Err}
 use Rattle.x509_der_parts.specs.declared.errors.ReadError.{ReadError}
 use Rattle.x509_der_parts.specs.Deviations.{Together}

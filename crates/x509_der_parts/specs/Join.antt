@@ -1,5 +1,5 @@
 -- One field, and then another.
-use Rattle.std.proofs.Common.{◌≡◌, ℕ, ◌+◌, true, false, ◌||◌, List, ◌++◌, length}
+use Rattle.std.proofs.Common.{◌≡◌, ℕ, true, false, ◌||◌, List, ◌++◌, length}
 use Rattle.x509_der_parts.specs.Tally.{Tally, joined}
 use Rattle.x509_der_parts.specs.Fields.{Stands, Beside}
 use Rattle.x509_der_parts.specs.Shape.{Shape}

@@ -13,6 +13,7 @@ use crate::join::Join;
 use crate::reader::{Reader, whole_reader};
 use crate::structure::Structure;
 use crate::tagged::{Sequence, Tagged};
+use crate::tags::SEQUENCE_TAG;
 use crate::traits::Field;
 use std::alloc::Allocator;
 
@@ -72,7 +73,7 @@ pub fn read_first_field<
     ensures frugal { F.shape.frugal → G.shape.frugal → IfErr result (λ e. e ≡ OutOfMemory → ⊥) }
 {
     let mut reader = whole_reader::<A>(bytes);
-    let behind = reader.enter(0x30)?;
+    let behind = reader.enter(SEQUENCE_TAG)?;
     let start = reader.spot().start;
     let (fields, end, inside) = read_both::<F, G, A>(alloc, &mut reader)?;
     if !reader.is_empty() {

@@ -9,8 +9,8 @@ ghost use Rattle.x509_der_structures_parts.specs.Features.{value_bytes, IsValue,
 
 use std::alloc::{Allocator, Global};
 use x509_der::parts::{
-    AnyDefinedBy, DefinedBy, Field, Found, Join, Optional, Reader, Sequence, Tagged, View,
-    read_viewed,
+    AnyDefinedBy, DefinedBy, Field, Found, Join, OCTET_STRING_TAG, Optional, Reader, SEQUENCE_TAG,
+    Sequence, Tagged, View, read_viewed,
 };
 use x509_der::{
     Deviation, FromDer, ObjectIdentifierAsn1, OctetStringAsn1, OctetStringAsn1Container, ReadError,
@@ -132,7 +132,7 @@ impl<A: Allocator + Copy> AnyDefinedBy<Key<A>, A> for FeatureValue<A> {
     ghost shapes_agree = { λ key v. value_agrees (kind_by key.0) v };
 
     fn starts(byte: u8) -> bool {
-        byte == 4
+        byte == OCTET_STRING_TAG
     }
 
     fn known_behind(&self, _key: &Key<A>) {
@@ -246,7 +246,7 @@ impl<A: Allocator + Copy> Field<A> for Feature<A> {
     ghost agrees = { feature_agrees };
 
     fn starts(byte: u8) -> bool {
-        byte == 0x30
+        byte == SEQUENCE_TAG
     }
 
     fn known(&self) {

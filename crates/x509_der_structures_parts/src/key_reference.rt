@@ -12,7 +12,7 @@ ghost use Rattle.x509_der.specs.Items.{items};
 use std::alloc::{Allocator, Global};
 use x509_der::parts::{
     Choice, ContentOf, Explicit1, Field, Found, Implicit0, Implicit2, Items, Join, Optional,
-    Reader, Sequence, Tagged, View, known_there, read_viewed,
+    Reader, SEQUENCE_TAG, Sequence, Tagged, View, known_there, read_viewed,
 };
 use x509_der::{Deviation, FromDer, IntegerAsn1, OctetStringAsn1, ReadError, ToDer, TooLong};
 
@@ -175,7 +175,7 @@ impl<A: Allocator + Copy> Field<A> for KeyReference<A> {
     ghost agrees = { λ v. reference_agrees v };
 
     fn starts(byte: u8) -> bool {
-        byte == 0x30
+        byte == SEQUENCE_TAG
     }
 
     fn known(&self) {

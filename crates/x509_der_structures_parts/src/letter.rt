@@ -9,8 +9,8 @@ ghost use Rattle.x509_der_structures_parts.specs.facts.Letters.{letter_same};
 use crate::stamp::Stamp;
 use std::alloc::{Allocator, Global};
 use x509_der::parts::{
-    ContentOf, Explicit0, Field, Join, Optional, Reader, Sequence, Structure, Tagged, known_there,
-    read_fields,
+    ContentOf, Explicit0, Field, Join, Optional, Reader, SEQUENCE_TAG, Sequence, Structure, Tagged,
+    known_there, read_fields,
 };
 use x509_der::{FromDer, ReadError, ToDer, TooLong};
 
@@ -81,7 +81,7 @@ impl<A: Allocator + Copy> Field<A> for Letter<A> {
     ghost agrees = { λ v. refl };
 
     fn starts(byte: u8) -> bool {
-        byte == 0x30
+        byte == SEQUENCE_TAG
     }
 
     fn known(&self) {

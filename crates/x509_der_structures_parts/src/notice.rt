@@ -9,8 +9,8 @@ ghost use Rattle.x509_der.specs.laws.Structure.{structure_lawful, structure_elem
 
 use std::alloc::{Allocator, Global};
 use x509_der::parts::{
-    AnyDefinedBy, DefinedBy, Explicit1, Field, Join, Optional, Reader, Sequence, Structure, Tagged,
-    known_there, read_fields,
+    AnyDefinedBy, DefinedBy, Explicit1, Field, Join, Optional, Reader, SEQUENCE_TAG, Sequence,
+    Structure, Tagged, known_there, read_fields,
 };
 use x509_der::{FromDer, ObjectIdentifierAsn1, ReadError, ToDer, TooLong};
 
@@ -204,7 +204,7 @@ impl<A: Allocator + Copy> Field<A> for Notice<A> {
     ghost agrees = { λ v. notice_agrees (notice_parts v) };
 
     fn starts(byte: u8) -> bool {
-        byte == 0x30
+        byte == SEQUENCE_TAG
     }
 
     fn known(&self) {

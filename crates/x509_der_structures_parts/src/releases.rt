@@ -6,7 +6,7 @@ ghost use Rattle.x509_der_structures_parts.specs.Releases.{release_number, relea
 ghost use Rattle.x509_der_structures_parts.specs.facts.ReleaseFacts.{release_is, release_seen};
 
 use std::alloc::Allocator;
-use x509_der::parts::{Field, Found, Reader, View, read_viewed};
+use x509_der::parts::{Field, Found, INTEGER_TAG, Reader, View, read_viewed};
 use x509_der::{FromDer, ReadError, ToDer, TooLong};
 
 /// A release of a format.
@@ -81,7 +81,7 @@ impl<A: Allocator + Copy> Field<A> for Release {
     ghost agrees = { λ v. refl };
 
     fn starts(byte: u8) -> bool {
-        byte == 2
+        byte == INTEGER_TAG
     }
 
     fn known(&self) {}

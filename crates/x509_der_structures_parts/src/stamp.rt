@@ -9,8 +9,8 @@ ghost use Rattle.x509_der_structures_parts.specs.facts.Stamps.{stamp_same};
 
 use std::alloc::{Allocator, Global};
 use x509_der::parts::{
-    Content, Field, Join, OneTag, Reader, Sequence, Structure, Tagged, ToContent, element_len,
-    read_as_content, read_sequence, write_element,
+    Content, Field, Join, OneTag, Reader, SEQUENCE_TAG, Sequence, Structure, Tagged, ToContent,
+    element_len, read_as_content, read_sequence, write_element,
 };
 use x509_der::{FromDer, ObjectIdentifierAsn1, OctetStringAsn1, ReadError, ToDer, TooLong};
 
@@ -31,11 +31,11 @@ impl<A: Allocator> ToDer for Stamp<A> {
     ghost strict = { λ v. stamp_base.strict (stamp_parts v) };
 
     fn encoded_len(&self) -> Result<usize, TooLong> {
-        element_len(0x30, &Join(&self.name, &self.octets))
+        element_len(SEQUENCE_TAG, &Join(&self.name, &self.octets))
     }
 
     fn write_back(&self, out: &mut [u8]) -> usize {
-        write_element(0x30, &Join(&self.name, &self.octets), out)
+        write_element(SEQUENCE_TAG, &Join(&self.name, &self.octets), out)
     }
 }
 
@@ -72,7 +72,7 @@ impl<A: Allocator + Copy> Field<A> for Stamp<A> {
     ghost agrees = { λ v. refl };
 
     fn starts(byte: u8) -> bool {
-        byte == 0x30
+        byte == SEQUENCE_TAG
     }
 
     fn known(&self) {

@@ -2,8 +2,10 @@
 #![tactic(auto)]
 
 mod calendar;
+pub mod date;
 pub mod generalized_time;
 pub mod utc_time;
 
-pub use crate::generalized_time::{GeneralizedTime, GeneralizedTimeAsn1};
-pub use crate::utc_time::{UTCTime, UtcTimeAsn1};
+pub use crate::date::{Date, Years};
+pub use crate::generalized_time::{GeneralizedTime, GeneralizedTimeAsn1, GeneralizedYears};
+pub use crate::utc_time::{UTCTime, UtcTimeAsn1, UtcYears};

@@ -1,5 +1,5 @@
 -- The law of fields: where each field of a spelling stands, with the marks that lie within its slice, and so at every depth.
-use Rattle.std.proofs.Common.{◌≡◌, ◌↔◌, ℕ, ◌+◌, List, [], ◌++◌, map, sym, ap, ◌∙◌}
+use Rattle.std.proofs.Common.{◌≡◌, ◌↔◌, ℕ, List, [], ◌++◌, map, sym, ap, ◌∙◌}
 use Rattle.x509_der_parts.specs.facts.Lists.{map_empty}
 use Rattle.x509_der_parts.specs.Tally.{Tally, moved}
 use Rattle.x509_der_parts.specs.Shape.{Shape, Lawful}

@@ -1,5 +1,5 @@
 -- A type whose values are made of those of a base shape, some of them with marks over the whole.
-use Rattle.std.proofs.Common.{◌≡◌, ◌+◌, List, [], ◌++◌, length, Option, Some, refl, ap, sym, ◌∙◌, arith}
+use Rattle.std.proofs.Common.{◌≡◌, List, [], ◌++◌, length, Option, Some, refl, ap, sym, ◌∙◌, arith}
 use Rattle.x509_der_parts.specs.declared.deviation.Deviation.{Deviation}
 use Rattle.x509_der_parts.specs.facts.MarkOrder.{placing_same, placing_over}
 use Rattle.x509_der_parts.specs.Tally.{over}

@@ -1,5 +1,5 @@
 -- Reading all that is left, and so a whole input.
-use Rattle.std.proofs.Common.{◌≡◌, ℕ, ◌+◌, ◌≤◌, false, List, [], ◌++◌, length, map, sum, refl, sym, ap, subst, ◌∙◌, arith, append-nil, length-append, Some, None}
+use Rattle.std.proofs.Common.{◌≡◌, ℕ, ◌≤◌, false, List, [], ◌++◌, length, map, sum, refl, sym, ap, subst, ◌∙◌, arith, append-nil, length-append, Some, None}
 use Rattle.std.specs.Prelude.{Result, Ok, Err, replicate, IfErr}
 use Rattle.std.proofs.lemmas.List.{append_cancel_left}
 use Rattle.x509_der_parts.specs.declared.errors.ReadError.{ReadError}
