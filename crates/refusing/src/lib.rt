@@ -116,8 +116,8 @@ const MOST_REQUESTS: u64 = 1_000_000;
 impl<B: Allocator> Refusing<B> {
     /// Runs a call with its first request refused, then its second, until a run meets no refusal.
     ///
-    /// The number of requests that the last run made; none where a run was wrong, answered want of memory that it wasn't
-    /// refused, or gave its answer though a request was refused.
+    /// The number of requests that the last run made; none where a run was wrong, answered want of memory that it
+    /// wasn't refused, or gave its answer though a request was refused.
     pub fn in_turn<F: FnMut() -> Turn>(&self, mut call: F) -> Option<u64>
         requires { F.IsAlwaysCallable call }
     {

@@ -18,8 +18,8 @@ mod times;
 use refusing::{Refusing, Turn};
 use std::alloc::{Allocator, Global};
 
-/// An allocator that refuses what it is told to. This is all that most tests name of it: a function over any such allocator
-/// is proved in a third of the time that it takes over the one that there is.
+/// An allocator that refuses what it is told to. This is all that most tests name of it: a function over any such
+/// allocator is proved in a third of the time that it takes over the one that there is.
 pub trait Heap: Allocator + Copy {
     /// Counts from 0 again, and refuses the request of this number, from 1 on; at 0 none.
     fn refuse(self, number: u64);

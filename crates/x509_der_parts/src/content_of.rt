@@ -9,7 +9,8 @@ use crate::traits::{Content, Field, FromDer, Tag, ToContent, ToDer};
 use std::alloc::Allocator;
 use std::marker::Model;
 
-/// The content of a type with one tag, without its header. `Tagged<N, ContentOf<T>>` is `T` under the implicit tag `N` (X.690, 8.14).
+/// The content of a type with one tag, without its header. `Tagged<N, ContentOf<T>>` is `T` under the implicit tag `N`
+/// (X.690, 8.14).
 #[derive(Drop)]
 pub struct ContentOf<T>(pub T);
 

@@ -12,8 +12,8 @@ use crate::write::write_before;
 use std::alloc::Allocator;
 use std::marker::Model;
 
-/// A key, and then the value whose encoding the key chooses: a field DEFINED BY another, as a value by its object identifier.
-/// The key is any field that may be followed by whatever begins a value. Contracts see the pair of the two.
+/// A key, and then the value whose encoding the key chooses: a field DEFINED BY another, as a value by its object
+/// identifier. The key is any field that may be followed by whatever begins a value. Contracts see the pair of the two.
 ///
 /// # Errors
 /// A read is refused where the key is, or where no value that the key allows follows it.
@@ -46,7 +46,9 @@ impl<A: Allocator + Copy, K: Field<A>, V: AnyDefinedBy<K, A>> Field<A> for Defin
 
     ghost fits = { K.fits × KeyApart K.shape V.starts };
 
-    ghost lawful = { λ h. defined_by_lawful (λ c. c.0) (λ c. c.1) (same_pair (λ c. c.0) (λ c. c.1) (λ a b. (a, b)) (λ x. refl)) K.shape V.shapes V.starts V.avoids (K.lawful h.0) V.family h.1 };
+    ghost lawful = { λ h. defined_by_lawful (λ c. c.0) (λ c. c.1)
+        (same_pair (λ c. c.0) (λ c. c.1) (λ a b. (a, b)) (λ x. refl)) K.shape V.shapes V.starts V.avoids
+        (K.lawful h.0) V.family h.1 };
 
     ghost alone = { ⊥ };
 

@@ -9,7 +9,8 @@ use std::marker::Model;
 /// The ten loose encodings that are read and not written. The list is closed.
 #[derive(Clone, Copy, Debug, PartialEq, Eq)]
 pub enum Deviation {
-    /// An algorithm of the RSA family stands without parameters (RFC 4055, 1.2 and 5; RFC 8017, A.1). They are written as NULL.
+    /// An algorithm of the RSA family stands without parameters (RFC 4055, 1.2 and 5; RFC 8017, A.1). They are written
+    /// as NULL.
     RsaParametersAbsent,
     /// An algorithm identifier whose parameters are any element stands without them. They are written as NULL.
     RawParametersAbsent,
@@ -25,7 +26,8 @@ pub enum Deviation {
     CriticalFalseSpelled,
     /// The fields of an authority key identifier repeat or are out of order (RFC 5280, 4.2.1.1).
     AuthorityKeyFieldOrder,
-    /// A general name has an explicit tag in place of its implicit one, or a directory name an implicit one (RFC 5280, 4.2.1.6).
+    /// A general name has an explicit tag in place of its implicit one, or a directory name an implicit one (RFC 5280,
+    /// 4.2.1.6).
     GeneralNameForm,
     /// An element that is not understood stands behind a private key (RFC 5958, 2). It is left out.
     SkippedKeyElement,
@@ -95,7 +97,8 @@ impl Deviations {
     /// One more of a kind.
     pub(crate) fn add(&mut self, kind: Deviation)
         requires { sum self.old + 1 < 2 ^ 64 }
-        ensures { self.new ≡ slice_set self.old (kind_index kind) (slice_index self.old (kind_index kind) + 1) }
+        ensures { self.new ≡ slice_set self.old (kind_index kind)
+            (slice_index self.old (kind_index kind) + 1) }
     {
         self.counts[kind.index()] += 1;
     }

@@ -51,13 +51,13 @@ fn read_both<F: Field<A>, G: Field<A>, A: Allocator + Copy>(
     Ok((Join(first, second), end, inside))
 }
 
-/// Reads a value from the whole of the bytes, which are a SEQUENCE of the fields `F` and `G`, and answers the bytes of the
-/// first field with it, as a signature covers them. The deviations inside those bytes are counted apart from the others:
-/// where there are none inside, the bytes are the first field's DER encoding, and else they aren't.
+/// Reads a value from the whole of the bytes, which are a SEQUENCE of the fields `F` and `G`, and answers the bytes of
+/// the first field with it, as a signature covers them. The deviations inside those bytes are counted apart from the
+/// others: where there are none inside, the bytes are the first field's DER encoding, and else they aren't.
 ///
 /// # Errors
-/// Refused exactly where the grammar relates the bytes to no value, or memory is refused. Fields that can be read without
-/// memory are never refused for it.
+/// Refused exactly where the grammar relates the bytes to no value, or memory is refused. Fields that can be read
+/// without memory are never refused for it.
 pub fn read_first_field<
     'a,
     T: Structure<Tagged<Sequence, Join<F, G>>>,
@@ -68,7 +68,8 @@ pub fn read_first_field<
     requires first { F.fits }
     requires second { G.fits }
     requires apart { Apart F.shape G.shape }
-    ensures ok { IfOk result (λ r. FirstPart T.fields F.shape G.shape bytes.now r.value r.slice.now r.inside r.outside) }
+    ensures ok { IfOk result (λ r. FirstPart T.fields F.shape G.shape bytes.now r.value r.slice.now r.inside
+        r.outside) }
     ensures err { IfErr result (NoWhole (in_sequence T.fields F.shape G.shape) bytes.now) }
     ensures frugal { F.shape.frugal → G.shape.frugal → IfErr result (λ e. e ≡ OutOfMemory → ⊥) }
 {

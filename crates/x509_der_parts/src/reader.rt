@@ -43,11 +43,17 @@ impl<'a, A: Allocator> Model for Reader<'a, A> {
 
     ghost Value = { Cursor };
 
-    ghost view = { λ r. record { rest = r.rest.now; at = r.at; headers = r.headers; counts = r.deviations; places = listed (λ v. v.items) r.places } };
+    ghost view = { λ r. record {
+      rest = r.rest.now;
+      at = r.at;
+      headers = r.headers;
+      counts = r.deviations;
+      places = listed (λ v. v.items) r.places;
+    } };
 }
 
-/// A reader of a whole input. It is for the calls on whole values alone, and no crate above the core is given it: so what was
-/// read is never decoded and counted a second time.
+/// A reader of a whole input. It is for the calls on whole values alone, and no crate above the core is given it: so
+/// what was read is never decoded and counted a second time.
 pub fn whole_reader<A: Allocator>(bytes: &[u8]) -> Reader<'_, A>
     ensures rest { result.rest ≡ bytes.now }
     ensures at { result.at ≡ 0 }
@@ -144,8 +150,8 @@ impl<'a, A: Allocator> Reader<'a, A> {
         }
     }
 
-    /// The byte that comes next, which it goes past. It is for contents alone that begin with a byte of their own: a header
-    /// that is read in this way is not counted.
+    /// The byte that comes next, which it goes past. It is for contents alone that begin with a byte of their own: a
+    /// header that is read in this way is not counted.
     pub fn byte(&mut self) -> Option<u8>
         requires { Ready self.old }
         ensures { TakesNext self.old self.new result }
@@ -160,7 +166,8 @@ impl<'a, A: Allocator> Reader<'a, A> {
         }
     }
 
-    /// Decodes one header and goes past its element: its tag and its content. This call alone counts headers, also where it is refused.
+    /// Decodes one header and goes past its element: its tag and its content. This call alone counts headers, also
+    /// where it is refused.
     ///
     /// # Errors
     /// Refused exactly where the rest begins with no element whose tag is one byte; never for memory.

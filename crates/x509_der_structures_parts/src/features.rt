@@ -147,8 +147,8 @@ impl<A: Allocator + Copy> AnyDefinedBy<Key<A>, A> for FeatureValue<A> {
 /// A feature by its object identifier, whether it is critical, and its value in an OCTET STRING.
 ///
 /// # Encoding
-/// `SEQUENCE { name OBJECT IDENTIFIER, critical BOOLEAN DEFAULT FALSE, value OCTET STRING }`. A FALSE that is spelled is read
-/// with the deviation `CriticalFalseSpelled`, and written as it must be: not at all.
+/// `SEQUENCE { name OBJECT IDENTIFIER, critical BOOLEAN DEFAULT FALSE, value OCTET STRING }`. A FALSE that is spelled
+/// is read with the deviation `CriticalFalseSpelled`, and written as it must be: not at all.
 #[derive(Drop)]
 pub struct Feature<A: Allocator = Global> {
     pub name: ObjectIdentifierAsn1<A>,
@@ -231,7 +231,8 @@ impl<A: Allocator + Copy> View<Fields<A>, A> for Feature<A> {
         ))
     }
 
-    ghost is_seen = { λ f. sequence_seen feature_meaning inner (⟦<Inner<A> as Field<A>>⟧.lawful f) feature_is feature_one };
+    ghost is_seen = { λ f. sequence_seen feature_meaning inner (⟦<Inner<A> as Field<A>>⟧.lawful f) feature_is
+        feature_one };
 }
 
 impl<A: Allocator + Copy> Field<A> for Feature<A> {
@@ -239,9 +240,11 @@ impl<A: Allocator + Copy> Field<A> for Feature<A> {
 
     ghost shape = { feature };
 
-    ghost lawful = { λ h. sequence_lawful feature_meaning inner (⟦<Inner<A> as Field<A>>⟧.lawful ((tt, (tt, tt), λ c h. refl), key_apart)) feature_is feature_one };
+    ghost lawful = { λ h. sequence_lawful feature_meaning inner
+        (⟦<Inner<A> as Field<A>>⟧.lawful ((tt, (tt, tt), λ c h. refl), key_apart)) feature_is feature_one };
 
-    ghost elements = { λ h. seen_element feature_meaning feature_base (⟦<Fields<A> as Field<A>>⟧.elements tt) feature_is };
+    ghost elements = { λ h. seen_element feature_meaning feature_base (⟦<Fields<A> as Field<A>>⟧.elements tt)
+        feature_is };
 
     ghost agrees = { feature_agrees };
 

@@ -16,13 +16,13 @@ use x509_der::parts::{
 };
 use x509_der::{Deviation, FromDer, IntegerAsn1, OctetStringAsn1, ReadError, ToDer, TooLong};
 
-/// Says which key is meant, by its identifier, or by who issued a certificate of it and the certificate's serial number. Each
-/// may be absent.
+/// Says which key is meant, by its identifier, or by who issued a certificate of it and the certificate's serial
+/// number. Each may be absent.
 ///
 /// # Encoding
-/// `SEQUENCE { identifier [0] IMPLICIT OCTET STRING OPTIONAL, issuer [1] EXPLICIT INTEGER (0..255) OPTIONAL, serial [2] IMPLICIT INTEGER OPTIONAL }`.
-/// Fields that repeat or stand in another order are read with the one deviation `AuthorityKeyFieldOrder`; of those with one
-/// tag the last counts.
+/// `SEQUENCE { identifier [0] IMPLICIT OCTET STRING OPTIONAL, issuer [1] EXPLICIT INTEGER (0..255) OPTIONAL, serial [2]
+/// IMPLICIT INTEGER OPTIONAL }`. Fields that repeat or stand in another order are read with the one deviation
+/// `AuthorityKeyFieldOrder`; of those with one tag the last counts.
 #[derive(Drop)]
 pub struct KeyReference<A: Allocator = Global> {
     pub identifier: Option<OctetStringAsn1<A>>,
@@ -162,15 +162,24 @@ impl<A: Allocator + Copy> View<Fields<A>, A> for KeyReference<A> {
         Some((last_of_each(fields), found))
     }
 
-    ghost is_seen = { λ f. sequence_seen reference_meaning (items hint) (⟦<Inner<A> as Field<A>>⟧.lawful f) reference_is one_kind };
+    ghost is_seen = { λ f. sequence_seen reference_meaning (items hint) (⟦<Inner<A> as Field<A>>⟧.lawful f)
+        reference_is one_kind };
 }
 
 impl<A: Allocator + Copy> Field<A> for KeyReference<A> {
     ghost shape = { key_reference };
 
-    ghost lawful = { λ h. sequence_lawful reference_meaning (items hint) (⟦<Inner<A> as Field<A>>⟧.lawful (((tt, ((tt, tt), ((tt, tt), numbers_apart))), ((tt, (tt, tt)), hints_apart)), (tt, (tt, tt)))) reference_is one_kind };
+    ghost lawful = { λ h. sequence_lawful reference_meaning (items hint)
+        (⟦<Inner<A> as Field<A>>⟧.lawful (
+          (
+            (tt, ((tt, tt), ((tt, tt), numbers_apart))),
+            ((tt, (tt, tt)), hints_apart),
+          ),
+          (tt, (tt, tt)),
+        )) reference_is one_kind };
 
-    ghost elements = { λ h. seen_element reference_meaning reference_base (⟦<Fields<A> as Field<A>>⟧.elements tt) reference_is };
+    ghost elements = { λ h. seen_element reference_meaning reference_base
+        (⟦<Fields<A> as Field<A>>⟧.elements tt) reference_is };
 
     ghost agrees = { λ v. reference_agrees v };
 

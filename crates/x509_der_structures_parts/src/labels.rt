@@ -19,12 +19,12 @@ use x509_der::{
 /// A label in one of eight forms, told apart by the tag.
 ///
 /// # Encoding
-/// `CHOICE { codes [0] IMPLICIT SEQUENCE OF INTEGER (0..255), text [1] IMPLICIT OCTET STRING, number [2] IMPLICIT INTEGER
-/// (0..255), flag [4] EXPLICIT BOOLEAN, level [5] EXPLICIT INTEGER (0..255), serial [6] IMPLICIT INTEGER, uses [7] IMPLICIT
-/// BIT STRING, name [8] IMPLICIT OBJECT IDENTIFIER }`
+/// `CHOICE { codes [0] IMPLICIT SEQUENCE OF INTEGER (0..255), text [1] IMPLICIT OCTET STRING, number [2] IMPLICIT
+/// INTEGER (0..255), flag [4] EXPLICIT BOOLEAN, level [5] EXPLICIT INTEGER (0..255), serial [6] IMPLICIT INTEGER, uses
+/// [7] IMPLICIT BIT STRING, name [8] IMPLICIT OBJECT IDENTIFIER }`
 ///
-/// The forms under the tags 1, 2, 6, 7 and 8 are also read under the explicit tag, and the one under 4 under the implicit
-/// tag, each with the deviation `GeneralNameForm`.
+/// The forms under the tags 1, 2, 6, 7 and 8 are also read under the explicit tag, and the one under 4 under the
+/// implicit tag, each with the deviation `GeneralNameForm`.
 #[derive(Drop)]
 pub enum Label<A: Allocator = Global> {
     /// Numbers, under the tag 0.
@@ -107,27 +107,19 @@ fn written<A: Allocator>(value: &Label<A>) -> Written<'_, A>
     }
 }
 
-/// The value under an implicit tag.
-fn value_in<N, T>(element: Tagged<N, ContentOf<T>>) -> T
-    ensures { result ≡ element }
-{
-    let ContentOf(value) = element.into_inner();
-    value
-}
-
 /// The label of an alternative that is written.
 fn from_strict<A: Allocator>(parts: Strict<A>) -> Label<A>
     ensures { result ≡ strict_label parts }
 {
     match parts {
-        First(First(First(codes))) => Label::Codes(value_in(codes)),
-        First(First(Second(text))) => Label::Text(value_in(text)),
-        First(Second(First(number))) => Label::Number(value_in(number)),
+        First(First(First(codes))) => Label::Codes(codes.into_value()),
+        First(First(Second(text))) => Label::Text(text.into_value()),
+        First(Second(First(number))) => Label::Number(number.into_value()),
         First(Second(Second(flag))) => Label::Flag(flag.into_inner()),
         Second(First(First(level))) => Label::Level(level.into_inner()),
-        Second(First(Second(serial))) => Label::Serial(value_in(serial)),
-        Second(Second(First(uses))) => Label::Uses(value_in(uses)),
-        Second(Second(Second(name))) => Label::Name(value_in(name)),
+        Second(First(Second(serial))) => Label::Serial(serial.into_value()),
+        Second(Second(First(uses))) => Label::Uses(uses.into_value()),
+        Second(Second(Second(name))) => Label::Name(name.into_value()),
     }
 }
 
@@ -141,7 +133,7 @@ fn from_loose<A: Allocator>(parts: Loose<A>) -> Label<A>
         Second(First(First(serial))) => Label::Serial(serial.into_inner()),
         Second(First(Second(uses))) => Label::Uses(uses.into_inner()),
         Second(Second(First(name))) => Label::Name(name.into_inner()),
-        Second(Second(Second(flag))) => Label::Flag(value_in(flag)),
+        Second(Second(Second(flag))) => Label::Flag(flag.into_value()),
     }
 }
 
@@ -175,7 +167,8 @@ impl<A: Allocator + Copy> Field<A> for Label<A> {
 
     ghost lawful = { λ h. label_lawful (⟦<ContentOf<Asn1SequenceOf<u8, A>> as Field<A>>⟧.lawful (tt, tt)) };
 
-    ghost elements = { λ h. label_element (⟦<ContentOf<Asn1SequenceOf<u8, A>> as Field<A>>⟧.lawful (tt, tt)) };
+    ghost elements = { λ h. label_element (⟦<ContentOf<Asn1SequenceOf<u8, A>> as Field<A>>⟧.lawful
+        (tt, tt)) };
 
     ghost agrees = { λ v. refl };
 

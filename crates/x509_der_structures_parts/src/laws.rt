@@ -23,16 +23,17 @@ use x509_der::laws::fields;
 use x509_der::parts::Field;
 use x509_der::{ReadError, from_bytes};
 
-/// What the first byte of a label tells. Under one of eight tags stands the alternative that is written, with no deviation
-/// but those within it; under one of six others the label has the deviation `GeneralNameForm` over the whole. No label
-/// begins with another byte.
+/// What the first byte of a label tells. Under one of eight tags stands the alternative that is written, with no
+/// deviation but those within it; under one of six others the label has the deviation `GeneralNameForm` over the whole.
+/// No label begins with another byte.
 pub fn label_form<A: Allocator + Copy>()
     ensures { (v : Label A) (c : ℕ) (p : List ℕ) (y : Tally) → label.spelled v (c ∷ p) y → FormAt v c p y }
 {}
 
 /// The law of fields of `Feature`.
 pub fn feature_fields<A: Allocator + Copy>()
-    ensures { (v : Feature A) (string : List ℕ) (y : Tally) → feature.spelled v string y → FeatureAt v string y }
+    ensures { (v : Feature A) (string : List ℕ) (y : Tally) → feature.spelled v string y →
+        FeatureAt v string y }
 {
     fields::<Feature<A>, A>();
 }
@@ -62,20 +63,25 @@ pub fn letter_fields<A: Allocator + Copy>()
 
 /// The law of fields of `KeyReference`: each field stands in the list, also one that doesn't count.
 pub fn key_reference_fields<A: Allocator + Copy>()
-    ensures { (v : KeyReference A) (string : List ℕ) (y : Tally) → key_reference.spelled v string y → ReferenceAt v string y }
+    ensures { (v : KeyReference A) (string : List ℕ) (y : Tally) → key_reference.spelled v string y →
+        ReferenceAt v string y }
 {
     fields::<KeyReference<A>, A>();
 }
 
-/// An encoding of a key reference has one deviation over the whole where its fields aren't strictly ascending, and no other.
+/// An encoding of a key reference has one deviation over the whole where its fields aren't strictly ascending, and no
+/// other.
 pub fn key_reference_marks<A: Allocator>()
-    ensures { (v : KeyReference A) (string : List ℕ) (y : Tally) → key_reference.spelled v string y → ReferenceMarks v string y }
+    ensures { (v : KeyReference A) (string : List ℕ) (y : Tally) → key_reference.spelled v string y →
+        ReferenceMarks v string y }
 {}
 
 /// Of a list of fields the last with a tag counts, where there is one.
 pub fn last_field_counts<H: Drop, V: Drop>()
-    ensures there { (under : H → Option V) (before after : List H) (h : H) (v : V) → under h ≡ Some v → AllByRecursion (λ g. under g ≡ None) after → last under (before ++ h ∷ after) ≡ Some v }
-    ensures absent { (under : H → Option V) (hs : List H) → AllByRecursion (λ g. under g ≡ None) hs → last under hs ≡ None }
+    ensures there { (under : H → Option V) (before after : List H) (h : H) (v : V) → under h ≡ Some v →
+        AllByRecursion (λ g. under g ≡ None) after → last under (before ++ h ∷ after) ≡ Some v }
+    ensures absent { (under : H → Option V) (hs : List H) → AllByRecursion (λ g. under g ≡ None) hs →
+        last under hs ≡ None }
 {}
 
 /// Fields are strictly ascending by their numbers exactly where each has a number below that of the one behind it.

@@ -14,7 +14,8 @@ use x509_der::parts::{
 };
 use x509_der::{FromDer, ReadError, ToDer, TooLong};
 
-/// Which page of how many it is, with a stamp that may be absent. The stamp stands under an implicit tag; since it is constructed, the tag's byte is A0.
+/// Which page of how many it is, with a stamp that may be absent. The stamp stands under an implicit tag; since it is
+/// constructed, the tag's byte is A0.
 ///
 /// # Encoding
 /// `SEQUENCE { stamp [0] IMPLICIT Stamp OPTIONAL, page INTEGER (0..255), pages INTEGER (0..255) }`
@@ -74,9 +75,11 @@ impl<A: Allocator> Structure<Fields<A>> for Letter<A> {
 impl<A: Allocator + Copy> Field<A> for Letter<A> {
     ghost shape = { letter };
 
-    ghost lawful = { λ h. structure_lawful letter_parts letter_base letter_same (⟦<Fields<A> as Field<A>>⟧.lawful ((tt, tt), (tt, tt, λ c h. refl), stamp_apart)) };
+    ghost lawful = { λ h. structure_lawful letter_parts letter_base letter_same
+        (⟦<Fields<A> as Field<A>>⟧.lawful ((tt, tt), (tt, tt, λ c h. refl), stamp_apart)) };
 
-    ghost elements = { λ h. structure_element letter_parts letter_base (⟦<Fields<A> as Field<A>>⟧.elements tt) };
+    ghost elements = { λ h. structure_element letter_parts letter_base
+        (⟦<Fields<A> as Field<A>>⟧.elements tt) };
 
     ghost agrees = { λ v. refl };
 

@@ -137,8 +137,8 @@ impl<A: Allocator + Copy> AnyDefinedBy<ObjectIdentifierAsn1<A>, A> for Claim {
 /// A name, the value of its kind, and a note that may be absent.
 ///
 /// # Encoding
-/// `SEQUENCE { name OBJECT IDENTIFIER, value ANY DEFINED BY name OPTIONAL, note [1] EXPLICIT BOOLEAN OPTIONAL }`. The name says
-/// whether there is a value.
+/// `SEQUENCE { name OBJECT IDENTIFIER, value ANY DEFINED BY name OPTIONAL, note [1] EXPLICIT BOOLEAN OPTIONAL }`. The
+/// name says whether there is a value.
 #[derive(Drop)]
 pub struct Notice<A: Allocator = Global> {
     pub name: ObjectIdentifierAsn1<A>,
@@ -197,9 +197,11 @@ impl<A: Allocator + Copy> Field<A> for Notice<A> {
 
     ghost shape = { notice };
 
-    ghost lawful = { λ h. structure_lawful notice_parts notice_base notice_same (⟦<Fields<A> as Field<A>>⟧.lawful ((tt, λ c h. refl), (tt, tt), note_apart)) };
+    ghost lawful = { λ h. structure_lawful notice_parts notice_base notice_same
+        (⟦<Fields<A> as Field<A>>⟧.lawful ((tt, λ c h. refl), (tt, tt), note_apart)) };
 
-    ghost elements = { λ h. structure_element notice_parts notice_base (⟦<Fields<A> as Field<A>>⟧.elements tt) };
+    ghost elements = { λ h. structure_element notice_parts notice_base
+        (⟦<Fields<A> as Field<A>>⟧.elements tt) };
 
     ghost agrees = { λ v. notice_agrees (notice_parts v) };
 

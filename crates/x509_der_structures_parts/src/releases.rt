@@ -74,9 +74,11 @@ impl<A: Allocator + Copy> View<u8, A> for Release {
 impl<A: Allocator + Copy> Field<A> for Release {
     ghost shape = { release };
 
-    ghost lawful = { λ h. seen_lawful release_meaning release_base (⟦<u8 as Field<A>>⟧.lawful tt) release_seen };
+    ghost lawful = { λ h. seen_lawful release_meaning release_base (⟦<u8 as Field<A>>⟧.lawful tt)
+        release_seen };
 
-    ghost elements = { λ h. seen_element release_meaning release_base (⟦<u8 as Field<A>>⟧.elements tt) release_is };
+    ghost elements = { λ h. seen_element release_meaning release_base (⟦<u8 as Field<A>>⟧.elements tt)
+        release_is };
 
     ghost agrees = { λ v. refl };
 

@@ -65,9 +65,11 @@ impl<A: Allocator> Structure<Inner<A>> for Stamp<A> {
 impl<A: Allocator + Copy> Field<A> for Stamp<A> {
     ghost shape = { stamp };
 
-    ghost lawful = { λ h. structure_lawful stamp_parts stamp_base stamp_same (⟦<Tagged<Sequence, Inner<A>> as Field<A>>⟧.lawful (tt, tt, λ c h. refl)) };
+    ghost lawful = { λ h. structure_lawful stamp_parts stamp_base stamp_same
+        (⟦<Tagged<Sequence, Inner<A>> as Field<A>>⟧.lawful (tt, tt, λ c h. refl)) };
 
-    ghost elements = { λ h. structure_element stamp_parts stamp_base (⟦<Tagged<Sequence, Inner<A>> as Field<A>>⟧.elements tt) };
+    ghost elements = { λ h. structure_element stamp_parts stamp_base
+        (⟦<Tagged<Sequence, Inner<A>> as Field<A>>⟧.elements tt) };
 
     ghost agrees = { λ v. refl };
 
@@ -88,7 +90,9 @@ impl<A: Allocator + Copy> Field<A> for Stamp<A> {
 impl<A: Allocator + Copy> Content<A> for Stamp<A> {
     ghost content_shape = { stamp_content };
 
-    ghost content_lawful = { λ h. content_of_lawful (structure stamp_parts stamp_inner) (structure_lawful stamp_parts stamp_inner stamp_same (⟦<Inner<A> as Field<A>>⟧.lawful (tt, tt, λ c h. refl))) };
+    ghost content_lawful = { λ h. content_of_lawful (structure stamp_parts stamp_inner)
+        (structure_lawful stamp_parts stamp_inner stamp_same
+        (⟦<Inner<A> as Field<A>>⟧.lawful (tt, tt, λ c h. refl))) };
 
     fn known_content(&self) {
         self.known();

@@ -10,7 +10,8 @@ pub fn utc_time_takes_no_memory<A: Allocator + Copy>()
     ensures { ⟦<UtcTimeAsn1 as Field<A>>⟧.shape.frugal }
 {}
 
-/// Reading GeneralizedTime takes no memory, so that `from_bytes`, `read_counted` and `read_metered` never answer want of it.
+/// Reading GeneralizedTime takes no memory, so that `from_bytes`, `read_counted` and `read_metered` never answer want
+/// of it.
 pub fn generalized_time_takes_no_memory<A: Allocator + Copy>()
     ensures { ⟦<GeneralizedTimeAsn1 as Field<A>>⟧.shape.frugal }
 {}

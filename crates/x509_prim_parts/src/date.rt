@@ -53,10 +53,11 @@ impl<Y: Years> Date<Y> {
         }
     }
 
-    /// This second: month and day from 1, hour to 23, minute and second to 59. None, exactly where the type doesn't have the
-    /// year or there is no such second. Takes no memory.
+    /// This second: month and day from 1, hour to 23, minute and second to 59. None, exactly where the type doesn't
+    /// have the year or there is no such second. Takes no memory.
     pub fn new(year: u16, month: u8, day: u8, hour: u8, minute: u8, second: u8) -> Option<Self>
-        ensures { SomeIff result (Y.allowed (moment year month day hour minute second)) (moment year month day hour minute second) }
+        ensures { SomeIff result (Y.allowed (moment year month day hour minute second))
+            (moment year month day hour minute second) }
     {
         let moment = DateTime::new(year, month, day, hour, minute, second)?;
         if !Y::have(moment) {

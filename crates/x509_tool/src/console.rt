@@ -119,7 +119,8 @@ pub(crate) fn read_input<A: Allocator, R: Read + Drop>(
     Err(Stop::Console)
 }
 
-/// Runs the program: looks at the argument, reads the input, and prints the answer. Nothing is printed where anything before that fails.
+/// Runs the program: looks at the argument, reads the input, and prints the answer. Nothing is printed where anything
+/// before that fails.
 pub fn run(rt: &HostRuntime) -> Result<(), Stop> {
     let name = type_name(rt)?;
     let input = read_input(rt.alloc(), rt.reader())?;

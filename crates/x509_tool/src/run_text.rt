@@ -37,18 +37,21 @@ fn answer<T: FromDer<A>, A: Allocator + Copy>(
 /// lower-case hexadecimal on a line, and the ten counts of deviations on a line.
 ///
 /// # Errors
-/// `Usage`, exactly where the name isn't that of a type that is served, and before memory is asked for, or the text isn't an
-/// even number of hexadecimal digits of either case with at most one line feed at its end; else `Refused`, exactly where the
-/// bytes aren't spelled with a value of the type; `TooLong`, exactly where its DER encoding is longer than a `usize` can
-/// say. `OutOfMemory` may stand in place of any answer but that to an unknown name, where memory is refused.
+/// `Usage`, exactly where the name isn't that of a type that is served, and before memory is asked for, or the text
+/// isn't an even number of hexadecimal digits of either case with at most one line feed at its end; else `Refused`,
+/// exactly where the bytes aren't spelled with a value of the type; `TooLong`, exactly where its DER encoding is longer
+/// than a `usize` can say. `OutOfMemory` may stand in place of any answer but that to an unknown name, where memory is
+/// refused.
 pub fn run_text<A: Allocator + Copy>(
     alloc: A,
     type_name: &str,
     input: &[u8],
 ) -> Result<Vec<u8, A>, ToolFault>
     ensures unknown { (IsServed type_name.now → ⊥) → result ≡ Err ToolFault.Usage }
-    ensures no_text { IsServed type_name.now → IsNoText input.now → IsUsageOrMemory (listed_answer (λ v. v.items) result) }
-    ensures text { (bytes : List ℕ) → IsServed type_name.now → IsTextOf bytes input.now → AnswersNamed type_name.now bytes (listed_answer (λ v. v.items) result) }
+    ensures no_text { IsServed type_name.now → IsNoText input.now →
+        IsUsageOrMemory (listed_answer (λ v. v.items) result) }
+    ensures text { (bytes : List ℕ) → IsServed type_name.now → IsTextOf bytes input.now →
+        AnswersNamed type_name.now bytes (listed_answer (λ v. v.items) result) }
 {
     if type_name != "raw-algorithm" {
         return Err(ToolFault::Usage);

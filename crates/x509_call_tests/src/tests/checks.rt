@@ -1,5 +1,5 @@
-//! What tests share. An assertion as a call costs a proof less than the macro does in a function whose values are dropped,
-//! `assert_eq!` five times as much and more.
+//! What tests share. An assertion as a call costs a proof less than the macro does in a function whose values are
+//! dropped, `assert_eq!` five times as much and more.
 
 use std::alloc::Global;
 use std::fmt::Debug;

@@ -34,8 +34,8 @@ impl Structure<Tagged<Sequence, Join<Loose, Loose>>> for Pair {
     ghost same = { λ v w e. ap (λ f. record { first = f.0; second = f.1 }) e };
 }
 
-/// An encoding, where its first field ends, the two numbers, and how many deviations stand inside of the first field and
-/// outside of it.
+/// An encoding, where its first field ends, the two numbers, and how many deviations stand inside of the first field
+/// and outside of it.
 const PAIRS: &[(&[u8], usize, (u8, u8), (usize, usize))] = &[
     (b"\x30\x06\x81\x01\x05\x81\x01\x06", 5, (5, 6), (0, 0)),
     (

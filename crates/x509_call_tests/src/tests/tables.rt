@@ -1,5 +1,5 @@
-//! The tables of object identifiers: how many there are, that each constant and each printed value is the stated text, and
-//! that each function answers want of memory where its request is refused.
+//! The tables of object identifiers: how many there are, that each constant and each printed value is the stated text,
+//! and that each function answers want of memory where its request is refused.
 
 /// Compares the lines of a table: a constant, the function that makes its identifier, and the stated text of both.
 macro_rules! lines {

@@ -27,7 +27,8 @@ impl<A: Allocator> fmt::Display for ObjectIdentifier<A> {
 
 /// The number that a piece writes in decimal digits with no leading zero, if it fits 64 bits.
 fn read_arc(piece: &str) -> Option<u64>
-    ensures { MatchOption result ((n : ℕ) → n < 2 ^ 64 → piece.now ≢ decimal n) (λ n. (n < 2 ^ 64) × (piece.now ≡ decimal n)) }
+    ensures { MatchOption result ((n : ℕ) → n < 2 ^ 64 → piece.now ≢ decimal n) (λ n. (n < 2 ^ 64) ×
+        (piece.now ≡ decimal n)) }
 {
     let bytes = piece.as_bytes();
     let Some(first) = bytes.first() else {
@@ -49,7 +50,8 @@ impl<A: Allocator> ObjectIdentifier<A> {
     /// `Bad`, exactly where the text is that of no object identifier; `OutOfMemory` where memory is refused.
     pub fn from_text(alloc: A, text: &str) -> Result<Self, OidError>
         ensures ok { IfOk result (λ o. IsLawful o × (text.now ≡ dotted o)) }
-        ensures bad { IfErr result (λ e. (e ≡ OidError.OutOfMemory) ⊎ ((e ≡ OidError.Bad) × ((arcs : List ℕ) → IsLawful arcs → text.now ≢ dotted arcs))) }
+        ensures bad { IfErr result (λ e. (e ≡ OidError.OutOfMemory) ⊎
+            ((e ≡ OidError.Bad) × ((arcs : List ℕ) → IsLawful arcs → text.now ≢ dotted arcs))) }
     {
         let mut arcs = Vec::new(alloc);
         for piece in text.split('.') {

@@ -2,20 +2,20 @@
 use Rattle.std.specs.Prelude.{◌≡◌, ℕ, Bool, refl}
 use Rattle.x509_der.specs.Types.{Choice}
 use Rattle.x509_der.specs.Types.choice.{First, Second}
-use Rattle.x509_der_structures.specs.declared.choice.Mark.{Mark}
-use Rattle.x509_der_structures.specs.declared.choice.Mark.TheVariants.{Flag, Number, Other}
+use Rattle.x509_der_structures.specs.declared.choice.Reply.{Reply}
+use Rattle.x509_der_structures.specs.declared.choice.Reply.TheVariants.{Flag, Number, Other}
 use Rattle.x509_der.specs.facts.Lists.{same_one}
-use Rattle.x509_der_structures.specs.Choices.{mark_parts}
+use Rattle.x509_der_structures.specs.Choices.{reply_parts}
 
-abbrev pub mark_of : Choice Bool (Choice ℕ ℕ) → Mark
-mark_of (First v) = Flag v
-mark_of (Second (First v)) = Number v
-mark_of (Second (Second v)) = Other v
+abbrev pub reply_of : Choice Bool (Choice ℕ ℕ) → Reply
+reply_of (First v) = Flag v
+reply_of (Second (First v)) = Number v
+reply_of (Second (Second v)) = Other v
 
-mark_made : (v : Mark) → mark_of (mark_parts v) ≡ v
-mark_made (Flag v) = refl
-mark_made (Number v) = refl
-mark_made (Other v) = refl
+reply_made : (v : Reply) → reply_of (reply_parts v) ≡ v
+reply_made (Flag v) = refl
+reply_made (Number v) = refl
+reply_made (Other v) = refl
 
-pub mark_same : (v w : Mark) → mark_parts v ≡ mark_parts w → v ≡ w
-mark_same = same_one mark_parts mark_of mark_made
+pub reply_same : (v w : Reply) → reply_parts v ≡ reply_parts w → v ≡ w
+reply_same = same_one reply_parts reply_of reply_made

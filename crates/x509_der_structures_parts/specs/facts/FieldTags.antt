@@ -1,5 +1,5 @@
 -- Fields that may be absent are told from what follows by their tags.
-use Rattle.std.proofs.Common.{◌≡◌, ℕ, Bool, true, false, ◌||◌, eqb, arith}
+use Rattle.std.proofs.Common.{◌≡◌, ℕ, true, false, ◌||◌, eqb, arith}
 use Rattle.std.proofs.lemmas.Bool.Decides.{nat_tests}
 
 pub stamp_apart : (c : ℕ) → (eqb c 2 || eqb c 2) ≡ true → (false || eqb c 160) ≡ false

@@ -2,8 +2,7 @@
 use Rattle.std.proofs.Common.{ap}
 use Rattle.std.specs.Prelude.{◌≡◌}
 use Rattle.x509_der_structures_parts.specs.declared.notice.Notice.{Notice}
-use Rattle.x509_der_structures_parts.specs.Notices.{Fields, note, notice_parts}
-use Rattle.x509_der_structures_parts.specs.declared.notice.Claim.TheVariants as claim
+use Rattle.x509_der_structures_parts.specs.Notices.{Fields, notice_parts}
 
 abbrev pub notice_of : {A : Type 0} → Fields → Notice A
 notice_of f = record { name = f.0.0; claim = f.0.1; note = f.1 }

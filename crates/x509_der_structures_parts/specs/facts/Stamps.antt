@@ -1,7 +1,6 @@
 -- A structure that also stands under an implicit tag.
 use Rattle.std.proofs.Common.{◌≡◌, ap}
 use Rattle.x509_der_structures_parts.specs.declared.stamp.Stamp.{Stamp}
-use Rattle.x509_der.specs.PrimitiveContent.{octets}
 use Rattle.x509_der_structures_parts.specs.Stamps.{Fields, stamp_parts}
 
 abbrev pub stamp_of : {A : Type 0} → Fields → Stamp A

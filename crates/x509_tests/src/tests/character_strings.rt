@@ -5,12 +5,18 @@ use refusing::Refusing;
 use std::process::Abort;
 use x509_prim::{BmpStringAsn1, Ia5StringAsn1, PrintableStringAsn1, Utf8String};
 
-/// The texts of these and of IA5 are examples of RSA Laboratories' "A Layman's Guide to a Subset of ASN.1, BER, and DER",
-/// 5.8 and 5.13.
+/// The texts of these and of IA5 are examples of RSA Laboratories' "A Layman's Guide to a Subset of ASN.1, BER, and
+/// DER", 5.8 and 5.13.
 const PRINTABLE_STRINGS: Table<'static> = Table {
     strict: &[("1300", 1), ("130b5465737420557365722031", 1)],
     rows: &[],
-    refused: &["13012a", "130140", "130180", "13024100ff", "0c0141"],
+    refused: &[
+        "13012a", // an asterisk
+        "130140", // an at sign
+        "130180", // a byte above 7F
+        "13024100ff", // a zero byte in it, and a byte left over
+        "0c0141", // another tag
+    ],
 };
 
 /// The test of this name, over any such allocator.
@@ -31,7 +37,12 @@ const IA5_STRINGS: Table<'static> = Table {
         ("1602007f", 1),
     ],
     rows: &[],
-    refused: &["160180", "160241ff", "130141", "36034101ff"],
+    refused: &[
+        "160180", // a byte above 7F
+        "160241ff", // a byte above 7F
+        "130141", // another tag
+        "36034101ff", // the tag of a constructed string
+    ],
 };
 
 /// The test of this name, over any such allocator.
@@ -53,7 +64,11 @@ const BMP_STRINGS: Table<'static> = Table {
         ("1e040061ffff", 1),
     ],
     rows: &[],
-    refused: &["1e0161", "1e03006100", "0c020061"],
+    refused: &[
+        "1e0161", // an odd number of bytes
+        "1e03006100", // an odd number of bytes
+        "0c020061", // another tag
+    ],
 };
 
 /// The test of this name, over any such allocator.
@@ -80,14 +95,14 @@ const UTF8_STRINGS: Table<'static> = Table {
     ],
     rows: &[],
     refused: &[
-        "0c0180",
-        "0c02c080",
-        "0c03e08080",
-        "0c03eda080",
-        "0c06eda18cedbeb4",
-        "0c04f4908080",
-        "0c02e289",
-        "130141",
+        "0c0180", // a byte that begins no character
+        "0c02c080", // U+0000 in two bytes, not one
+        "0c03e08080", // U+0000 in three bytes, not one
+        "0c03eda080", // a surrogate, U+D800
+        "0c06eda18cedbeb4", // two surrogates, U+D84C and U+DFB4
+        "0c04f4908080", // U+110000, above U+10FFFF
+        "0c02e289", // a character cut short
+        "130141", // another tag
     ],
 };
 

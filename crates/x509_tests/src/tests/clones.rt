@@ -141,8 +141,8 @@ impl<T: CloneEq> OwnClone for BitStringAsn1Container<T> {
     }
 }
 
-/// How many requests a clone makes, by the type's own call, where it is equal, and want of memory where one is refused. The
-/// other value is as the first was before.
+/// How many requests a clone makes, by the type's own call, where it is equal, and want of memory where one is refused.
+/// The other value is as the first was before.
 pub(super) fn clones_in_turn<'v, A: Heap, T: OwnClone + PartialEq>(
     heap: A,
     value: &'v T,

@@ -9,7 +9,14 @@ use x509_keys::RawAlgorithmIdentifier;
 const NULL: Table<'static> = Table {
     strict: &[("0500", 1)],
     rows: &[],
-    refused: &["050100", "058100", "05", "050000", "0400", ""],
+    refused: &[
+        "050100", // a content
+        "058100", // a length that isn't minimal
+        "05", // a tag alone
+        "050000", // a byte left over
+        "0400", // another tag
+        "", // no bytes
+    ],
 };
 
 /// The test of this name, over any such allocator.
@@ -26,7 +33,14 @@ fn null(rt: HostRuntime) {
 const RAW_ELEMENTS: Table<'static> = Table {
     strict: &[("0000", 1), ("3003020501", 1), ("0500", 1)],
     rows: &[],
-    refused: &["1f00", "05", "", "050000", "ff810200", "308100"],
+    refused: &[
+        "1f00", // a tag of several bytes
+        "05", // a tag alone
+        "", // no bytes
+        "050000", // a byte left over
+        "ff810200", // a tag of several bytes
+        "308100", // a length that isn't minimal
+    ],
 };
 
 /// The test of this name, over any such allocator.
@@ -42,12 +56,12 @@ fn raw_elements_are_read(rt: HostRuntime) {
 
 /// Lengths that claim more than is there, that are indefinite, or whose tag is of several bytes; and the most headers.
 const HOSTILE: &[(&str, usize)] = &[
-    ("3084ffffffff", 4),
-    ("3088ffffffffffffffff", 6),
-    ("3089010000000000000000", 6),
-    ("30800000", 3),
-    ("1f8100", 2),
-    ("", 1),
+    ("3084ffffffff", 4), // 2^32 - 1 bytes that aren't there
+    ("3088ffffffffffffffff", 6), // 2^64 - 1 bytes that aren't there
+    ("3089010000000000000000", 6), // a length above 64 bits
+    ("30800000", 3), // an indefinite length
+    ("1f8100", 2), // a tag of several bytes
+    ("", 1), // no bytes
 ];
 
 /// Hostile lengths are refused, with few headers.

@@ -12,8 +12,8 @@ pub struct Field<'a> {
     pub tags: &'a [u8],
 }
 
-/// The universal tags whose numbers fit in one byte (X.680, 8.4), each with a content of its type; SEQUENCE, SET and the
-/// types that are encoded like a SEQUENCE are empty.
+/// The universal tags whose numbers fit in one byte (X.680, 8.4), each with a content of its type; SEQUENCE, SET and
+/// the types that are encoded like a SEQUENCE are empty.
 pub const SAMPLES: &[(u8, &[u8])] = &[
     (0x01, b"\xFF"),
     (0x02, b"\x05"),

@@ -1,4 +1,5 @@
-//! Types that see other values than those of their fields: some of them, those with a field left out, and those in two forms.
+//! Types that see other values than those of their fields: some of them, those with a field left out, and those in two
+//! forms.
 
 use super::fields::Field;
 use super::rows::{Heap, Row, Table, all_coded};
@@ -116,35 +117,35 @@ const LABELS: Table<'static> = Table {
         },
     ],
     refused: &[
-        "830105",
-        "850105",
-        "a303020105",
-        "8000",
-        "8900",
-        "a900",
-        "020105",
-        "0402a1b2",
-        "a0020500",
-        "a003800105",
-        "a0023000",
-        "820180",
-        "82020100",
-        "8202007f",
-        "840101",
-        "8400",
-        "84020000",
-        "a50101",
-        "a400",
-        "a100",
-        "a606020105020106",
-        "8600",
-        "86020001",
-        "8700",
-        "870108",
-        "8800",
-        "880180",
-        "a1080402a1b20402a1b2",
-        "a1048102a1b2",
+        "830105", // a tag of no form
+        "850105", // a level under the implicit tag
+        "a303020105", // a tag of no form
+        "8000", // codes under 80, not A0
+        "8900", // a tag of no form
+        "a900", // a tag of no form
+        "020105", // a number under its universal tag
+        "0402a1b2", // a text under its universal tag
+        "a0020500", // a code with another tag
+        "a003800105", // a code with another tag
+        "a0023000", // codes under the explicit tag
+        "820180", // a number below 0
+        "82020100", // a number above 255
+        "8202007f", // a padded number
+        "840101", // a flag that is neither 00 nor FF
+        "8400", // a flag without content
+        "84020000", // a flag of two bytes
+        "a50101", // a tag alone under the explicit tag
+        "a400", // an explicit tag around nothing
+        "a100", // an explicit tag around nothing
+        "a606020105020106", // an element behind the serial
+        "8600", // a serial without content
+        "86020001", // a padded serial
+        "8700", // no count of unused bits
+        "870108", // eight unused bits of no byte
+        "8800", // a name without content
+        "880180", // a name of a padded number without its last byte
+        "a1080402a1b20402a1b2", // an element behind the text
+        "a1048102a1b2", // the implicit tag within the explicit one
     ],
 };
 
@@ -163,8 +164,15 @@ const RELEASES: Table<'static> = Table {
     strict: &[("020100", 1), ("020101", 1), ("020102", 1)],
     rows: &[],
     refused: &[
-        "020103", "02010f", "02020100", "020200ff", "02020001", "0200", "020180", "0a0101",
-        "02010100",
+        "020103", // 3, which is no release
+        "02010f", // 15, which is no release
+        "02020100", // above 255
+        "020200ff", // 255, which is no release
+        "02020001", // padded with a zero
+        "0200", // no content
+        "020180", // below 0
+        "0a0101", // another tag
+        "02010100", // a byte left over
     ],
 };
 
@@ -330,19 +338,19 @@ const FEATURES: Table<'static> = Table {
         },
     ],
     refused: &[
-        "300906022a030403020105",
-        "300906022a0404030101ff",
-        "300806022a030402a1b2",
-        "300606022a030400",
-        "300406022a05",
-        "300706022a050101ff",
-        "30080402a1b206022a05",
-        "300b0101ff06022a050402a1b2",
-        "300b06022a050402a1b20101ff",
-        "300e06022a050101ff0101ff0402a1b2",
-        "300b06022a050101010402a1b2",
-        "300b06022a0304050101ff0500",
-        "300a06022a050402a1b20500",
+        "300906022a030403020105", // 1.2.3 and a number
+        "300906022a0404030101ff", // 1.2.4 and a truth value
+        "300806022a030402a1b2", // 1.2.3 and octets that are no element
+        "300606022a030400", // 1.2.3 and empty octets
+        "300406022a05", // 1.2.5 and no value
+        "300706022a050101ff", // 1.2.5, critical, and no value
+        "30080402a1b206022a05", // the value in front of the name
+        "300b0101ff06022a050402a1b2", // critical in front of the name
+        "300b06022a050402a1b20101ff", // critical behind the value
+        "300e06022a050101ff0101ff0402a1b2", // critical twice
+        "300b06022a050101010402a1b2", // critical that is neither 00 nor FF
+        "300b06022a0304050101ff0500", // an element behind the truth value
+        "300a06022a050402a1b20500", // an element behind the value
     ],
 };
 
@@ -480,19 +488,19 @@ const EDITIONS: Table<'static> = Table {
         },
     ],
     refused: &[
-        "300ca3053003020105a003020105",
-        "300aa003020105a003020105",
-        "3008a3023000a3023000",
-        "3002a000",
-        "3002a300",
-        "3003800105",
-        "3005a303020105",
-        "3004a1023000",
-        "3004a3023100",
-        "30020500",
-        "3007a0050201050500",
-        "3006a30430000500",
-        "300000",
+        "300ca3053003020105a003020105", // the version behind the numbers
+        "300aa003020105a003020105", // two versions
+        "3008a3023000a3023000", // two lists of numbers
+        "3002a000", // an explicit tag around nothing
+        "3002a300", // an explicit tag around nothing
+        "3003800105", // a version under the implicit tag
+        "3005a303020105", // a number in the place of the list
+        "3004a1023000", // a tag of no field
+        "3004a3023100", // a set in the place of the list
+        "30020500", // a tag of no field
+        "3007a0050201050500", // an element behind the version
+        "3006a30430000500", // an element behind the list
+        "300000", // a byte left over
     ],
 };
 
@@ -534,17 +542,17 @@ const LOOSE: Table<'static> = Table {
         },
     ],
     refused: &[
-        "020105",
-        "820105",
-        "a103810105",
-        "a100",
-        "8100",
-        "81020100",
-        "8102007f",
-        "810180",
-        "a1050201050500",
-        "a1040202007f",
-        "81010500",
+        "020105", // a number under its universal tag
+        "820105", // another tag
+        "a103810105", // the implicit tag within the explicit one
+        "a100", // an explicit tag around nothing
+        "8100", // no content
+        "81020100", // above 255
+        "8102007f", // padded with a zero
+        "810180", // below 0
+        "a1050201050500", // an element behind the number
+        "a1040202007f", // padded with a zero
+        "81010500", // a byte left over
     ],
 };
 
@@ -559,7 +567,8 @@ fn two_forms(rt: HostRuntime) {
     two_forms_over(&rt, &heap);
 }
 
-/// From 1950-01-01 or 2019-10-17 to 2049-12-31, and to the last second of 9999, which stands for no end (RFC 5280, 4.1.2.5).
+/// From 1950-01-01 or 2019-10-17 to 2049-12-31, and to the last second of 9999, which stands for no end (RFC 5280,
+/// 4.1.2.5).
 const VALIDITIES: Table<'static> = Table {
     strict: &[
         (
@@ -594,12 +603,12 @@ const VALIDITIES: Table<'static> = Table {
         ],
     }],
     refused: &[
-        "3000",
-        "300f170d3530303130313030303030305a",
-        "3012020105170d3530303130313030303030305a",
-        "302d170d3530303130313030303030305a170d3439313233313233353935395a170d3439313233313233353935395a",
-        "301e170d3530303130313030303030305a170d3439313233313233353935395a00",
-        "311e170d3530303130313030303030305a170d3439313233313233353935395a",
+        "3000", // no time
+        "300f170d3530303130313030303030305a", // a time alone
+        "3012020105170d3530303130313030303030305a", // a number in the place of the first time
+        "302d170d3530303130313030303030305a170d3439313233313233353935395a170d3439313233313233353935395a", // three times
+        "301e170d3530303130313030303030305a170d3439313233313233353935395a00", // a byte left over
+        "311e170d3530303130313030303030305a170d3439313233313233353935395a", // another tag
     ],
 };
 

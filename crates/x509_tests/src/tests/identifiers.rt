@@ -18,15 +18,15 @@ const IDENTIFIERS: Table<'static> = Table {
     ],
     rows: &[],
     refused: &[
-        "060a82808080808080808000",
-        "06028001",
-        "0600",
-        "060180",
-        "06032a8001",
-        "060b2a82808080808080808000",
-        "05028837",
-        "0602883700",
-        "0681028837",
+        "060a82808080808080808000", // a first number above 64 bits
+        "06028001", // a padded number
+        "0600", // no content
+        "060180", // a padded number without its last byte
+        "06032a8001", // a padded second number
+        "060b2a82808080808080808000", // a second number above 64 bits
+        "05028837", // another tag
+        "0602883700", // a byte left over
+        "0681028837", // a length that isn't minimal
     ],
 };
 

@@ -34,7 +34,11 @@ const SEQUENCES: Table<'static> = Table {
         headers: 3,
         fields: TWO_INTEGERS,
     }],
-    refused: &["30050201010201", "3100", "3003010100"],
+    refused: &[
+        "30050201010201", // a second item cut short
+        "3100", // another tag
+        "3003010100", // an item with another tag
+    ],
 };
 
 /// The test of this name, over any such allocator.
@@ -59,7 +63,9 @@ const SETS: Table<'static> = Table {
         headers: 3,
         fields: TWO_INTEGERS,
     }],
-    refused: &["3006020102020101"],
+    refused: &[
+        "3006020102020101", // another tag
+    ],
 };
 
 /// The test of this name, over any such allocator.
@@ -88,7 +94,9 @@ const IN_OCTETS: Table<'static> = Table {
             tags: &[0x02],
         }],
     }],
-    refused: &["04050201050500"],
+    refused: &[
+        "04050201050500", // an element behind the number
+    ],
 };
 
 /// An integer stands in a BIT STRING, behind the count of its unused bits.
@@ -105,7 +113,9 @@ const IN_BITS: Table<'static> = Table {
             tags: &[0x02],
         }],
     }],
-    refused: &["030401020105"],
+    refused: &[
+        "030401020105", // an unused bit
+    ],
 };
 
 /// The test of this name, over any such allocator.
@@ -172,8 +182,8 @@ fn headers_before_a_fault_are_counted(rt: HostRuntime) {
     sets_are_refused(&rt, &heap, &cut);
 }
 
-/// The items' deviations are placed from the input's start; an item that is refused stands behind one with a place. Five items
-/// and five places need more room than the least that a `Vec` takes.
+/// The items' deviations are placed from the input's start; an item that is refused stands behind one with a place.
+/// Five items and five places need more room than the least that a `Vec` takes.
 const ITEMS_WITHOUT_PARAMETERS: Table<'static> = Table {
     strict: &[],
     rows: &[
@@ -202,7 +212,9 @@ const ITEMS_WITHOUT_PARAMETERS: Table<'static> = Table {
             fields: &[],
         },
     ],
-    refused: &["3009300506035504030500"],
+    refused: &[
+        "3009300506035504030500", // a second item with another tag
+    ],
 };
 
 /// The test of this name, over any such allocator.

@@ -14,12 +14,12 @@ const SMALL_NUMBERS: Table<'static> = Table {
     ],
     rows: &[],
     refused: &[
-        "020180",
-        "0202007f",
-        "02020100",
-        "0200",
-        "0203000080",
-        "030101",
+        "020180", // below 0
+        "0202007f", // padded with a zero
+        "02020100", // above 255
+        "0200", // no content
+        "0203000080", // padded with a zero
+        "030101", // another tag
     ],
 };
 
@@ -37,7 +37,13 @@ fn small_numbers(rt: HostRuntime) {
 const TRUTH_VALUES: Table<'static> = Table {
     strict: &[("0101ff", 1), ("010100", 1)],
     rows: &[],
-    refused: &["010101", "01020000", "0100", "0101", "0201ff"],
+    refused: &[
+        "010101", // neither 00 nor FF
+        "01020000", // two bytes
+        "0100", // no content
+        "0101", // cut short
+        "0201ff", // another tag
+    ],
 };
 
 /// The test of this name, over any such allocator.
@@ -63,12 +69,12 @@ const INTEGERS: Table<'static> = Table {
     ],
     rows: &[],
     refused: &[
-        "0200",
-        "0202007f",
-        "0202ff80",
-        "02030000ff",
-        "0301ff",
-        "020200",
+        "0200", // no content
+        "0202007f", // padded with a zero
+        "0202ff80", // padded with ones
+        "02030000ff", // padded with a zero
+        "0301ff", // another tag
+        "020200", // cut short
     ],
 };
 

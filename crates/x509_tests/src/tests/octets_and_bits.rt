@@ -52,7 +52,11 @@ fn refuses_head<A: Heap>(rt: &impl Abort, heap: A, head: &str, most: usize) {
 
 /// The test of this name, over any such allocator.
 fn lengths_are_the_shortest_over<A: Heap>(rt: &impl Abort, heap: A) {
-    for head in &["04817f", "0480", "04820080"] {
+    for head in &[
+        "04817f", // a length that isn't minimal
+        "0480", // an indefinite length
+        "04820080", // a length that isn't minimal
+    ] {
         refuses_head(rt, heap, *head, 131);
     }
 }
@@ -66,7 +70,9 @@ fn lengths_are_the_shortest(rt: HostRuntime) {
 const OCTETS: Table<'static> = Table {
     strict: &[("0400", 1), ("0403a1b2c3", 1)],
     rows: &[],
-    refused: &["0300"],
+    refused: &[
+        "0300", // another tag
+    ],
 };
 
 /// The test of this name, over any such allocator.
@@ -88,7 +94,13 @@ const BITS: Table<'static> = Table {
         ("030401ffff00", 1),
     ],
     rows: &[],
-    refused: &["0300", "030101", "03020800", "030201a1", "0403020780"],
+    refused: &[
+        "0300", // no count of unused bits
+        "030101", // an unused bit of no byte
+        "03020800", // eight unused bits
+        "030201a1", // an unused bit that is set
+        "0403020780", // another tag
+    ],
 };
 
 /// The test of this name, over any such allocator.

@@ -1,4 +1,5 @@
-//! A list of which the last of a tag counts, an optional field behind a chosen one, and a structure under an implicit tag.
+//! A list of which the last of a tag counts, an optional field behind a chosen one, and a structure under an implicit
+//! tag.
 
 use super::fields::Field;
 use super::rows::{Heap, Row, Table, all_coded};
@@ -56,13 +57,13 @@ const REFERENCES: Table<'static> = Table {
         },
     ],
     refused: &[
-        "3003830105",
-        "30028200",
-        "3003810105",
-        "300482020001",
-        "30058200820105",
-        "3002a100",
-        "3008a1060201050201",
+        "3003830105", // a tag of no field
+        "30028200", // a serial without content
+        "3003810105", // an issuer under the implicit tag
+        "300482020001", // a padded serial
+        "30058200820105", // a first serial without content
+        "3002a100", // an explicit tag around nothing
+        "3008a1060201050201", // cut short
     ],
 };
 
@@ -91,14 +92,14 @@ const NOTICES: Table<'static> = Table {
     ],
     rows: &[],
     refused: &[
-        "300706022b05020105",
-        "300406022b06",
-        "300406022b03",
-        "300906022b03a1030101ff",
-        "300ca1030101ff06022b030101ff",
-        "300e06022b05a1030101ffa1030101ff",
-        "300a06022b04020105020106",
-        "300c06022b04a1030101ff020105",
+        "300706022b05020105", // 1.3.5 and a value
+        "300406022b06", // 1.3.6, which isn't known
+        "300406022b03", // 1.3.3 and no value
+        "300906022b03a1030101ff", // 1.3.3 and no value, but a note
+        "300ca1030101ff06022b030101ff", // the note in front of the name
+        "300e06022b05a1030101ffa1030101ff", // two notes
+        "300a06022b04020105020106", // 1.3.4 and two values
+        "300c06022b04a1030101ff020105", // the note in front of the value
     ],
 };
 
@@ -116,7 +117,10 @@ fn optional_behind_chosen(rt: HostRuntime) {
 const STAMPS: Table<'static> = Table {
     strict: &[("300806022b030402a1b2", 3)],
     rows: &[],
-    refused: &["a00806022b030402a1b2", "300406022b03"],
+    refused: &[
+        "a00806022b030402a1b2", // another tag
+        "300406022b03", // no octets
+    ],
 };
 
 /// The test of this name, over any such allocator.
@@ -137,11 +141,11 @@ const LETTERS: Table<'static> = Table {
     ],
     rows: &[],
     refused: &[
-        "3010800806022b030402a1b2020101020102",
-        "3012a00a300806022b030402a1b2020101020102",
-        "3010020101020102a00806022b030402a1b2",
-        "3010300806022b030402a1b2020101020102",
-        "3003020101",
+        "3010800806022b030402a1b2020101020102", // a stamp under 80, not A0
+        "3012a00a300806022b030402a1b2020101020102", // a stamp under the explicit tag
+        "3010020101020102a00806022b030402a1b2", // the stamp behind the pages
+        "3010300806022b030402a1b2020101020102", // a stamp under its universal tag
+        "3003020101", // a page, and no number of pages
     ],
 };
 

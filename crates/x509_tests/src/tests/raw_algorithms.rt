@@ -64,12 +64,12 @@ const ALGORITHMS: Table<'static> = Table {
     strict: &[],
     rows: ROWS,
     refused: &[
-        "300a06082a864886f70d020905",
-        "300d06082a864886f70d0209050000",
-        "300c06082a864886f70d0209050000",
-        "310c06082a864886f70d02090500",
-        "3000",
-        "300e06082a864886f70d020905000500",
+        "300a06082a864886f70d020905", // a byte left over behind it
+        "300d06082a864886f70d0209050000", // a byte left over in it
+        "300c06082a864886f70d0209050000", // a byte left over behind it
+        "310c06082a864886f70d02090500", // another tag
+        "3000", // no identifier
+        "300e06082a864886f70d020905000500", // two elements behind the identifier
     ],
 };
 

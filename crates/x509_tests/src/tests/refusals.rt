@@ -1,8 +1,8 @@
 //! What is refused, with the headers that are decoded on the way and the error's name.
 //!
-//! A header is one decoding of a tag with its length digits, a failed one among them. Looking at a tag byte, to choose an
-//! alternative or to tell whether an optional field is there, is none. The numbers follow from that and from the order in
-//! which elements are read: the outer one first, and then what stands in it, from front to back.
+//! A header is one decoding of a tag with its length digits, a failed one among them. Looking at a tag byte, to choose
+//! an alternative or to tell whether an optional field is there, is none. The numbers follow from that and from the
+//! order in which elements are read: the outer one first, and then what stands in it, from front to back.
 
 use std::alloc::Global;
 use std::process::Abort;
@@ -15,14 +15,14 @@ use x509_der::{
     IntegerAsn1, ObjectIdentifierAsn1, OctetStringAsn1, OctetStringAsn1Container, ReadError,
     read_metered,
 };
-use x509_der_structures::{Contact, Mark, Optionals, Preference, Stamp, Validity};
+use x509_der_structures::{Contact, Optionals, Preference, Reply, Stamp, Validity};
 use x509_keys::RawAlgorithmIdentifier;
 use x509_prim::{
     BmpStringAsn1, GeneralizedTimeAsn1, Ia5StringAsn1, PrintableStringAsn1, UtcTimeAsn1, Utf8String,
 };
 
-/// An input in hexadecimal that is refused, how many headers are decoded until then, and the error, where its name is the
-/// only one that fits.
+/// An input in hexadecimal that is refused, how many headers are decoded until then, and the error, where its name is
+/// the only one that fits.
 type Refusal<'a> = (&'a str, usize, Option<ReadError>);
 
 /// The error that the bytes are refused with, and how many headers were decoded.
@@ -480,7 +480,7 @@ const OPTIONAL_FIELDS: &[Refusal<'static>] = &[
 #[test]
 fn choices_and_optional_fields(rt: HostRuntime) {
     let alloc = rt.alloc();
-    all_refused::<Mark>(&rt, alloc, CHOICES);
+    all_refused::<Reply>(&rt, alloc, CHOICES);
     all_refused::<Optionals>(&rt, alloc, OPTIONAL_FIELDS);
 }
 

@@ -1,5 +1,5 @@
-//! What every row goes through: all calls, with each request for memory refused in turn; the cuts at each byte; each byte
-//! raised and lowered by one; and an element of each universal tag in the place of each field.
+//! What every row goes through: all calls, with each request for memory refused in turn; the cuts at each byte; each
+//! byte raised and lowered by one; and an element of each universal tag in the place of each field.
 
 use super::clones::{OwnClone, clones_in_turn};
 use super::fields::{Field, SAMPLES, replaced};
@@ -11,8 +11,8 @@ use x509_der::{
     encoded_len, from_bytes, read_counted, read_located, read_metered, to_vec, write_to_slice,
 };
 
-/// The allocator of every row, which refuses what it is told to. This is all that rows and tests name of it: a function over
-/// any such allocator is proved in a third of the time that it takes over the one that there is.
+/// The allocator of every row, which refuses what it is told to. This is all that rows and tests name of it: a function
+/// over any such allocator is proved in a third of the time that it takes over the one that there is.
 pub trait Heap: Allocator + Copy {
     /// Counts from 0 again, and refuses the request of this number, from 1 on; at 0 none.
     fn refuse(self, number: u64);
@@ -274,8 +274,8 @@ fn requests_of<A: Heap, T: FromDer<A>>(
     heap.in_turn(|| read_turn(read_by::<A, T>(reading, heap, input), strict, room))
 }
 
-/// Each call that reads answers want of memory where a request of its own is refused, and the value where none is. Places
-/// alone take memory beside the value's.
+/// Each call that reads answers want of memory where a request of its own is refused, and the value where none is.
+/// Places alone take memory beside the value's.
 pub(super) fn reads_in_turn<A: Heap, T: FromDer<A>>(
     rt: &impl Abort,
     heap: A,
@@ -369,8 +369,8 @@ pub(super) fn copy_turn<T: CloneEq + PartialEq>(
     }
 }
 
-/// How many requests a clone of a value makes where it is equal, and want of memory where one is refused. The other value is
-/// as the first was before.
+/// How many requests a clone of a value makes where it is equal, and want of memory where one is refused. The other
+/// value is as the first was before.
 fn copies_in_turn<'v, A: Heap, T: CloneEq + PartialEq>(
     heap: A,
     value: &'v T,
@@ -456,7 +456,8 @@ fn is_rewritten<A: Heap, T: ToDer>(heap: A, value: &T, bytes: &[u8], is_strict: 
     }
 }
 
-/// The headers are bounded, and where the bytes are accepted they are rewritten to themselves exactly where the total is 0.
+/// The headers are bounded, and where the bytes are accepted they are rewritten to themselves exactly where the total
+/// is 0.
 fn keeps_laws<A: Heap, T: FromDer<A>>(rt: &impl Abort, heap: A, bytes: &[u8]) {
     let (outcome, headers) = read_metered::<T, _>(heap, bytes);
     let is_lawful = match outcome {
@@ -479,8 +480,8 @@ fn all_others<A: Heap, T: FromDer<A>>(
     }
 }
 
-/// In the place of the field, an element of each universal tag that may not stand there is refused, and any other is read
-/// and keeps the laws.
+/// In the place of the field, an element of each universal tag that may not stand there is refused, and any other is
+/// read and keeps the laws.
 fn others<A: Heap, T: FromDer<A>>(rt: &impl Abort, heap: A, input: &[u8], field: &Field<'_>) {
     for (tag, content) in SAMPLES {
         let bytes = replaced(rt, heap, input, field, *tag, *content);

@@ -1,11 +1,11 @@
-//! The structures that show the parts of `x509_der`: optional fields, a choice, a value whose kind an identifier says, and
-//! implicit tags.
+//! The structures that show the parts of `x509_der`: optional fields, a choice, a value whose kind an identifier says,
+//! and implicit tags.
 
 use super::fields::Field;
 use super::rows::{Heap, Row, Table, all_coded};
 use refusing::Refusing;
 use std::process::Abort;
-use x509_der_structures::{Contact, Mark, Optionals, Preference};
+use x509_der_structures::{Contact, Optionals, Preference, Reply};
 
 const CHOICES: Table<'static> = Table {
     strict: &[("0101ff", 1), ("020105", 1)],
@@ -20,12 +20,17 @@ const CHOICES: Table<'static> = Table {
             tags: &[0x02],
         }],
     }],
-    refused: &["0400", "a103020105", "a0050201050500", "a000"],
+    refused: &[
+        "0400", // a tag of no alternative
+        "a103020105", // a tag of no alternative
+        "a0050201050500", // an element behind the number
+        "a000", // an explicit tag around nothing
+    ],
 };
 
 /// The test of this name, over any such allocator.
 fn choices_over<A: Heap>(rt: &impl Abort, heap: A) {
-    all_coded::<A, Mark>(rt, heap, &CHOICES);
+    all_coded::<A, Reply>(rt, heap, &CHOICES);
 }
 
 #[test]
@@ -52,10 +57,10 @@ const OPTIONAL_FIELDS: Table<'static> = Table {
         }],
     }],
     refused: &[
-        "300aa1030101ffa003020105",
-        "300aa003020105a003020105",
-        "3005a203020105",
-        "30020500",
+        "300aa1030101ffa003020105", // the number behind the flag
+        "300aa003020105a003020105", // two numbers
+        "3005a203020105", // a tag of no field: that of octets is 82
+        "30020500", // a tag of no field
     ],
 };
 
@@ -92,11 +97,11 @@ const PREFERENCES: Table<'static> = Table {
         ],
     }],
     refused: &[
-        "300706022a06020105",
-        "300406022a06",
-        "300406022a03",
-        "300706022a030201ff",
-        "300706022a05020105",
+        "300706022a06020105", // 1.2.6, which isn't known, and a value
+        "300406022a06", // 1.2.6, which isn't known, and no value
+        "300406022a03", // 1.2.3 and no value
+        "300706022a030201ff", // 1.2.3 and no truth value
+        "300706022a05020105", // 1.2.5 and a value
     ],
 };
 
