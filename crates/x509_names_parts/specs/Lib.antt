@@ -1,1 +1,6 @@
+pub mod DirectoryStrings
+pub mod DirectoryTexts
+pub mod Times
+pub mod Validities
+pub mod Versions
 pub mod facts

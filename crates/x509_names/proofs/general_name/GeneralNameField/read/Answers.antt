@@ -1,0 +1,6 @@
+use Rattle.std.proofs.Common.{rules}
+use Rattle.x509_der.specs.facts.Alternatives.{byte_apart, either_apart}
+use Rattle.x509_names.proofs.general_name.GeneralNameField.read.Goals as goal
+
+pub read_viewed-requires-clause-fits : goal.read_viewed-requires-clause-fits
+read_viewed-requires-clause-fits g c = search (rules, byte_apart, either_apart)

@@ -1,0 +1,298 @@
+//! General names: what alternative names, key identifiers and other extensions hold.
+
+ghost use Rattle.std.specs.Prelude.{◌≡◌, refl, IfOk};
+ghost use Rattle.x509_names.specs.declared.general_name.GeneralName.TheVariants as form;
+ghost use Rattle.x509_names.specs.GeneralNames.{strict_base, general_parts, strict_name, loose_name, general_meaning};
+ghost use Rattle.x509_names.specs.GeneralNames.{general_name as general_names};
+ghost use Rattle.x509_names.specs.facts.GeneralNames.{general_seen, general_lawful, general_element};
+
+use crate::edi_party_name::EdiPartyName;
+use crate::name::Name;
+use crate::other_name::OtherName;
+use std::alloc::{AllocError, Allocator, Global};
+use x509_der::parts::Choice::{First, Second};
+use x509_der::parts::{
+    Choice, ContentOf, Explicit0, Explicit1, Explicit2, Explicit4, Explicit5, Explicit6, Explicit7,
+    Explicit8, Field, Found, Implicit1, Implicit2, Implicit4, Implicit6, Implicit7, Implicit8,
+    Reader, Tagged, View, read_viewed,
+};
+use x509_der::{
+    Asn1SequenceOf, CloneEq, Deviation, FromDer, ObjectIdentifierAsn1, OctetStringAsn1, ReadError,
+    SameEq, ToDer, TooLong,
+};
+use x509_names_parts::DirectoryString;
+use x509_prim::Ia5StringAsn1;
+
+/// A list of general names.
+///
+/// # Encoding
+/// `GeneralNames ::= SEQUENCE SIZE (1..MAX) OF GeneralName` (RFC 5280, 4.2.1.6). An empty list is read too.
+pub type GeneralNames<A = Global> = Asn1SequenceOf<GeneralName<A>, A>;
+
+/// A name in one of eight forms, told apart by the tag (RFC 5280, 4.2.1.6).
+///
+/// # Encoding
+/// `GeneralName ::= CHOICE { otherName [0] OtherName, rfc822Name [1] IA5String, dNSName [2] IA5String, directoryName
+/// [4] Name, ediPartyName [5] EDIPartyName, uniformResourceIdentifier [6] IA5String, iPAddress [7] OCTET STRING,
+/// registeredID [8] OBJECT IDENTIFIER }`, with implicit tags but for the 4, which is explicit, since a `Name` is a
+/// choice. The standard's `x400Address [3]` is refused.
+///
+/// The forms under 1, 2, 6, 7 and 8 are also read under the explicit tag, and a `Name` under the byte 84 with its
+/// content alone, each with the deviation `GeneralNameForm`.
+#[derive(Drop)]
+#[derive_where(Debug, PartialEq, Eq)]
+pub enum GeneralName<A: Allocator = Global> {
+    /// A name of the form that an object identifier tells.
+    OtherName(OtherName<A>),
+    /// A mail address (RFC 5280, 4.2.1.6; RFC 2821). What stands in it isn't looked at.
+    Rfc822Name(Ia5StringAsn1<A>),
+    /// A name of the domain name system. What stands in it isn't looked at.
+    DnsName(Ia5StringAsn1<A>),
+    /// A name of the directory.
+    DirectoryName(Name<A>),
+    /// A party to electronic data interchange.
+    EdiPartyName(EdiPartyName<A>),
+    /// A URI. What stands in it isn't looked at.
+    Uri(Ia5StringAsn1<A>),
+    /// An address of the internet protocol, in network byte order: 4 or 16 bytes by the standard, and any number here.
+    IpAddress(OctetStringAsn1<A>),
+    /// A registered object identifier.
+    RegisteredId(ObjectIdentifierAsn1<A>),
+}
+
+impl<A: Allocator> GeneralName<A> {
+    /// A party to electronic data interchange, and who named it, where that is to be said. Takes no memory.
+    pub fn new_edi_party_name(
+        party_name: DirectoryString<A>,
+        name_assigner: Option<DirectoryString<A>>,
+    ) -> Self
+        ensures { result ≡ form.EdiPartyName (record {
+          name_assigner = name_assigner;
+          party_name = party_name;
+        }) }
+    {
+        GeneralName::EdiPartyName(EdiPartyName {
+            name_assigner,
+            party_name,
+        })
+    }
+}
+
+impl<A: Allocator> From<Name<A>> for GeneralName<A> {
+    ghost from_gives = { λ name general. general ≡ form.DirectoryName name };
+
+    fn from(name: Name<A>) -> Self {
+        GeneralName::DirectoryName(name)
+    }
+}
+
+impl<A: Allocator + Copy> GeneralName<A> {
+    /// An equal name.
+    ///
+    /// # Errors
+    /// `AllocError` where memory is refused.
+    pub fn clone(&self) -> Result<Self, AllocError>
+        ensures { IfOk result (λ copy. copy ≡ self.now) }
+    {
+        self.clone_eq()
+    }
+}
+
+impl<A: Allocator + Copy> CloneEq for GeneralName<A> {
+    fn clone_eq(&self) -> Result<Self, AllocError> {
+        match self {
+            GeneralName::OtherName(name) => Ok(GeneralName::OtherName(name.clone()?)),
+            GeneralName::Rfc822Name(text) => Ok(GeneralName::Rfc822Name(text.clone()?)),
+            GeneralName::DnsName(text) => Ok(GeneralName::DnsName(text.clone()?)),
+            GeneralName::DirectoryName(name) => Ok(GeneralName::DirectoryName(name.clone()?)),
+            GeneralName::EdiPartyName(name) => Ok(GeneralName::EdiPartyName(name.clone()?)),
+            GeneralName::Uri(text) => Ok(GeneralName::Uri(text.clone()?)),
+            GeneralName::IpAddress(octets) => Ok(GeneralName::IpAddress(octets.clone()?)),
+            GeneralName::RegisteredId(id) => Ok(GeneralName::RegisteredId(id.clone()?)),
+        }
+    }
+}
+
+impl<A: Allocator> SameEq for GeneralName<A> {
+    ghost use Rattle.std.proofs.Common.{rules};
+    ghost use Rattle.std.specs.Cmp.Lexicographic.{bytes_decides, pointwise_decides};
+    ghost use Rattle.x509_names.specs.facts.EdiPartyNames.{parties_decide};
+    ghost use Rattle.x509_names.specs.facts.OtherNames.{others_decide};
+    ghost use Rattle.x509_names.specs.facts.SameGeneralNames.{general_names_decide};
+
+    ghost decides = { general_names_decide ⟦<GeneralName<A> as PartialEq>⟧.eq {N = ⟦<Name<A> as PartialEq>⟧.eq}
+        (λ x y. Prim.search (rules)) others_decide
+        (pointwise_decides (pointwise_decides (λ a b. Prim.search (rules, bytes_decides))))
+        (parties_decide {E = ⟦<DirectoryString<A> as PartialEq>⟧.eq} (λ a b. Prim.search (rules, bytes_decides))) };
+}
+
+/// The alternatives that are written, owned or borrowed.
+type Nest<O, S, D, E, B, I> = Choice<
+    Choice<
+        Choice<Tagged<Explicit0, ContentOf<O>>, Tagged<Implicit1, ContentOf<S>>>,
+        Choice<Tagged<Implicit2, ContentOf<S>>, Tagged<Explicit4, D>>,
+    >,
+    Choice<
+        Choice<Tagged<Explicit5, ContentOf<E>>, Tagged<Implicit6, ContentOf<S>>>,
+        Choice<Tagged<Implicit7, ContentOf<B>>, Tagged<Implicit8, ContentOf<I>>>,
+    >,
+>;
+
+/// The alternatives that are written, owned.
+type Strict<A> = Nest<
+    OtherName<A>,
+    Ia5StringAsn1<A>,
+    Name<A>,
+    EdiPartyName<A>,
+    OctetStringAsn1<A>,
+    ObjectIdentifierAsn1<A>,
+>;
+
+/// The alternative that is written, borrowed.
+type Written<'a, A> = Nest<
+    &'a OtherName<A>,
+    &'a Ia5StringAsn1<A>,
+    &'a Name<A>,
+    &'a EdiPartyName<A>,
+    &'a OctetStringAsn1<A>,
+    &'a ObjectIdentifierAsn1<A>,
+>;
+
+/// The alternatives that are deviations.
+type Loose<A> = Choice<
+    Choice<Tagged<Explicit1, Ia5StringAsn1<A>>, Tagged<Explicit2, Ia5StringAsn1<A>>>,
+    Choice<
+        Choice<Tagged<Explicit6, Ia5StringAsn1<A>>, Tagged<Explicit7, OctetStringAsn1<A>>>,
+        Choice<Tagged<Explicit8, ObjectIdentifierAsn1<A>>, Tagged<Implicit4, ContentOf<Name<A>>>>,
+    >,
+>;
+
+/// All alternatives.
+type Fields<A> = Choice<Strict<A>, Loose<A>>;
+
+/// The alternative of a general name, to be written.
+fn written<A: Allocator>(value: &GeneralName<A>) -> Written<'_, A>
+    ensures { ⟦<Written<'static, A> as ToDer>⟧.strict result ≡ strict_base.strict (general_parts value.now) }
+{
+    match value {
+        GeneralName::OtherName(name) => First(First(First(Tagged::new(ContentOf(name))))),
+        GeneralName::Rfc822Name(text) => First(First(Second(Tagged::new(ContentOf(text))))),
+        GeneralName::DnsName(text) => First(Second(First(Tagged::new(ContentOf(text))))),
+        GeneralName::DirectoryName(name) => First(Second(Second(Tagged::new(name)))),
+        GeneralName::EdiPartyName(name) => Second(First(First(Tagged::new(ContentOf(name))))),
+        GeneralName::Uri(text) => Second(First(Second(Tagged::new(ContentOf(text))))),
+        GeneralName::IpAddress(octets) => Second(Second(First(Tagged::new(ContentOf(octets))))),
+        GeneralName::RegisteredId(id) => Second(Second(Second(Tagged::new(ContentOf(id))))),
+    }
+}
+
+/// The value under an implicit tag.
+fn value_in<N, T>(element: Tagged<N, ContentOf<T>>) -> T
+    ensures { result ≡ element }
+{
+    let ContentOf(value) = element.into_inner();
+    value
+}
+
+/// The general name of an alternative that is written.
+fn from_strict<A: Allocator>(parts: Strict<A>) -> GeneralName<A>
+    ensures { result ≡ strict_name parts }
+{
+    match parts {
+        First(First(First(name))) => GeneralName::OtherName(value_in(name)),
+        First(First(Second(text))) => GeneralName::Rfc822Name(value_in(text)),
+        First(Second(First(text))) => GeneralName::DnsName(value_in(text)),
+        First(Second(Second(name))) => GeneralName::DirectoryName(name.into_inner()),
+        Second(First(First(name))) => GeneralName::EdiPartyName(value_in(name)),
+        Second(First(Second(text))) => GeneralName::Uri(value_in(text)),
+        Second(Second(First(octets))) => GeneralName::IpAddress(value_in(octets)),
+        Second(Second(Second(id))) => GeneralName::RegisteredId(value_in(id)),
+    }
+}
+
+/// The general name of an alternative that is a deviation.
+fn from_loose<A: Allocator>(parts: Loose<A>) -> GeneralName<A>
+    ensures { result ≡ loose_name parts }
+{
+    match parts {
+        First(First(text)) => GeneralName::Rfc822Name(text.into_inner()),
+        First(Second(text)) => GeneralName::DnsName(text.into_inner()),
+        Second(First(First(text))) => GeneralName::Uri(text.into_inner()),
+        Second(First(Second(octets))) => GeneralName::IpAddress(octets.into_inner()),
+        Second(Second(First(id))) => GeneralName::RegisteredId(id.into_inner()),
+        Second(Second(Second(name))) => GeneralName::DirectoryName(value_in(name)),
+    }
+}
+
+impl<A: Allocator> ToDer for GeneralName<A> {
+    ghost strict = { λ v. general_names.strict v };
+
+    fn encoded_len(&self) -> Result<usize, TooLong> {
+        written(self).encoded_len()
+    }
+
+    fn write_back(&self, out: &mut [u8]) -> usize {
+        written(self).write_back(out)
+    }
+}
+
+impl<A: Allocator + Copy> View<Fields<A>, A> for GeneralName<A> {
+    ghost view = { general_meaning };
+
+    fn meaning(parts: Fields<A>) -> Option<(Self, Found)> {
+        match parts {
+            First(strict) => Some((from_strict(strict), Found::Nothing)),
+            Second(loose) => { Some((from_loose(loose), Found::One(Deviation::GeneralNameForm))) }
+        }
+    }
+
+    ghost is_seen = { λ f. general_seen (record {
+      other = ⟦<ContentOf<OtherName<A>> as Field<A>>⟧.lawful tt;
+      names = ⟦<ContentOf<Name<A>> as Field<A>>⟧.lawful tt;
+      edi = ⟦<ContentOf<EdiPartyName<A>> as Field<A>>⟧.lawful tt;
+    }) };
+}
+
+impl<A: Allocator + Copy> Field<A> for GeneralName<A> {
+    ghost shape = { general_names };
+
+    ghost lawful = { λ h. general_lawful (record {
+      other = ⟦<ContentOf<OtherName<A>> as Field<A>>⟧.lawful tt;
+      names = ⟦<ContentOf<Name<A>> as Field<A>>⟧.lawful tt;
+      edi = ⟦<ContentOf<EdiPartyName<A>> as Field<A>>⟧.lawful tt;
+    }) };
+
+    ghost elements = { λ h. general_element (record {
+      other = ⟦<ContentOf<OtherName<A>> as Field<A>>⟧.lawful tt;
+      names = ⟦<ContentOf<Name<A>> as Field<A>>⟧.lawful tt;
+      edi = ⟦<ContentOf<EdiPartyName<A>> as Field<A>>⟧.lawful tt;
+    }) };
+
+    ghost agrees = { λ v. refl };
+
+    fn starts(byte: u8) -> bool {
+        <Fields<A> as Field<A>>::starts(byte)
+    }
+
+    fn known(&self) {
+        match self {
+            GeneralName::OtherName(name) => name.known(),
+            GeneralName::Rfc822Name(text) | GeneralName::DnsName(text) | GeneralName::Uri(text) =>
+                Field::<A>::known(text),
+            GeneralName::DirectoryName(name) => name.known(),
+            GeneralName::EdiPartyName(name) => name.known(),
+            GeneralName::IpAddress(octets) => octets.known(),
+            GeneralName::RegisteredId(id) => id.known(),
+        }
+    }
+
+    fn read(alloc: A, reader: &mut Reader<'_, A>) -> Result<Self, ReadError> {
+        read_viewed::<Self, Fields<A>, A>(alloc, reader)
+    }
+}
+
+impl<A: Allocator + Copy> FromDer<A> for GeneralName<A> {
+    ghost always = { tt };
+
+    ghost whole = { tt };
+}

@@ -1,0 +1,266 @@
+//! Names: what subjects, issuers and directory entries are called.
+
+ghost use Rattle.std.specs.Prelude.{◌≡◌, ◌++◌, ◌∷◌, [], refl, IfOk, OnOk, OnErr, MatchOption, Some, None};
+ghost use Rattle.x509_der.specs.Element.{element};
+ghost use Rattle.x509_names.specs.Attributes.{text_attribute, email_attribute};
+ghost use Rattle.x509_names.specs.Names.{name, name_content, name_bytes};
+ghost use Rattle.x509_names.specs.CommonNames.{common_name_of, first_of_set, first_common_name};
+ghost use Rattle.x509_names.specs.declared.name_attr.NameAttr.TheVariants as attr;
+
+use crate::attribute_type_and_value::{
+    AttributeTypeAndValue, AttributeTypeAndValueParameters, text_attribute,
+};
+pub use crate::name_attr::NameAttr;
+use std::alloc::{AllocError, Allocator, Global};
+use std::marker::Model;
+use x509_der::parts::{Content, Field, OneTag, Reader, SEQUENCE_TAG, ToContent};
+use x509_der::{Asn1SequenceOf, Asn1SetOf, CloneEq, FromDer, ReadError, SameEq, ToDer, TooLong};
+use x509_names_parts::DirectoryString;
+use x509_prim::Ia5StringAsn1;
+
+/// The sets of attributes of a name, in order.
+///
+/// # Encoding
+/// `RDNSequence ::= SEQUENCE OF RelativeDistinguishedName` (RFC 5280, 4.1.2.4).
+pub type RdnSequence<A = Global> = Asn1SequenceOf<RelativeDistinguishedName<A>, A>;
+
+/// A set of attributes, mostly of one. Its order is kept, and an empty one is read.
+///
+/// # Encoding
+/// `RelativeDistinguishedName ::= SET SIZE (1..MAX) OF AttributeTypeAndValue` (RFC 5280, 4.1.2.4).
+pub type RelativeDistinguishedName<A = Global> = Asn1SetOf<AttributeTypeAndValue<A>, A>;
+
+/// A name in an alternative name (RFC 5280, 4.2.1.6).
+pub type DirectoryName<A = Global> = Name<A>;
+
+/// A name: sets of attributes, in order. It may be empty. Contracts see the list of the sets.
+///
+/// # Encoding
+/// `Name ::= CHOICE { rdnSequence RDNSequence }` (RFC 5280, 4.1.2.4): tag 30, and the sets one behind another.
+#[derive(Drop)]
+#[derive_where(Debug, PartialEq, Eq)]
+pub struct Name<A: Allocator = Global>(pub RdnSequence<A>);
+
+impl<A: Allocator> Model for Name<A> {
+    ghost use Rattle.x509_names.specs.Names.{Sets};
+
+    ghost Value = { Sets A };
+
+    ghost view = { λ n. n.0 };
+
+    ghost inverse = { λ sets. record { 0 = sets } };
+}
+
+impl<A: Allocator> Name<A> {
+    /// The empty name. Takes no memory.
+    pub fn new(alloc: A) -> Self
+        ensures { result ≡ [] }
+    {
+        Name(Asn1SequenceOf(Vec::new(alloc)))
+    }
+
+    /// The first common name: the directory string of the first `CommonName` among all attributes of all sets, in
+    /// order, whatever their types are. Takes no memory.
+    pub fn find_common_name(&self) -> Option<&DirectoryString<A>>
+        ensures { MatchOption result (first_common_name self.now ≡ None)
+            (λ text. first_common_name self.now ≡ Some text.now) }
+    {
+        for set in &self.0.0 {
+            if let Some(text) = common_name_in(&set.0) {
+                return Some(text);
+            }
+        }
+        None
+    }
+}
+
+/// The first common name of a set.
+fn common_name_in<A: Allocator>(set: &[AttributeTypeAndValue<A>]) -> Option<&DirectoryString<A>>
+    ensures { MatchOption result (first_of_set set.now ≡ None)
+        (λ text. first_of_set set.now ≡ Some text.now) }
+{
+    for attribute in set {
+        if let Some(text) = common_name(&attribute.value) {
+            return Some(text);
+        }
+    }
+    None
+}
+
+/// The directory string of a value, if it is a common name.
+fn common_name<A: Allocator>(
+    value: &AttributeTypeAndValueParameters<A>,
+) -> Option<&DirectoryString<A>>
+    ensures { MatchOption result (common_name_of value.now ≡ None)
+        (λ text. common_name_of value.now ≡ Some text.now) }
+{
+    match value {
+        AttributeTypeAndValueParameters::CommonName(text) => Some(text),
+        _ => None,
+    }
+}
+
+impl<A: Allocator + Copy> Name<A> {
+    /// A name of one set with one attribute, a common name.
+    ///
+    /// # Errors
+    /// `AllocError` where memory is refused. The string is then dropped.
+    pub fn new_common_name(alloc: A, text: DirectoryString<A>) -> Result<Self, AllocError>
+        ensures { IfOk result (λ n. n ≡ (text_attribute attr.CommonName text ∷ []) ∷ []) }
+    {
+        let mut name = Name::new(alloc);
+        name.add_attr(NameAttr::CommonName, text)?;
+        Ok(name)
+    }
+
+    /// Adds a set of one attribute at the end.
+    ///
+    /// # Errors
+    /// `AllocError` where memory is refused. The name is as it was, and the string is dropped.
+    pub fn add_attr(&mut self, attr: NameAttr, text: DirectoryString<A>) -> Result<(), AllocError>
+        ensures ok { OnOk result (self.new ≡ self.old ++ (text_attribute attr text ∷ []) ∷ []) }
+        ensures err { OnErr result (self.new ≡ self.old) }
+    {
+        let attribute = text_attribute(self.allocator(), attr, text)?;
+        self.add(attribute)
+    }
+
+    /// Adds a set of one e-mail address at the end. RFC 5280, 4.1.2.6, would have it in an alternative name instead.
+    ///
+    /// # Errors
+    /// `AllocError` where memory is refused. The name is as it was, and the address is dropped.
+    pub fn add_email(&mut self, address: Ia5StringAsn1<A>) -> Result<(), AllocError>
+        ensures ok { OnOk result (self.new ≡ self.old ++ (email_attribute address ∷ []) ∷ []) }
+        ensures err { OnErr result (self.new ≡ self.old) }
+    {
+        let email = AttributeTypeAndValue::new_email_address(self.allocator(), address)?;
+        self.add(email)
+    }
+
+    /// The allocator of the list of sets.
+    fn allocator(&self) -> A {
+        *self.0.0.allocator()
+    }
+
+    /// Adds a set of one attribute at the end.
+    fn add(&mut self, attribute: AttributeTypeAndValue<A>) -> Result<(), AllocError>
+        ensures ok { OnOk result (self.new ≡ self.old ++ (attribute ∷ []) ∷ []) }
+        ensures err { OnErr result (self.new ≡ self.old) }
+    {
+        let mut set = Vec::with_capacity(self.allocator(), 1)?;
+        set.push(attribute)?;
+        self.0.0.push(Asn1SetOf(set))?;
+        Ok(())
+    }
+}
+
+impl<A: Allocator + Copy> Name<A> {
+    /// An equal name.
+    ///
+    /// # Errors
+    /// `AllocError` where memory is refused.
+    pub fn clone(&self) -> Result<Self, AllocError>
+        ensures { IfOk result (λ copy. copy ≡ self.now) }
+    {
+        self.clone_eq()
+    }
+}
+
+impl<A: Allocator + Copy> CloneEq for Name<A> {
+    fn clone_eq(&self) -> Result<Self, AllocError> {
+        Ok(Name(self.0.clone_eq()?))
+    }
+}
+
+impl<A: Allocator> SameEq for Name<A> {
+    ghost use Rattle.std.proofs.Common.{rules};
+    ghost use Rattle.std.specs.Cmp.Lexicographic.{bytes_decides, pointwise_decides};
+
+    ghost decides = { pointwise_decides (pointwise_decides (Prim.search (rules, bytes_decides))) };
+}
+
+impl<A: Allocator> ToContent for Name<A> {
+    ghost content = { name_bytes };
+
+    fn content_len(&self) -> Result<usize, TooLong> {
+        self.0.content_len()
+    }
+
+    fn write_content(&self, out: &mut [u8]) -> usize {
+        self.0.write_content(out)
+    }
+}
+
+impl<A: Allocator> ToDer for Name<A> {
+    ghost strict = { λ v. element 48 (name_bytes v) };
+
+    fn encoded_len(&self) -> Result<usize, TooLong> {
+        self.0.encoded_len()
+    }
+
+    fn write_back(&self, out: &mut [u8]) -> usize {
+        self.0.write_back(out)
+    }
+}
+
+impl<A: Allocator + Copy> Content<A> for Name<A> {
+    ghost use Rattle.x509_names.specs.facts.NameFacts.{content_agrees};
+
+    ghost content_shape = { name_content };
+
+    ghost content_lawful = { λ h. ⟦<RdnSequence<A> as Content<A>>⟧.content_lawful ((tt, tt), tt) };
+
+    ghost content_always = { tt };
+
+    ghost open = { λ b. refl };
+
+    ghost content_agrees = { content_agrees };
+
+    fn known_content(&self) {
+        self.0.known_content();
+    }
+
+    fn read_content(alloc: A, reader: &mut Reader<'_, A>) -> Result<Self, ReadError> {
+        let sets = RdnSequence::read_content(alloc, reader)?;
+        Ok(Name(sets))
+    }
+}
+
+impl<A: Allocator + Copy> Field<A> for Name<A> {
+    ghost use Rattle.x509_names.specs.facts.NameFacts.{name_agrees};
+
+    ghost shape = { name };
+
+    ghost lawful = { λ h. ⟦<RdnSequence<A> as Field<A>>⟧.lawful ((tt, tt), tt) };
+
+    ghost elements = { λ h. ⟦<RdnSequence<A> as Field<A>>⟧.elements tt };
+
+    ghost agrees = { name_agrees };
+
+    fn starts(byte: u8) -> bool {
+        byte == SEQUENCE_TAG
+    }
+
+    fn known(&self) {
+        self.0.known();
+    }
+
+    fn read(alloc: A, reader: &mut Reader<'_, A>) -> Result<Self, ReadError> {
+        let sets = RdnSequence::read(alloc, reader)?;
+        Ok(Name(sets))
+    }
+}
+
+impl<A: Allocator + Copy> FromDer<A> for Name<A> {
+    ghost always = { tt };
+
+    ghost whole = { tt };
+}
+
+impl<A: Allocator + Copy> OneTag<A> for Name<A> {
+    ghost tag = { 48 };
+
+    ghost spelled_around = { λ v p y. (λ s. s, λ s. s) };
+
+    ghost strict_around = { λ v. refl };
+}

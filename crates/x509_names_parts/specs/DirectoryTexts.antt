@@ -1,0 +1,39 @@
+-- The text of a directory string.
+use Rattle.std.specs.Prelude.{ℕ, ◌+◌, ◌*◌, List, [], ◌∷◌, encode_utf8_all}
+use Rattle.std.specs.Char.Utf16.{utf16_lossy_chars}
+use Rattle.x509_names_parts.specs.declared.directory_string.DirectoryString.{DirectoryString}
+use Rattle.x509_names_parts.specs.declared.directory_string.DirectoryString.TheVariants.{PrintableString, Utf8String, BmpString}
+
+-- the units of UTF-16 that bytes spell, the high byte of each first
+abbrev pub units_in : List ℕ → List ℕ
+units_in [] = []
+units_in (high ∷ []) = []
+units_in (high ∷ low ∷ rest) = (high * 256 + low) ∷ units_in rest
+
+-- their characters (RFC 2781, 2.2): a pair of surrogates is one, and for each surrogate without a partner there is U+FFFD
+unfoldable pub lossy_chars : List ℕ → List ℕ
+lossy_chars bytes = utf16_lossy_chars (units_in bytes)
+
+-- the text, in UTF-8: the characters of a printable or UTF-8 string, which are spelled so already, and those of a BMP string
+abbrev pub directory_text : {A : Type 0} → DirectoryString A → List ℕ
+directory_text (PrintableString v) = v
+directory_text (Utf8String v) = v
+directory_text (BmpString v) = encode_utf8_all (lossy_chars v)
+
+-- the content, without tag and length
+abbrev pub directory_bytes : {A : Type 0} → DirectoryString A → List ℕ
+directory_bytes (PrintableString v) = v
+directory_bytes (Utf8String v) = v
+directory_bytes (BmpString v) = v
+
+-- the content is the text: no BMP string
+abbrev pub HoldsText : {A : Type 0} → DirectoryString A → Type 0
+HoldsText (PrintableString v) = Unit {0}
+HoldsText (Utf8String v) = Unit {0}
+HoldsText (BmpString v) = ⊥
+
+-- a UTF-8 string
+abbrev pub IsUtf8String : {A : Type 0} → DirectoryString A → Type 0
+IsUtf8String (PrintableString v) = ⊥
+IsUtf8String (Utf8String v) = Unit {0}
+IsUtf8String (BmpString v) = ⊥

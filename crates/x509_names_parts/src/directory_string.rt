@@ -1,0 +1,145 @@
+//! The strings that stand in names.
+
+ghost use Rattle.std.specs.Prelude.{◌≡◌, refl, IfOk};
+ghost use Rattle.x509_der.specs.laws.Structure.{structure_lawful, structure_element};
+ghost use Rattle.x509_names_parts.specs.DirectoryStrings.{directory_parts, directory_base, directory_string};
+ghost use Rattle.x509_names_parts.specs.facts.DirectoryStrings.{directory_same, unicode_apart, printable_apart};
+
+use std::alloc::{AllocError, Allocator, Global};
+use x509_der::parts::{
+    BMP_STRING_TAG, Choice, Field, PRINTABLE_STRING_TAG, Reader, Structure, UTF8_STRING_TAG,
+    read_fields,
+};
+use x509_der::{CloneEq, FromDer, ReadError, SameEq, ToDer, TooLong};
+use x509_prim::{BmpStringAsn1, PrintableStringAsn1, Utf8String};
+
+/// A text in one of three string types, told apart by the tag.
+///
+/// # Encoding
+/// `CHOICE { printableString PrintableString, utf8String UTF8String, bmpString BMPString }` (RFC 5280, 4.1.2.4): tag
+/// 13, 0C or 1E. The standard's teletexString and universalString are refused, and an empty string is read.
+#[derive(Drop)]
+#[derive_where(Debug, PartialEq, Eq)]
+pub enum DirectoryString<A: Allocator = Global> {
+    /// Letters, digits, spaces and a few marks.
+    PrintableString(PrintableStringAsn1<A>),
+    /// Unicode scalar values, in UTF-8.
+    Utf8String(Utf8String<A>),
+    /// Characters of two bytes each, the high one first. Surrogates may stand in it, with a partner or without.
+    BmpString(BmpStringAsn1<A>),
+}
+
+/// The alternatives, owned or borrowed.
+type Nest<P, U, B> = Choice<P, Choice<U, B>>;
+
+/// The alternatives, owned.
+type Fields<A> = Nest<PrintableStringAsn1<A>, Utf8String<A>, BmpStringAsn1<A>>;
+
+/// The alternatives, borrowed.
+type Written<'a, A> = Nest<&'a PrintableStringAsn1<A>, &'a Utf8String<A>, &'a BmpStringAsn1<A>>;
+
+impl<A: Allocator + Copy> DirectoryString<A> {
+    /// An equal string.
+    ///
+    /// # Errors
+    /// `AllocError` where memory is refused.
+    pub fn clone(&self) -> Result<Self, AllocError>
+        ensures { IfOk result (λ copy. copy ≡ self.now) }
+    {
+        self.clone_eq()
+    }
+}
+
+impl<A: Allocator + Copy> CloneEq for DirectoryString<A> {
+    fn clone_eq(&self) -> Result<Self, AllocError> {
+        match self {
+            DirectoryString::PrintableString(text) => {
+                Ok(DirectoryString::PrintableString(text.clone()?))
+            }
+            DirectoryString::Utf8String(text) => Ok(DirectoryString::Utf8String(text.clone()?)),
+            DirectoryString::BmpString(text) => Ok(DirectoryString::BmpString(text.clone()?)),
+        }
+    }
+}
+
+impl<A: Allocator> SameEq for DirectoryString<A> {
+    ghost use Rattle.std.proofs.Common.{rules};
+    ghost use Rattle.std.specs.Cmp.Lexicographic.{bytes_decides};
+
+    ghost decides = { Prim.search (rules, bytes_decides) };
+}
+
+/// The alternative of a string, to be written.
+fn written<A: Allocator>(value: &DirectoryString<A>) -> Written<'_, A>
+    ensures { ⟦<Written<'static, A> as ToDer>⟧.strict result ≡ directory_base.strict
+        (directory_parts value.now) }
+{
+    match value {
+        DirectoryString::PrintableString(text) => Choice::First(text),
+        DirectoryString::Utf8String(text) => Choice::Second(Choice::First(text)),
+        DirectoryString::BmpString(text) => Choice::Second(Choice::Second(text)),
+    }
+}
+
+impl<A: Allocator> ToDer for DirectoryString<A> {
+    ghost strict = { λ v. directory_base.strict (directory_parts v) };
+
+    fn encoded_len(&self) -> Result<usize, TooLong> {
+        written(self).encoded_len()
+    }
+
+    fn write_back(&self, out: &mut [u8]) -> usize {
+        written(self).write_back(out)
+    }
+}
+
+impl<A: Allocator> Structure<Fields<A>> for DirectoryString<A> {
+    ghost fields = { directory_parts };
+
+    fn from_fields(parts: Fields<A>) -> Self {
+        match parts {
+            Choice::First(text) => DirectoryString::PrintableString(text),
+            Choice::Second(Choice::First(text)) => DirectoryString::Utf8String(text),
+            Choice::Second(Choice::Second(text)) => DirectoryString::BmpString(text),
+        }
+    }
+
+    ghost same = { directory_same };
+}
+
+impl<A: Allocator + Copy> Field<A> for DirectoryString<A> {
+    ghost shape = { directory_string };
+
+    ghost lawful = { λ h. structure_lawful directory_parts directory_base directory_same
+        (⟦<Fields<A> as Field<A>>⟧.lawful (
+          (tt, ((tt, tt), ((tt, tt), unicode_apart))),
+          ((tt, (tt, tt)), printable_apart),
+        )) };
+
+    ghost elements = { λ h. structure_element directory_parts directory_base
+        (⟦<Fields<A> as Field<A>>⟧.elements (tt, (tt, tt))) };
+
+    ghost agrees = { λ v. refl };
+
+    fn starts(byte: u8) -> bool {
+        byte == PRINTABLE_STRING_TAG || byte == UTF8_STRING_TAG || byte == BMP_STRING_TAG
+    }
+
+    fn known(&self) {
+        match self {
+            DirectoryString::PrintableString(text) => Field::<A>::known(text),
+            DirectoryString::Utf8String(text) => Field::<A>::known(text),
+            DirectoryString::BmpString(text) => Field::<A>::known(text),
+        }
+    }
+
+    fn read(alloc: A, reader: &mut Reader<'_, A>) -> Result<Self, ReadError> {
+        read_fields::<Self, Fields<A>, A>(alloc, reader)
+    }
+}
+
+impl<A: Allocator + Copy> FromDer<A> for DirectoryString<A> {
+    ghost always = { tt };
+
+    ghost whole = { tt };
+}

@@ -1,0 +1,120 @@
+//! The times between which a certificate is valid.
+
+ghost use Rattle.std.specs.Prelude.{◌≡◌, refl, Ok};
+ghost use Rattle.x509_der.specs.laws.Structure.{structure_lawful, structure_element};
+ghost use Rattle.x509_names_parts.specs.Validities.{validity_parts, validity_base, validity as validities};
+ghost use Rattle.x509_names_parts.specs.facts.Validities.{validity_same};
+
+use crate::time::Time;
+use std::alloc::{AllocError, Allocator};
+use x509_der::parts::{
+    Field, Join, Reader, SEQUENCE_TAG, Sequence, Structure, Tagged, read_fields,
+};
+use x509_der::{CloneEq, FromDer, ReadError, SameEq, ToDer, TooLong};
+
+/// The times between which a certificate is valid, both included (RFC 5280, 4.1.2.5). They aren't compared with one
+/// another.
+///
+/// # Encoding
+/// `Validity ::= SEQUENCE { notBefore Time, notAfter Time }`. Reading it takes no memory.
+#[derive(Debug, Drop, PartialEq, Eq)]
+pub struct Validity {
+    /// The first second.
+    pub not_before: Time,
+    /// The last second.
+    pub not_after: Time,
+}
+
+impl Validity {
+    /// An equal validity. Takes no memory.
+    ///
+    /// # Errors
+    /// None: it answers a `Result` as every `clone` does.
+    pub fn clone(&self) -> Result<Validity, AllocError>
+        ensures { result ≡ Ok self.now }
+    {
+        let not_before = self.not_before.clone()?;
+        let not_after = self.not_after.clone()?;
+        Ok(Validity {
+            not_before,
+            not_after,
+        })
+    }
+}
+
+impl CloneEq for Validity {
+    fn clone_eq(&self) -> Result<Validity, AllocError> {
+        self.clone()
+    }
+}
+
+impl SameEq for Validity {
+    ghost use Rattle.std.specs.Prelude.{refl};
+    ghost use Rattle.std.proofs.Common.{rules};
+    ghost use Rattle.x509_names_parts.specs.facts.SameFields.{fields_decide};
+    ghost use Rattle.x509_names_parts.specs.facts.Validities.{validity_of};
+
+    ghost decides = { fields_decide {E = ⟦<Time as PartialEq>⟧.eq} {F = ⟦<Time as PartialEq>⟧.eq}
+        (λ v. v.not_before) (λ v. v.not_after) (λ a b. validity_of (a, b)) (λ v. refl)
+        (λ a b. Prim.search (rules)) (λ a b. Prim.search (rules)) };
+}
+
+/// The fields as they stand in the SEQUENCE, owned or borrowed.
+type Nest<T> = Tagged<Sequence, Join<T, T>>;
+
+impl ToDer for Validity {
+    ghost strict = { λ v. validity_base.strict (validity_parts v) };
+
+    fn encoded_len(&self) -> Result<usize, TooLong> {
+        Nest::new(Join(&self.not_before, &self.not_after)).encoded_len()
+    }
+
+    fn write_back(&self, out: &mut [u8]) -> usize {
+        Nest::new(Join(&self.not_before, &self.not_after)).write_back(out)
+    }
+}
+
+impl Structure<Nest<Time>> for Validity {
+    ghost fields = { validity_parts };
+
+    fn from_fields(parts: Nest<Time>) -> Self {
+        let Join(not_before, not_after) = parts.into_inner();
+        Validity {
+            not_before,
+            not_after,
+        }
+    }
+
+    ghost same = { validity_same };
+}
+
+impl<A: Allocator + Copy> Field<A> for Validity {
+    ghost shape = { validities };
+
+    ghost lawful = { λ h. structure_lawful validity_parts validity_base validity_same
+        (⟦<Nest<Time> as Field<A>>⟧.lawful (tt, tt, λ c h. refl)) };
+
+    ghost elements = { λ h. structure_element validity_parts validity_base
+        (⟦<Nest<Time> as Field<A>>⟧.elements tt) };
+
+    ghost agrees = { λ v. refl };
+
+    fn starts(byte: u8) -> bool {
+        byte == SEQUENCE_TAG
+    }
+
+    fn known(&self) {
+        Field::<A>::known(&self.not_before);
+        Field::<A>::known(&self.not_after);
+    }
+
+    fn read(alloc: A, reader: &mut Reader<'_, A>) -> Result<Self, ReadError> {
+        read_fields::<Self, Nest<Time>, A>(alloc, reader)
+    }
+}
+
+impl<A: Allocator + Copy> FromDer<A> for Validity {
+    ghost always = { tt };
+
+    ghost whole = { tt };
+}
