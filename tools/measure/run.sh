@@ -8,7 +8,7 @@ here=$(cd "$(dirname "$0")" && pwd)
 top=$(cd "$here/../.." && pwd)
 folder=${MEASURE_FOLDER:-/tmp/measure}
 kit=$(dirname "$(dirname "$(readlink -f "$(command -v rt)")")")
-crates="x509_der_parts x509_der x509_keys"
+crates="x509_der_parts x509_der x509_oids_algorithms x509_keys_parts x509_keys"
 
 # Copies the crates of a checkout, and builds the calls over them as a static library.
 build() {

@@ -1,14 +1,18 @@
 //! Calls by themselves: what they answer, what they take, and what they leave.
 
+mod algorithms;
 mod bit_strings;
 mod character_strings;
 mod checks;
+mod directory_strings;
 mod elements;
 mod equality;
 mod first_fields;
+mod general_names;
 mod identifiers;
 mod lists;
 mod memory;
+mod names;
 mod no_memory;
 mod numbers;
 mod raw_algorithms;

@@ -186,27 +186,19 @@ fn written<A: Allocator>(value: &GeneralName<A>) -> Written<'_, A>
     }
 }
 
-/// The value under an implicit tag.
-fn value_in<N, T>(element: Tagged<N, ContentOf<T>>) -> T
-    ensures { result ≡ element }
-{
-    let ContentOf(value) = element.into_inner();
-    value
-}
-
 /// The general name of an alternative that is written.
 fn from_strict<A: Allocator>(parts: Strict<A>) -> GeneralName<A>
     ensures { result ≡ strict_name parts }
 {
     match parts {
-        First(First(First(name))) => GeneralName::OtherName(value_in(name)),
-        First(First(Second(text))) => GeneralName::Rfc822Name(value_in(text)),
-        First(Second(First(text))) => GeneralName::DnsName(value_in(text)),
+        First(First(First(name))) => GeneralName::OtherName(name.into_value()),
+        First(First(Second(text))) => GeneralName::Rfc822Name(text.into_value()),
+        First(Second(First(text))) => GeneralName::DnsName(text.into_value()),
         First(Second(Second(name))) => GeneralName::DirectoryName(name.into_inner()),
-        Second(First(First(name))) => GeneralName::EdiPartyName(value_in(name)),
-        Second(First(Second(text))) => GeneralName::Uri(value_in(text)),
-        Second(Second(First(octets))) => GeneralName::IpAddress(value_in(octets)),
-        Second(Second(Second(id))) => GeneralName::RegisteredId(value_in(id)),
+        Second(First(First(name))) => GeneralName::EdiPartyName(name.into_value()),
+        Second(First(Second(text))) => GeneralName::Uri(text.into_value()),
+        Second(Second(First(octets))) => GeneralName::IpAddress(octets.into_value()),
+        Second(Second(Second(id))) => GeneralName::RegisteredId(id.into_value()),
     }
 }
 
@@ -220,7 +212,7 @@ fn from_loose<A: Allocator>(parts: Loose<A>) -> GeneralName<A>
         Second(First(First(text))) => GeneralName::Uri(text.into_inner()),
         Second(First(Second(octets))) => GeneralName::IpAddress(octets.into_inner()),
         Second(Second(First(id))) => GeneralName::RegisteredId(id.into_inner()),
-        Second(Second(Second(name))) => GeneralName::DirectoryName(value_in(name)),
+        Second(Second(Second(name))) => GeneralName::DirectoryName(name.into_value()),
     }
 }
 

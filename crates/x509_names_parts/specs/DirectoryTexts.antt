@@ -31,9 +31,3 @@ abbrev pub HoldsText : {A : Type 0} → DirectoryString A → Type 0
 HoldsText (PrintableString v) = Unit {0}
 HoldsText (Utf8String v) = Unit {0}
 HoldsText (BmpString v) = ⊥
-
--- a UTF-8 string
-abbrev pub IsUtf8String : {A : Type 0} → DirectoryString A → Type 0
-IsUtf8String (PrintableString v) = ⊥
-IsUtf8String (Utf8String v) = Unit {0}
-IsUtf8String (BmpString v) = ⊥

@@ -1,6 +1,7 @@
 //! Texts of strings whose characters are those of ASCII, or some of them.
 
 ghost use Rattle.std.specs.Prelude.{◌≡◌, IsTrue};
+ghost use Rattle.std.specs.String.{string_bytes};
 ghost use Rattle.x509_prim.specs.CharSets.{are_ascii};
 
 use std::alloc::Allocator;
@@ -23,6 +24,16 @@ pub fn printable_text<A: Allocator>(string: &PrintableStringAsn1<A>) -> &str
     ensures { result.now ≡ string.now }
 {
     ascii_text(string.as_bytes())
+}
+
+/// The characters of a PrintableString, moved. Takes no memory.
+pub fn into_printable_text<A: Allocator>(string: PrintableStringAsn1<A>) -> String<A>
+    ensures { string_bytes result ≡ string }
+{
+    let Ok(text) = String::from_utf8(string.into_bytes()) else {
+        unreachable!();
+    };
+    text
 }
 
 /// The characters of an IA5String. Takes no memory.

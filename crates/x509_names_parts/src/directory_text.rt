@@ -4,9 +4,9 @@ ghost use Rattle.std.specs.Prelude.{◌≡◌, Some, IfOk, IsOk, IsOkAnd, MatchR
 ghost use Rattle.std.specs.Cow.{cow_str_bytes, IsBorrowedStr};
 ghost use Rattle.std.specs.String.{string_bytes};
 ghost use Rattle.x509_names_parts.specs.declared.directory_string.DirectoryString.TheVariants as directory;
-ghost use Rattle.x509_names_parts.specs.DirectoryTexts.{directory_text, directory_bytes, HoldsText, IsUtf8String};
+ghost use Rattle.x509_names_parts.specs.DirectoryTexts.{directory_text, directory_bytes, HoldsText};
 
-use crate::ascii::printable_text;
+use crate::ascii::{into_printable_text, printable_text};
 use crate::directory_string::DirectoryString;
 use crate::utf16::write_utf16;
 use std::alloc::{AllocError, Allocator};
@@ -53,16 +53,17 @@ impl<A: Allocator> DirectoryString<A> {
         }
     }
 
-    /// The same characters, owned: those of a UTF8String are moved, which takes no memory, and the others copied.
+    /// The same characters, owned: those of a BMPString are copied, and the others moved, which takes no memory.
     ///
     /// # Errors
-    /// The directory string as it was, where memory is refused.
+    /// The directory string as it was, where memory is refused, for a BMPString alone.
     pub fn into_string(self, alloc: A) -> Result<String<A>, DirectoryString<A>>
         ensures text { MatchResult result (λ text. string_bytes text ≡ directory_text self)
             (λ string. string ≡ self) }
-        ensures moved { IsUtf8String self → IsOk result }
+        ensures moved { HoldsText self → IsOk result }
     {
         match self {
+            DirectoryString::PrintableString(text) => Ok(into_printable_text(text)),
             DirectoryString::Utf8String(text) => Ok(String::from(text)),
             string => match string.to_string(alloc) {
                 Ok(text) => Ok(text),

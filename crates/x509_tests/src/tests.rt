@@ -1,12 +1,18 @@
 //! Worked bytes, read and written by every call, and each request for memory refused.
 
+mod algorithms;
+mod attributes;
 mod character_strings;
 mod clones;
 mod elements;
+mod extensions;
 mod fields;
 mod forms;
+mod general_names;
+mod hash_algorithms;
 mod identifiers;
 mod lists;
+mod names;
 mod no_memory;
 mod numbers;
 mod octets_and_bits;

@@ -5,9 +5,15 @@ use Rattle.std.specs.Fmt.{decimal}
 use Rattle.hex.specs.Hex.{encode_lower}
 use Rattle.x509_tool.specs.declared.fault.ToolFault.{ToolFault}
 use Rattle.x509_tool.specs.declared.fault.ToolFault.TheVariants.{Refused, Usage, OutOfMemory, TooLong}
+use Rattle.x509_tool.specs.declared.served.Served.{Served}
+use Rattle.x509_tool.specs.declared.served.Served.TheVariants.{Algorithm, Name, PrivateKey, PublicKey, RawAlgorithm}
 use Rattle.x509_der.specs.Tally.{Tally, counts_of}
 use Rattle.x509_der.specs.Shape.{Shape}
 use Rattle.x509_keys.specs.RawAlgorithm.{raw_algorithm}
+use Rattle.x509_keys.specs.AlgorithmIdentifier.{algorithm_identifier}
+use Rattle.x509_keys.specs.PrivateKeyInfos.{private_key_info}
+use Rattle.x509_keys.specs.SubjectPublicKeyInfos.{subject_public_key_info}
+use Rattle.x509_names.specs.Names.{name}
 
 -- numbers in decimal, joined by single spaces
 abbrev pub spaced : List ℕ → List ℕ
@@ -40,12 +46,27 @@ Answers s bytes (Err OutOfMemory) = Unit {0}
 Answers s bytes (Err TooLong) = IsTooLong s bytes
 
 -- the names of the types that are served
-abbrev pub IsServed : List ℕ → Type 0
-IsServed name = name ≡ codes "raw-algorithm"
+abbrev pub served_name : Served → List ℕ
+served_name Algorithm = codes "algorithm"
+served_name Name = codes "name"
+served_name PrivateKey = codes "private-key"
+served_name PublicKey = codes "public-key"
+served_name RawAlgorithm = codes "raw-algorithm"
 
--- the answer to the bytes of a served type
-abbrev pub AnswersNamed : List ℕ → List ℕ → Result (List ℕ) ToolFault → Type 0
-AnswersNamed name bytes r = (name ≡ codes "raw-algorithm") × Answers raw_algorithm bytes r
+abbrev pub IsServed : List ℕ → Type 0
+IsServed type_name = (served : Served) × (type_name ≡ served_name served)
+
+-- the answer to bytes as a value of a type that is served
+abbrev pub AnswersAs : (A : Type 0) → Served → List ℕ → Result (List ℕ) ToolFault → Type 0
+AnswersAs A Algorithm bytes r = Answers (algorithm_identifier {A = A}) bytes r
+AnswersAs A Name bytes r = Answers (name {A = A}) bytes r
+AnswersAs A PrivateKey bytes r = Answers (private_key_info {A = A}) bytes r
+AnswersAs A PublicKey bytes r = Answers (subject_public_key_info {A = A}) bytes r
+AnswersAs A RawAlgorithm bytes r = Answers raw_algorithm bytes r
+
+-- the answer to the bytes of the type of a name
+abbrev pub AnswersNamed : (A : Type 0) → List ℕ → List ℕ → Result (List ℕ) ToolFault → Type 0
+AnswersNamed A type_name bytes r = (served : Served) × (type_name ≡ served_name served) × AnswersAs A served bytes r
 
 -- the answer to a text that is no hexadecimal text
 abbrev pub IsUsageOrMemory : Result (List ℕ) ToolFault → Type 0

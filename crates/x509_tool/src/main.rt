@@ -6,6 +6,7 @@ mod console;
 mod fault;
 mod report;
 mod run_text;
+mod served;
 #[cfg(test)]
 mod tests;
 

@@ -2,13 +2,11 @@
 
 ghost use Rattle.std.specs.Prelude.{◌≡◌, ℕ, List, Err};
 ghost use Rattle.x509_tool.specs.Text.{IsTextOf, IsNoText, IsWithoutLineFeed};
-ghost use Rattle.x509_tool.specs.Output.{Answers, AnswersNamed, IsServed, IsUsageOrMemory, listed_answer};
+ghost use Rattle.x509_tool.specs.Output.{AnswersNamed, IsServed, IsUsageOrMemory, listed_answer};
 
 use crate::fault::ToolFault;
-use crate::report::report;
+use crate::served::Served;
 use std::alloc::Allocator;
-use x509_der::{FromDer, read_counted, to_vec};
-use x509_keys::RawAlgorithmIdentifier;
 
 /// The text without one line feed at its end.
 fn without_line_feed(text: &[u8]) -> &[u8]
@@ -18,19 +16,6 @@ fn without_line_feed(text: &[u8]) -> &[u8]
         [digits @ .., b'\n'] => digits,
         _ => text,
     }
-}
-
-/// The answer to the bytes as a value of a type.
-fn answer<T: FromDer<A>, A: Allocator + Copy>(
-    alloc: A,
-    bytes: &[u8],
-) -> Result<Vec<u8, A>, ToolFault>
-    ensures { Answers T.shape bytes.now (listed_answer (λ v. v.items) result) }
-{
-    let (value, deviations) = read_counted::<T, A>(alloc, bytes)?;
-    let strict = to_vec(alloc, &value)?;
-    let text = report(alloc, &strict, deviations.counts())?;
-    Ok(text)
 }
 
 /// What the program prints for the type's name and the hexadecimal text of an input: the DER encoding of the value in
@@ -51,11 +36,11 @@ pub fn run_text<A: Allocator + Copy>(
     ensures no_text { IsServed type_name.now → IsNoText input.now →
         IsUsageOrMemory (listed_answer (λ v. v.items) result) }
     ensures text { (bytes : List ℕ) → IsServed type_name.now → IsTextOf bytes input.now →
-        AnswersNamed type_name.now bytes (listed_answer (λ v. v.items) result) }
+        AnswersNamed A type_name.now bytes (listed_answer (λ v. v.items) result) }
 {
-    if type_name != "raw-algorithm" {
+    let Some(served) = Served::from_name(type_name) else {
         return Err(ToolFault::Usage);
-    }
+    };
     let bytes = hex::decode(alloc, without_line_feed(input))?;
-    answer::<RawAlgorithmIdentifier<A>, A>(alloc, &bytes)
+    served.answer(alloc, &bytes)
 }

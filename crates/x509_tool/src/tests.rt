@@ -9,9 +9,9 @@ use std::io::{self, ErrorKind};
 use std::process::Abort;
 use std::test::Fail;
 
-/// The text gives these two lines, and want of memory where a request is refused.
-fn prints(rt: &impl Abort, heap: &Refusing<Global>, input: &[u8], lines: &str) {
-    let requests = heap.in_turn(|| match run_text(heap, "raw-algorithm", input) {
+/// The text gives these two lines as a value of the type, and want of memory where a request is refused.
+fn prints_as(rt: &impl Abort, heap: &Refusing<Global>, type_name: &str, input: &[u8], lines: &str) {
+    let requests = heap.in_turn(|| match run_text(heap, type_name, input) {
         Ok(output) => Turn::right(output.as_slice() == lines.as_bytes()),
         Err(ToolFault::OutOfMemory) => Turn::Refused,
         Err(_other) => Turn::Wrong,
@@ -19,14 +19,73 @@ fn prints(rt: &impl Abort, heap: &Refusing<Global>, input: &[u8], lines: &str) {
     assert!(rt; requests.is_some(), "{input:?}");
 }
 
-/// The text gives this fault, and want of memory where a request is refused.
-fn faults(rt: &impl Abort, heap: &Refusing<Global>, input: &[u8], fault: ToolFault) {
-    let requests = heap.in_turn(|| match run_text(heap, "raw-algorithm", input) {
+/// The same as a raw algorithm identifier.
+fn prints(rt: &impl Abort, heap: &Refusing<Global>, input: &[u8], lines: &str) {
+    prints_as(rt, heap, "raw-algorithm", input, lines);
+}
+
+/// The text gives this fault as a value of the type, and want of memory where a request is refused.
+fn faults_as(
+    rt: &impl Abort,
+    heap: &Refusing<Global>,
+    type_name: &str,
+    input: &[u8],
+    fault: ToolFault,
+) {
+    let requests = heap.in_turn(|| match run_text(heap, type_name, input) {
         Ok(_output) => Turn::Wrong,
         Err(ToolFault::OutOfMemory) => Turn::Refused,
         Err(other) => Turn::right(other == fault),
     });
     assert!(rt; requests.is_some(), "{input:?}");
+}
+
+/// The same as a raw algorithm identifier.
+fn faults(rt: &impl Abort, heap: &Refusing<Global>, input: &[u8], fault: ToolFault) {
+    faults_as(rt, heap, "raw-algorithm", input, fault);
+}
+
+#[test]
+fn names_print(rt: HostRuntime) {
+    let heap = Refusing::new(rt.alloc());
+    let empty = "3000\n0 0 0 0 0 0 0 0 0 0\n";
+    prints_as(&rt, &heap, "name", b"3000\n", empty);
+    prints_as(&rt, &heap, "name", b"3000", empty);
+    let common_name = "300c310a300806035504030c0161\n0 0 0 0 0 0 0 0 0 0\n";
+    let input = b"300C310A300806035504030C0161\n";
+    prints_as(&rt, &heap, "name", input, common_name);
+    faults_as(&rt, &heap, "name", b"30 00\n", ToolFault::Usage);
+    faults_as(&rt, &heap, "name", b"3100\n", ToolFault::Refused);
+}
+
+#[test]
+fn algorithms_print(rt: HostRuntime) {
+    let heap = Refusing::new(rt.alloc());
+    let absent = b"300B06092A864886F70D010101\n";
+    let written = "300d06092a864886f70d0101010500\n1 0 0 0 0 0 0 0 0 0\n";
+    prints_as(&rt, &heap, "algorithm", absent, written);
+    let nested =
+        b"303d06092a864886f70d01010a3030a00d300b0609608648016503040201a11a301806092a864886f70d010108300b0609608648016503040201a203020120";
+    let filled =
+        "304106092a864886f70d01010a3034a00f300d06096086480165030402010500a11c301a06092a864886f70d010108300d06096086480165030402010500a203020120\n0 0 2 0 0 0 0 0 0 0\n";
+    prints_as(&rt, &heap, "algorithm", nested, filled);
+    let other = b"300B0609608648016503040201";
+    faults_as(&rt, &heap, "algorithm", other, ToolFault::Refused);
+}
+
+#[test]
+fn keys_print(rt: HostRuntime) {
+    let heap = Refusing::new(rt.alloc());
+    let public = b"3018300b06092a864886f70d01010103090030060201050201 03";
+    faults_as(&rt, &heap, "public-key", public, ToolFault::Usage);
+    let public = b"3018300b06092a864886f70d0101010309003006020105020103";
+    let written = "301a300d06092a864886f70d01010105000309003006020105020103\n1 0 0 0 0 0 0 0 0 0\n";
+    prints_as(&rt, &heap, "public-key", public, written);
+    let private = b"3011020100300506032b657004030401aaa000";
+    let written = "300f020100300506032b657004030401aa\n0 0 0 0 0 0 0 0 0 1\n";
+    prints_as(&rt, &heap, "private-key", private, written);
+    let second = b"3015020100300506032b657004030401aaa000810200bb";
+    faults_as(&rt, &heap, "private-key", second, ToolFault::Refused);
 }
 
 #[test]
@@ -68,7 +127,7 @@ fn faults_are_named(rt: HostRuntime) {
 fn other_names_are_usage(rt: HostRuntime) {
     let heap = Refusing::new(rt.alloc());
     heap.refuse_all();
-    for name in ["name", "Raw-algorithm", ""] {
+    for name in ["names", "Name", "Raw-algorithm", ""] {
         let answer = run_text(&heap, name, b"3000");
         assert_eq!(rt; answer.err(), Some(ToolFault::Usage), "{name}");
     }

@@ -9,7 +9,12 @@ use x509_der::{
     CloneEq, IntegerAsn1, ObjectIdentifier, ObjectIdentifierAsn1, OctetStringAsn1,
     OctetStringAsn1Container,
 };
-use x509_keys::RawAlgorithmIdentifier;
+use x509_keys::{
+    DigestInfo, HashAlgorithm, MaskGenAlgorithm, RawAlgorithmIdentifier, RsassaPssParams,
+};
+use x509_names::{
+    AttributeTypeAndValue, EdiPartyName, GeneralName, Name, OtherName, Time, Validity, Version,
+};
 use x509_prim::{
     CharSet, GeneralizedTimeAsn1, PrintableString, RestrictedString, RestrictedStringAsn1,
     UtcTimeAsn1, Utf8String,
@@ -36,6 +41,30 @@ impl OwnClone for bool {
 impl OwnClone for u8 {
     fn own_clone(&self) -> Result<Self, AllocError> {
         Ok(*self)
+    }
+}
+
+impl OwnClone for HashAlgorithm {
+    fn own_clone(&self) -> Result<Self, AllocError> {
+        Ok(*self)
+    }
+}
+
+impl<A: Allocator + Copy> OwnClone for MaskGenAlgorithm<A> {
+    fn own_clone(&self) -> Result<Self, AllocError> {
+        self.clone()
+    }
+}
+
+impl<A: Allocator + Copy> OwnClone for RsassaPssParams<A> {
+    fn own_clone(&self) -> Result<Self, AllocError> {
+        self.clone()
+    }
+}
+
+impl<A: Allocator + Copy> OwnClone for DigestInfo<A> {
+    fn own_clone(&self) -> Result<Self, AllocError> {
+        self.clone()
     }
 }
 
@@ -81,7 +110,55 @@ impl<A: Allocator + Copy> OwnClone for ObjectIdentifierAsn1<A> {
     }
 }
 
+impl OwnClone for Version {
+    fn own_clone(&self) -> Result<Self, AllocError> {
+        Ok(*self)
+    }
+}
+
+impl OwnClone for Time {
+    fn own_clone(&self) -> Result<Self, AllocError> {
+        self.clone()
+    }
+}
+
+impl OwnClone for Validity {
+    fn own_clone(&self) -> Result<Self, AllocError> {
+        self.clone()
+    }
+}
+
+impl<A: Allocator + Copy> OwnClone for OtherName<A> {
+    fn own_clone(&self) -> Result<Self, AllocError> {
+        self.clone()
+    }
+}
+
+impl<A: Allocator + Copy> OwnClone for EdiPartyName<A> {
+    fn own_clone(&self) -> Result<Self, AllocError> {
+        self.clone()
+    }
+}
+
+impl<A: Allocator + Copy> OwnClone for GeneralName<A> {
+    fn own_clone(&self) -> Result<Self, AllocError> {
+        self.clone()
+    }
+}
+
 impl<A: Allocator + Copy> OwnClone for RawAlgorithmIdentifier<A> {
+    fn own_clone(&self) -> Result<Self, AllocError> {
+        self.clone()
+    }
+}
+
+impl<A: Allocator + Copy> OwnClone for AttributeTypeAndValue<A> {
+    fn own_clone(&self) -> Result<Self, AllocError> {
+        self.clone()
+    }
+}
+
+impl<A: Allocator + Copy> OwnClone for Name<A> {
     fn own_clone(&self) -> Result<Self, AllocError> {
         self.clone()
     }

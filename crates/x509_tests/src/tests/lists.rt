@@ -143,7 +143,7 @@ fn containers_of_what_takes_memory(rt: HostRuntime) {
 }
 
 /// A list of 2000 bytes whose items are empty sets, but for the last, which has this length byte.
-fn sets_in_list(rt: &impl Abort, alloc: Global, last: u8) -> Vec<u8> {
+pub(super) fn sets_in_list(rt: &impl Abort, alloc: Global, last: u8) -> Vec<u8> {
     let mut bytes = Vec::from_slice(alloc, &[0x30, 0x82, 0x07, 0xD0]).expect(rt, "memory");
     for _set in 0..999 {
         bytes.extend_from_slice(&[0x31, 0]).expect(rt, "memory");

@@ -1,9 +1,11 @@
 //! Types whose values take no memory, read with every request refused.
 
 use super::rows::{Heap, READINGS, bytes_of, read_by};
+use picky_asn1_x509_parts::BasicConstraints;
 use refusing::Refusing;
 use std::process::Abort;
 use x509_der::{FromDer, ReadError};
+use x509_names::{Time, Validity, Version};
 use x509_prim::{GeneralizedTimeAsn1, UtcTimeAsn1};
 
 /// Each call answers these bytes in hexadecimal without memory: the value, or the refusal by its own name.
@@ -61,4 +63,46 @@ fn times_are_read_over<A: Heap>(rt: &impl Abort, heap: A) {
 fn times_are_read(rt: HostRuntime) {
     let heap = Refusing::new(rt.alloc());
     times_are_read_over(&rt, &heap);
+}
+
+/// The test of this name, over any such allocator.
+fn versions_are_read_over<A: Heap>(rt: &impl Abort, heap: A) {
+    reads::<A, Version>(rt, heap, "020102", None);
+    reads::<A, Version>(rt, heap, "020103", Some(ReadError::BadVersion));
+    reads::<A, Version>(rt, heap, "02020001", Some(ReadError::BadNumber));
+}
+
+#[test]
+fn versions_are_read(rt: HostRuntime) {
+    let heap = Refusing::new(rt.alloc());
+    versions_are_read_over(&rt, &heap);
+}
+
+/// The test of this name, over any such allocator.
+fn validities_are_read_over<A: Heap>(rt: &impl Abort, heap: A) {
+    let generalized = "180f30303030303232393030303030305a";
+    reads::<A, Time>(rt, heap, generalized, None);
+    reads::<A, Time>(rt, heap, "1700", Some(ReadError::BadTime));
+    let validity = "301e170d3139313031373137343132385a170d3232313031363137343132385a";
+    reads::<A, Validity>(rt, heap, validity, None);
+    reads::<A, Validity>(rt, heap, "30021700", Some(ReadError::BadTime));
+}
+
+#[test]
+fn validities_are_read(rt: HostRuntime) {
+    let heap = Refusing::new(rt.alloc());
+    validities_are_read_over(&rt, &heap);
+}
+
+/// The test of this name, over any such allocator.
+fn constraints_are_read_over<A: Heap>(rt: &impl Abort, heap: A) {
+    reads::<A, BasicConstraints>(rt, heap, "30060101ff020103", None);
+    let above = "30040202012c";
+    reads::<A, BasicConstraints>(rt, heap, above, Some(ReadError::BadNumber));
+}
+
+#[test]
+fn constraints_are_read(rt: HostRuntime) {
+    let heap = Refusing::new(rt.alloc());
+    constraints_are_read_over(&rt, &heap);
 }

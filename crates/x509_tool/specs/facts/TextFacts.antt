@@ -7,8 +7,15 @@ use Rattle.hex.specs.Hex.{decode_of, is_hex_digit}
 use Rattle.hex.specs.declared.error.FromHexError.{FromHexError}
 use Rattle.hex.proofs.HexLemmas.{decode_of-ok}
 use Rattle.x509_der.specs.Shape.{Shape}
+use Rattle.x509_keys.specs.RawAlgorithm.{raw_algorithm}
+use Rattle.x509_keys.specs.AlgorithmIdentifier.{algorithm_identifier}
+use Rattle.x509_keys.specs.PrivateKeyInfos.{private_key_info}
+use Rattle.x509_keys.specs.SubjectPublicKeyInfos.{subject_public_key_info}
+use Rattle.x509_names.specs.Names.{name}
 use Rattle.x509_tool.specs.Faults.{fault_of_hex}
-use Rattle.x509_tool.specs.Output.{Answers}
+use Rattle.x509_tool.specs.Output.{Answers, AnswersAs}
+use Rattle.x509_tool.specs.declared.served.Served.{Served}
+use Rattle.x509_tool.specs.declared.served.Served.TheVariants.{Algorithm, Name, PrivateKey, PublicKey, RawAlgorithm}
 use Rattle.x509_tool.specs.Text.{IsTextOf, IsWithoutLineFeed}
 use Rattle.hex.specs.declared.error.FromHexError.TheVariants as hex_error
 
@@ -50,3 +57,11 @@ decoded_answer s bytes d e h why = elim why [
   | inl memory ↦ rw memory tt
   | inr bad ↦ absurd (let f : Ok bytes ≡ Err e = sym h ∙ bad in cc)
 ]
+
+-- whatever the type
+pub decoded_as : (A : Type 0) (served : Served) (bytes d : List ℕ) (e : FromHexError) → decode_of d ≡ Ok bytes → (e ≡ hex_error.OutOfMemory) ⊎ (decode_of d ≡ Err e) → AnswersAs A served bytes (Err (fault_of_hex e))
+decoded_as A Algorithm = decoded_answer (algorithm_identifier {A = A})
+decoded_as A Name = decoded_answer (name {A = A})
+decoded_as A PrivateKey = decoded_answer (private_key_info {A = A})
+decoded_as A PublicKey = decoded_answer (subject_public_key_info {A = A})
+decoded_as A RawAlgorithm = decoded_answer raw_algorithm

@@ -1,0 +1,10 @@
+pub mod Constraints
+pub mod ExtensionLists
+pub mod Extensions
+pub mod KeyAuthorities
+pub mod KeyAuthorityLaws
+pub mod KeyPurposes
+pub mod KeyUsages
+pub mod Lending
+pub mod RequestAttributes
+pub mod facts

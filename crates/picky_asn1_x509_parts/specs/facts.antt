@@ -1,0 +1,10 @@
+-- Lemmas about the definitions.
+pub mod AttributeFacts
+pub mod AttributeSame
+pub mod Constraints
+pub mod ExtensionFacts
+pub mod ExtensionListFacts
+pub mod KeyAuthorityFacts
+pub mod KeyAuthorityLaws
+pub mod KeyUsages
+pub mod SameAuthorities

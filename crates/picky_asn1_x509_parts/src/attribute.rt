@@ -1,0 +1,430 @@
+//! Attributes of requests and of signed messages.
+
+ghost use Rattle.std.specs.Prelude.{◌≡◌, ◌∷◌, [], true, false, refl, IfOk};
+ghost use Rattle.x509_der.specs.Reading.{Ready, Reads};
+ghost use Rattle.x509_der.specs.laws.Structure.{structure_lawful, structure_element};
+ghost use Rattle.picky_asn1_x509_parts.specs.RequestAttributes.{extension_request_arcs, content_type_arcs, message_digest_arcs, signing_time_arcs, data_arcs, kind_of as kind_by, value_bytes, IsValue, by_kind, attribute_parts, attribute_base, attribute, attribute_bytes};
+ghost use Rattle.picky_asn1_x509_parts.specs.facts.AttributeSame.{attribute_same};
+ghost use Rattle.picky_asn1_x509_parts.specs.declared.attribute.AttributeValues.TheVariants as value;
+
+use crate::extension::Extension;
+use crate::extensions::Extensions;
+use std::alloc::{AllocError, Allocator, Global};
+use x509_der::parts::{
+    AnyDefinedBy, DefinedBy, Field, Reader, SEQUENCE_TAG, Sequence, Structure, Tagged, read_fields,
+};
+use x509_der::{
+    Asn1RawDer, Asn1SequenceOf, Asn1SetOf, CloneEq, FromDer, ObjectIdentifierAsn1, OctetStringAsn1,
+    ReadError, ToDer, TooLong,
+};
+use x509_oids_objects as oids;
+use x509_prim::{UTCTime, UtcTimeAsn1};
+
+/// A list of attributes. It may be empty.
+///
+/// # Encoding
+/// `SEQUENCE OF Attribute`.
+pub type Attributes<A = Global> = Asn1SequenceOf<Attribute<A>, A>;
+
+/// The identifiers of statement types.
+type StatementTypes<A> = Asn1SequenceOf<ObjectIdentifierAsn1<A>, A>;
+
+/// The values of an attribute, by its type: a set of items, whose order is kept, and which may be empty.
+#[derive(Drop)]
+#[derive_where(Debug, PartialEq, Eq)]
+pub enum AttributeValues<A: Allocator = Global> {
+    /// Of `extensionRequest`, 1.2.840.113549.1.9.14: lists of extensions (RFC 2985, 5.4.2).
+    Extensions(Asn1SetOf<Extensions<A>, A>),
+    /// Of `contentType`, 1.2.840.113549.1.9.3: identifiers (RFC 2985, 5.3.1).
+    ContentType(Asn1SetOf<ObjectIdentifierAsn1<A>, A>),
+    /// Of `SpcStatementType`, 1.3.6.1.4.1.311.2.1.11: lists of identifiers (Authenticode).
+    SpcStatementType(Asn1SetOf<Asn1SequenceOf<ObjectIdentifierAsn1<A>, A>, A>),
+    /// Of `messageDigest`, 1.2.840.113549.1.9.4: octets (RFC 2985, 5.3.2).
+    MessageDigest(Asn1SetOf<OctetStringAsn1<A>, A>),
+    /// Of `signingTime`, 1.2.840.113549.1.9.5: times from 1950 to 2049 (RFC 2985, 5.3.3).
+    SigningTime(Asn1SetOf<UtcTimeAsn1, A>),
+    /// Of any other type: one element, which isn't looked into, and needn't be a set.
+    Custom(Asn1RawDer<A>),
+}
+
+impl<A: Allocator + Copy> AttributeValues<A> {
+    /// Equal values.
+    ///
+    /// # Errors
+    /// `AllocError` where memory is refused.
+    pub fn clone(&self) -> Result<Self, AllocError>
+        ensures { IfOk result (λ copy. copy ≡ self.now) }
+    {
+        self.clone_eq()
+    }
+}
+
+impl<A: Allocator + Copy> CloneEq for AttributeValues<A> {
+    fn clone_eq(&self) -> Result<Self, AllocError> {
+        match self {
+            AttributeValues::Extensions(lists) => {
+                Ok(AttributeValues::Extensions(lists.clone_eq()?))
+            }
+            AttributeValues::ContentType(types) => {
+                Ok(AttributeValues::ContentType(types.clone_eq()?))
+            }
+            AttributeValues::SpcStatementType(lists) => {
+                Ok(AttributeValues::SpcStatementType(lists.clone_eq()?))
+            }
+            AttributeValues::MessageDigest(digests) => {
+                Ok(AttributeValues::MessageDigest(digests.clone_eq()?))
+            }
+            AttributeValues::SigningTime(times) => {
+                Ok(AttributeValues::SigningTime(times.clone_eq()?))
+            }
+            AttributeValues::Custom(element) => Ok(AttributeValues::Custom(element.clone_eq()?)),
+        }
+    }
+}
+
+/// What an object identifier says of the values.
+#[derive(Debug, Drop, Clone, Copy, PartialEq, Eq)]
+enum AttributeKind {
+    /// Lists of extensions.
+    Extensions,
+    /// Identifiers.
+    ContentType,
+    /// Lists of identifiers.
+    SpcStatementType,
+    /// Octets.
+    MessageDigest,
+    /// Times.
+    SigningTime,
+    /// Any one element.
+    Custom,
+}
+
+/// The kind that an object identifier says.
+fn kind_of<A: Allocator>(identifier: &ObjectIdentifierAsn1<A>) -> AttributeKind
+    ensures { result ≡ kind_by identifier.now }
+{
+    if identifier.0.is_arcs(&[1, 2, 840, 113549, 1, 9, 14]) {
+        AttributeKind::Extensions
+    } else if identifier.0.is_arcs(&[1, 2, 840, 113549, 1, 9, 3]) {
+        AttributeKind::ContentType
+    } else if identifier.0.is_arcs(&[1, 3, 6, 1, 4, 1, 311, 2, 1, 11]) {
+        AttributeKind::SpcStatementType
+    } else if identifier.0.is_arcs(&[1, 2, 840, 113549, 1, 9, 4]) {
+        AttributeKind::MessageDigest
+    } else if identifier.0.is_arcs(&[1, 2, 840, 113549, 1, 9, 5]) {
+        AttributeKind::SigningTime
+    } else {
+        AttributeKind::Custom
+    }
+}
+
+impl<A: Allocator> ToDer for AttributeValues<A> {
+    ghost strict = { value_bytes };
+
+    fn encoded_len(&self) -> Result<usize, TooLong> {
+        match self {
+            AttributeValues::Extensions(lists) => lists.encoded_len(),
+            AttributeValues::ContentType(types) => types.encoded_len(),
+            AttributeValues::SpcStatementType(lists) => lists.encoded_len(),
+            AttributeValues::MessageDigest(digests) => digests.encoded_len(),
+            AttributeValues::SigningTime(times) => times.encoded_len(),
+            AttributeValues::Custom(element) => element.encoded_len(),
+        }
+    }
+
+    fn write_back(&self, out: &mut [u8]) -> usize {
+        match self {
+            AttributeValues::Extensions(lists) => lists.write_back(out),
+            AttributeValues::ContentType(types) => types.write_back(out),
+            AttributeValues::SpcStatementType(lists) => lists.write_back(out),
+            AttributeValues::MessageDigest(digests) => digests.write_back(out),
+            AttributeValues::SigningTime(times) => times.write_back(out),
+            AttributeValues::Custom(element) => element.write_back(out),
+        }
+    }
+}
+
+/// Says that the values are those of their type. It does nothing when it runs.
+fn known_value<A: Allocator + Copy>(value: &AttributeValues<A>)
+    ensures { IsValue value.now }
+{
+    match value {
+        AttributeValues::Extensions(lists) => Field::<A>::known(lists),
+        AttributeValues::ContentType(types) => Field::<A>::known(types),
+        AttributeValues::SpcStatementType(lists) => Field::<A>::known(lists),
+        AttributeValues::MessageDigest(digests) => Field::<A>::known(digests),
+        AttributeValues::SigningTime(times) => Field::<A>::known(times),
+        AttributeValues::Custom(element) => element.known(),
+    }
+}
+
+/// Reads values of a kind.
+///
+/// # Errors
+/// Refused where no values of the kind stand there, or memory is refused.
+fn read_as<A: Allocator + Copy>(
+    alloc: A,
+    kind: AttributeKind,
+    reader: &mut Reader<'_, A>,
+) -> Result<AttributeValues<A>, ReadError>
+    requires { Ready reader.old }
+    ensures { Reads (by_kind kind) reader.old reader.new result }
+{
+    match kind {
+        AttributeKind::Extensions => {
+            let lists = Asn1SetOf::<Extensions<A>, A>::read(alloc, reader)?;
+            Ok(AttributeValues::Extensions(lists))
+        }
+        AttributeKind::ContentType => {
+            let types = Asn1SetOf::<ObjectIdentifierAsn1<A>, A>::read(alloc, reader)?;
+            Ok(AttributeValues::ContentType(types))
+        }
+        AttributeKind::SpcStatementType => {
+            let lists = Asn1SetOf::<StatementTypes<A>, A>::read(alloc, reader)?;
+            Ok(AttributeValues::SpcStatementType(lists))
+        }
+        AttributeKind::MessageDigest => {
+            let digests = Asn1SetOf::<OctetStringAsn1<A>, A>::read(alloc, reader)?;
+            Ok(AttributeValues::MessageDigest(digests))
+        }
+        AttributeKind::SigningTime => {
+            let times = Asn1SetOf::<UtcTimeAsn1, A>::read(alloc, reader)?;
+            Ok(AttributeValues::SigningTime(times))
+        }
+        AttributeKind::Custom => {
+            let element = Asn1RawDer::read(alloc, reader)?;
+            Ok(AttributeValues::Custom(element))
+        }
+    }
+}
+
+impl<A: Allocator + Copy> AnyDefinedBy<ObjectIdentifierAsn1<A>, A> for AttributeValues<A> {
+    ghost use Rattle.picky_asn1_x509_parts.specs.facts.AttributeFacts.{HoldLaws, value_family, value_agrees};
+
+    ghost shapes = { λ arcs. by_kind (kind_by arcs) };
+
+    ghost starts = { λ b. true };
+
+    ghost avoids = { λ b. false };
+
+    ghost family = { value_family (record {
+      requests = ⟦<Asn1SetOf<Extensions<A>, A> as Field<A>>⟧.lawful (tt, tt);
+      content_types = ⟦<Asn1SetOf<ObjectIdentifierAsn1<A>, A> as Field<A>>⟧.lawful (tt, tt);
+      statements = ⟦<Asn1SetOf<Asn1SequenceOf<ObjectIdentifierAsn1<A>, A>, A> as Field<A>>⟧.lawful ((tt, tt), tt);
+      digests = ⟦<Asn1SetOf<OctetStringAsn1<A>, A> as Field<A>>⟧.lawful (tt, tt);
+      times = ⟦<Asn1SetOf<UtcTimeAsn1, A> as Field<A>>⟧.lawful (tt, tt);
+    }) };
+
+    ghost shapes_agree = { λ arcs v. value_agrees (kind_by arcs) v };
+
+    fn starts(_byte: u8) -> bool {
+        true
+    }
+
+    fn known_behind(&self, _ty: &ObjectIdentifierAsn1<A>) {
+        known_value(self);
+    }
+
+    fn read_behind(
+        alloc: A,
+        ty: &ObjectIdentifierAsn1<A>,
+        reader: &mut Reader<'_, A>,
+    ) -> Result<Self, ReadError> {
+        read_as(alloc, kind_of(ty), reader)
+    }
+}
+
+/// An attribute of a request or of a signed message: its type, and its values, whose kind the type says. Parts that
+/// don't fit each other are written as they are, and aren't read back.
+///
+/// # Encoding
+/// `Attribute ::= SEQUENCE { type OBJECT IDENTIFIER, values SET SIZE (1..MAX) OF ANY DEFINED BY type }` (RFC 2986,
+/// 4.1). An empty set is read too; where the type isn't known, the values are any one element.
+#[derive(Drop)]
+#[derive_where(Debug, PartialEq, Eq)]
+pub struct Attribute<A: Allocator = Global> {
+    /// The object identifier.
+    pub ty: ObjectIdentifierAsn1<A>,
+    /// The values.
+    pub value: AttributeValues<A>,
+}
+
+impl<A: Allocator + Copy> Attribute<A> {
+    /// An equal attribute.
+    ///
+    /// # Errors
+    /// `AllocError` where memory is refused.
+    pub fn clone(&self) -> Result<Self, AllocError>
+        ensures { IfOk result (λ copy. copy ≡ self.now) }
+    {
+        self.clone_eq()
+    }
+}
+
+impl<A: Allocator + Copy> CloneEq for Attribute<A> {
+    fn clone_eq(&self) -> Result<Self, AllocError> {
+        let ty = self.ty.clone_eq()?;
+        let value = self.value.clone_eq()?;
+        Ok(Attribute { ty, value })
+    }
+}
+
+/// A set of one item.
+///
+/// # Errors
+/// `AllocError` where memory is refused. The item is then dropped.
+fn set_of<T: Drop, A: Allocator>(alloc: A, item: T) -> Result<Asn1SetOf<T, A>, AllocError>
+    ensures { IfOk result (λ set. set ≡ item ∷ []) }
+{
+    let mut items = Vec::with_capacity(alloc, 1)?;
+    items.push(item)?;
+    Ok(Asn1SetOf(items))
+}
+
+impl<A: Allocator + Copy> Attribute<A> {
+    /// A request for extensions, `extensionRequest` (RFC 2985, 5.4.2): a set of the one list.
+    ///
+    /// # Errors
+    /// `AllocError` where memory is refused. The extensions are then dropped.
+    pub fn new_extension_request(
+        alloc: A,
+        extensions: Vec<Extension<A>, A>,
+    ) -> Result<Self, AllocError>
+        ensures { IfOk result (λ a. a ≡ record {
+          ty = extension_request_arcs;
+          value = value.Extensions
+              (extensions.items ∷ []);
+        }) }
+    {
+        let ty = ObjectIdentifierAsn1(oids::extension_request(alloc)?);
+        let set = set_of(alloc, Extensions::from(extensions))?;
+        Ok(Attribute {
+            ty,
+            value: AttributeValues::Extensions(set),
+        })
+    }
+
+    /// The content type of data, `contentType` (RFC 2985, 5.3.1): a set of the one identifier 1.2.840.113549.1.7.1 (RFC
+    /// 2315, 14).
+    ///
+    /// # Errors
+    /// `AllocError` where memory is refused.
+    pub fn new_content_type_pkcs7(alloc: A) -> Result<Self, AllocError>
+        ensures { IfOk result (λ a. a ≡ record {
+          ty = content_type_arcs;
+          value = value.ContentType
+              (data_arcs ∷ []);
+        }) }
+    {
+        let ty = ObjectIdentifierAsn1(oids::content_type(alloc)?);
+        let data = ObjectIdentifierAsn1(oids::content_info_type_data(alloc)?);
+        let set = set_of(alloc, data)?;
+        Ok(Attribute {
+            ty,
+            value: AttributeValues::ContentType(set),
+        })
+    }
+
+    /// When something was signed, `signingTime` (RFC 2985, 5.3.3): a set of the one time.
+    ///
+    /// # Errors
+    /// `AllocError` where memory is refused.
+    pub fn new_signing_time(alloc: A, signing_time: UTCTime) -> Result<Self, AllocError>
+        ensures { IfOk result (λ a. a ≡ record {
+          ty = signing_time_arcs;
+          value = value.SigningTime
+              (signing_time ∷ []);
+        }) }
+    {
+        let ty = ObjectIdentifierAsn1(oids::signing_time(alloc)?);
+        let set = set_of(alloc, UtcTimeAsn1(signing_time))?;
+        Ok(Attribute {
+            ty,
+            value: AttributeValues::SigningTime(set),
+        })
+    }
+
+    /// The digest of a message, `messageDigest` (RFC 2985, 5.3.2): a set of the one string of octets.
+    ///
+    /// # Errors
+    /// `AllocError` where memory is refused. The octets are then dropped.
+    pub fn new_message_digest(alloc: A, digest: Vec<u8, A>) -> Result<Self, AllocError>
+        ensures { IfOk result (λ a. a ≡ record {
+          ty = message_digest_arcs;
+          value = value.MessageDigest
+              (digest.items ∷ []);
+        }) }
+    {
+        let ty = ObjectIdentifierAsn1(oids::message_digest(alloc)?);
+        let set = set_of(alloc, OctetStringAsn1(digest))?;
+        Ok(Attribute {
+            ty,
+            value: AttributeValues::MessageDigest(set),
+        })
+    }
+}
+
+/// The fields in the SEQUENCE, owned.
+type Fields<A> = Tagged<Sequence, DefinedBy<ObjectIdentifierAsn1<A>, AttributeValues<A>>>;
+
+/// The fields that are written, borrowed.
+type Written<'a, A> = Tagged<
+    Sequence,
+    DefinedBy<&'a ObjectIdentifierAsn1<A>, &'a AttributeValues<A>>,
+>;
+
+impl<A: Allocator> ToDer for Attribute<A> {
+    ghost strict = { attribute_bytes };
+
+    fn encoded_len(&self) -> Result<usize, TooLong> {
+        Written::new(DefinedBy(&self.ty, &self.value)).encoded_len()
+    }
+
+    fn write_back(&self, out: &mut [u8]) -> usize {
+        Written::new(DefinedBy(&self.ty, &self.value)).write_back(out)
+    }
+}
+
+impl<A: Allocator> Structure<Fields<A>> for Attribute<A> {
+    ghost fields = { attribute_parts };
+
+    fn from_fields(parts: Fields<A>) -> Self {
+        let DefinedBy(ty, value) = parts.into_inner();
+        Attribute { ty, value }
+    }
+
+    ghost same = { attribute_same };
+}
+
+impl<A: Allocator + Copy> Field<A> for Attribute<A> {
+    ghost use Rattle.picky_asn1_x509_parts.specs.facts.AttributeFacts.{attribute_agrees};
+
+    ghost shape = { attribute };
+
+    ghost lawful = { λ h. structure_lawful attribute_parts attribute_base attribute_same
+        (⟦<Fields<A> as Field<A>>⟧.lawful (tt, λ c h. refl)) };
+
+    ghost elements = { λ h. structure_element attribute_parts attribute_base
+        (⟦<Fields<A> as Field<A>>⟧.elements tt) };
+
+    ghost agrees = { attribute_agrees };
+
+    fn starts(byte: u8) -> bool {
+        byte == SEQUENCE_TAG
+    }
+
+    fn known(&self) {
+        self.ty.known();
+        known_value(&self.value);
+    }
+
+    fn read(alloc: A, reader: &mut Reader<'_, A>) -> Result<Self, ReadError> {
+        read_fields::<Self, Fields<A>, A>(alloc, reader)
+    }
+}
+
+impl<A: Allocator + Copy> FromDer<A> for Attribute<A> {
+    ghost always = { tt };
+
+    ghost whole = { tt };
+}

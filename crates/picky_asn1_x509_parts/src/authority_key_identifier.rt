@@ -1,0 +1,322 @@
+//! Which key signed a certificate.
+
+ghost use Rattle.std.specs.Prelude.{◌≡◌, ◌<◌, Option, IfOk, IfSome, IfNone, None};
+ghost use Rattle.std.specs.Option.{option_copied};
+ghost use Rattle.x509_der.specs.Items.{items};
+ghost use Rattle.x509_der.specs.Lasts.{ascends};
+ghost use Rattle.x509_der.specs.View.{if_found};
+ghost use Rattle.x509_der.specs.laws.Meaning.{sequence_seen, sequence_lawful, seen_element};
+ghost use Rattle.picky_asn1_x509_parts.specs.KeyAuthorities.{part, number, order_kinds, authority_of, authority_base, authority_meaning, authority_key_identifier, authority_bytes, with_part};
+ghost use Rattle.picky_asn1_x509_parts.specs.facts.KeyAuthorityFacts.{parts_apart, issuer_apart, authority_is, one_kind, authority_agrees};
+
+use crate::key_identifier::KeyIdentifier;
+use std::alloc::{AllocError, Allocator, Global};
+use std::marker::Model;
+use x509_der::parts::{
+    Choice, ContentOf, Explicit1, Field, Found, Implicit0, Implicit2, Items, Join, Optional,
+    Reader, SEQUENCE_TAG, Sequence, Tagged, View, known_there, read_viewed,
+};
+use x509_der::{
+    CloneEq, Deviation, FromDer, IntegerAsn1, OctetStringAsn1, ReadError, SameEq, ToDer, TooLong,
+};
+use x509_names::{DirectoryString, GeneralName, Name};
+
+/// Which key signed a certificate: by its identifier, or by a certificate of it, by who issued that and its serial
+/// number. Each may be absent. Contracts see the three.
+///
+/// # Encoding
+/// `AuthorityKeyIdentifier ::= SEQUENCE { keyIdentifier [0] KeyIdentifier OPTIONAL, authorityCertIssuer [1]
+/// GeneralNames OPTIONAL, authorityCertSerialNumber [2] CertificateSerialNumber OPTIONAL }`, with implicit tags (RFC
+/// 5280, 4.2.1.1). The `GeneralNames` are exactly one name.
+///
+/// Fields that repeat or stand in another order are read with the one deviation `AuthorityKeyFieldOrder`; of those with
+/// one tag the last counts, and the others must be well formed too.
+#[derive(Drop)]
+#[derive_where(Debug, PartialEq, Eq)]
+pub struct AuthorityKeyIdentifier<A: Allocator = Global> {
+    key_identifier: Option<KeyIdentifier<A>>,
+    authority_cert_issuer: Option<GeneralName<A>>,
+    authority_cert_serial_number: Option<IntegerAsn1<A>>,
+}
+
+impl<A: Allocator> Model for AuthorityKeyIdentifier<A> {
+    ghost use Rattle.picky_asn1_x509_parts.specs.KeyAuthorities.{KeyAuthority};
+
+    ghost Value = { KeyAuthority A };
+
+    ghost view = { λ v. record {
+      key_identifier = v.key_identifier;
+      issuer = v.authority_cert_issuer;
+      serial_number = v.authority_cert_serial_number;
+    } };
+
+    ghost inverse = { λ v. record {
+      key_identifier = v.key_identifier;
+      authority_cert_issuer = v.issuer;
+      authority_cert_serial_number = v.serial_number;
+    } };
+}
+
+impl<A: Allocator> AuthorityKeyIdentifier<A> {
+    /// These parts, of which each may be absent. Takes no memory.
+    pub fn new(
+        key_identifier: Option<KeyIdentifier<A>>,
+        authority_cert_issuer: Option<GeneralName<A>>,
+        authority_cert_serial_number: Option<IntegerAsn1<A>>,
+    ) -> Self
+        ensures { result ≡ record {
+          key_identifier = key_identifier;
+          issuer = authority_cert_issuer;
+          serial_number = authority_cert_serial_number;
+        } }
+    {
+        AuthorityKeyIdentifier {
+            key_identifier,
+            authority_cert_issuer,
+            authority_cert_serial_number,
+        }
+    }
+
+    /// The identifier of the key; `None` where the field is absent.
+    pub fn key_identifier(&self) -> Option<&[u8]>
+        ensures { option_copied result ≡ self.now.key_identifier }
+    {
+        match &self.key_identifier {
+            None => None,
+            Some(octets) => Some(octets.0.as_slice()),
+        }
+    }
+
+    /// Who issued a certificate of the key; `None` where the field is absent.
+    pub fn authority_cert_issuer(&self) -> Option<&GeneralName<A>>
+        ensures { option_copied result ≡ self.now.issuer }
+    {
+        self.authority_cert_issuer.as_ref()
+    }
+
+    /// The serial number of that certificate; `None` where the field is absent.
+    pub fn authority_cert_serial_number(&self) -> Option<&IntegerAsn1<A>>
+        ensures { option_copied result ≡ self.now.serial_number }
+    {
+        self.authority_cert_serial_number.as_ref()
+    }
+
+    /// Takes one field more, in place of an earlier one with its tag.
+    fn keep(&mut self, field: Part<A>)
+        ensures { self.new ≡ with_part self.old field }
+    {
+        match field {
+            Choice::First(key) => {
+                let ContentOf(octets) = key.into_inner();
+                self.key_identifier = Some(octets);
+            }
+            Choice::Second(Choice::First(issuer)) => {
+                self.authority_cert_issuer = Some(issuer.into_inner());
+            }
+            Choice::Second(Choice::Second(serial)) => {
+                let ContentOf(integer) = serial.into_inner();
+                self.authority_cert_serial_number = Some(integer);
+            }
+        }
+    }
+}
+
+impl<A: Allocator + Copy> AuthorityKeyIdentifier<A> {
+    /// Equal parts.
+    ///
+    /// # Errors
+    /// `AllocError` where memory is refused.
+    pub fn clone(&self) -> Result<Self, AllocError>
+        ensures { IfOk result (λ copy. copy ≡ self.now) }
+    {
+        self.clone_eq()
+    }
+}
+
+/// An equal field, where it is there.
+fn clone_there<T: CloneEq>(value: &Option<T>) -> Result<Option<T>, AllocError>
+    ensures { IfOk result (λ copy. copy ≡ value.now) }
+{
+    match value {
+        None => Ok(None),
+        Some(field) => Ok(Some(field.clone_eq()?)),
+    }
+}
+
+impl<A: Allocator + Copy> CloneEq for AuthorityKeyIdentifier<A> {
+    fn clone_eq(&self) -> Result<Self, AllocError> {
+        let key_identifier = clone_there(&self.key_identifier)?;
+        let authority_cert_issuer = clone_there(&self.authority_cert_issuer)?;
+        let authority_cert_serial_number = clone_there(&self.authority_cert_serial_number)?;
+        Ok(AuthorityKeyIdentifier {
+            key_identifier,
+            authority_cert_issuer,
+            authority_cert_serial_number,
+        })
+    }
+}
+
+impl<A: Allocator> SameEq for AuthorityKeyIdentifier<A> {
+    ghost use Rattle.std.proofs.Common.{rules};
+    ghost use Rattle.std.specs.Cmp.Lexicographic.{bytes_decides, pointwise_decides};
+    ghost use Rattle.x509_names.specs.facts.EdiPartyNames.{parties_decide};
+    ghost use Rattle.x509_names.specs.facts.OtherNames.{others_decide};
+    ghost use Rattle.x509_names.specs.facts.SameGeneralNames.{general_names_decide};
+    ghost use Rattle.picky_asn1_x509_parts.specs.facts.SameAuthorities.{authorities_decide};
+
+    ghost decides = { authorities_decide {E = ⟦<GeneralName<A> as PartialEq>⟧.eq}
+        (general_names_decide ⟦<GeneralName<A> as PartialEq>⟧.eq {N = ⟦<Name<A> as PartialEq>⟧.eq}
+        (λ x y. Prim.search (rules)) others_decide (pointwise_decides
+        (pointwise_decides (λ a b. Prim.search (rules, bytes_decides))))
+        (parties_decide {E = ⟦<DirectoryString<A> as PartialEq>⟧.eq}
+        (λ a b. Prim.search (rules, bytes_decides)))) };
+}
+
+/// One field, by its tag.
+type Part<A> = Choice<
+    Tagged<Implicit0, ContentOf<KeyIdentifier<A>>>,
+    Choice<Tagged<Explicit1, GeneralName<A>>, Tagged<Implicit2, ContentOf<IntegerAsn1<A>>>>,
+>;
+
+/// The fields that are read, in their order.
+type Inner<A> = Items<Part<A>, A>;
+
+/// The fields in the SEQUENCE.
+type Fields<A> = Tagged<Sequence, Inner<A>>;
+
+/// The fields that are written, borrowed.
+type Written<'a, A> = Tagged<
+    Sequence,
+    Join<
+        Optional<Tagged<Implicit0, ContentOf<&'a KeyIdentifier<A>>>>,
+        Join<
+            Optional<Tagged<Explicit1, &'a GeneralName<A>>>,
+            Optional<Tagged<Implicit2, ContentOf<&'a IntegerAsn1<A>>>>,
+        >,
+    >,
+>;
+
+/// The number of a field's tag.
+fn number_of<A: Allocator>(field: &Part<A>) -> u8
+    ensures number { result ≡ number field.now }
+    ensures few { result < 3 }
+{
+    match field {
+        Choice::First(_) => 0,
+        Choice::Second(Choice::First(_)) => 1,
+        Choice::Second(Choice::Second(_)) => 2,
+    }
+}
+
+/// Whether the numbers of the fields' tags are strictly ascending.
+fn are_ascending<A: Allocator>(fields: &[Part<A>]) -> bool
+    ensures { result ≡ ascends number fields.now }
+{
+    let mut least: u8 = 0;
+    'fields: for field in fields {
+        let number = number_of(field);
+        if number < least {
+            return false;
+        }
+        least = number + 1;
+    }
+    true
+}
+
+/// The deviation of fields that repeat or are out of order.
+fn disorder<A: Allocator>(fields: &[Part<A>]) -> Option<Deviation>
+    ensures { if_found result ≡ order_kinds fields.now }
+{
+    if are_ascending(fields) {
+        None
+    } else {
+        Some(Deviation::AuthorityKeyFieldOrder)
+    }
+}
+
+/// The last field of each tag.
+fn last_of_each<A: Allocator>(fields: Vec<Part<A>, A>) -> AuthorityKeyIdentifier<A>
+    ensures { result ≡ authority_of fields.items }
+{
+    let mut value = AuthorityKeyIdentifier::new(None, None, None);
+    'fields: for field in fields {
+        value.keep(field);
+    }
+    value
+}
+
+/// The fields of an authority key identifier, to be written.
+fn written<A: Allocator>(value: &AuthorityKeyIdentifier<A>) -> Written<'_, A>
+    ensures { ⟦<Written<'static, A> as ToDer>⟧.strict result ≡ authority_bytes value.now }
+{
+    Tagged::new(Join(
+        Optional::lent_body(&value.key_identifier),
+        Join(
+            Optional::lent(&value.authority_cert_issuer),
+            Optional::lent_body(&value.authority_cert_serial_number),
+        ),
+    ))
+}
+
+impl<A: Allocator> ToDer for AuthorityKeyIdentifier<A> {
+    ghost strict = { λ v. authority_bytes v };
+
+    fn encoded_len(&self) -> Result<usize, TooLong> {
+        written(self).encoded_len()
+    }
+
+    fn write_back(&self, out: &mut [u8]) -> usize {
+        written(self).write_back(out)
+    }
+}
+
+impl<A: Allocator + Copy> View<Fields<A>, A> for AuthorityKeyIdentifier<A> {
+    ghost view = { authority_meaning };
+
+    fn meaning(parts: Fields<A>) -> Option<(Self, Found)> {
+        let Items(fields) = parts.into_inner();
+        let found = Found::of(disorder(fields.as_slice()));
+        Some((last_of_each(fields), found))
+    }
+
+    ghost is_seen = { λ f. sequence_seen authority_meaning (items part) (⟦<Inner<A> as Field<A>>⟧.lawful f)
+        authority_is one_kind };
+}
+
+impl<A: Allocator + Copy> Field<A> for AuthorityKeyIdentifier<A> {
+    ghost shape = { authority_key_identifier };
+
+    ghost lawful = { λ h. sequence_lawful authority_meaning (items part)
+        (⟦<Inner<A> as Field<A>>⟧.lawful (
+          (
+            (tt, ((tt, tt), ((tt, tt), issuer_apart))),
+            ((tt, (tt, tt)), parts_apart),
+          ),
+          (tt, (tt, tt)),
+        )) authority_is one_kind };
+
+    ghost elements = { λ h. seen_element authority_meaning authority_base
+        (⟦<Fields<A> as Field<A>>⟧.elements tt) authority_is };
+
+    ghost agrees = { λ v. authority_agrees v };
+
+    fn starts(byte: u8) -> bool {
+        byte == SEQUENCE_TAG
+    }
+
+    fn known(&self) {
+        known_there::<OctetStringAsn1<A>, A>(&self.key_identifier);
+        known_there::<GeneralName<A>, A>(&self.authority_cert_issuer);
+        known_there::<IntegerAsn1<A>, A>(&self.authority_cert_serial_number);
+    }
+
+    fn read(alloc: A, reader: &mut Reader<'_, A>) -> Result<Self, ReadError> {
+        read_viewed::<Self, Fields<A>, A>(alloc, reader)
+    }
+}
+
+impl<A: Allocator + Copy> FromDer<A> for AuthorityKeyIdentifier<A> {
+    ghost always = { tt };
+
+    ghost whole = { tt };
+}

@@ -1,0 +1,211 @@
+//! What a certified key is for.
+
+ghost use Rattle.std.specs.Prelude.{◌≡◌, ◌↔◌, ◌<◌, ◌^◌, Contains, IfOk, IsTrue, length, refl};
+ghost use Rattle.std.specs.Iterator.Adapters.{IterYieldsInOrder};
+ghost use Rattle.std.specs.List.{flat_map};
+ghost use Rattle.std.specs.Slice.Iter.{iter_rest};
+ghost use Rattle.std.proofs.Common.{lit<};
+ghost use Rattle.x509_der.specs.Element.{element};
+ghost use Rattle.x509_der.specs.laws.Tagged.{tagged_lawful, tagged_element};
+ghost use Rattle.picky_asn1_x509_parts.specs.KeyPurposes.{key_purpose, key_purposes, extended_key_usage};
+
+use std::alloc::{AllocError, Allocator, Global};
+use std::marker::Model;
+use std::slice;
+use x509_der::parts::{
+    Content, ContentOf, Field, OneTag, Reader, ToContent, element_len, read_element, write_element,
+};
+use x509_der::{
+    Asn1SequenceOf, CloneEq, FromDer, ObjectIdentifier, ObjectIdentifierAsn1, ReadError, SameEq,
+    ToDer, TooLong,
+};
+
+/// What a certified key is for: the identifiers of purposes, in a list whose order is kept. Contracts see the list.
+///
+/// # Encoding
+/// `ExtKeyUsageSyntax ::= SEQUENCE OF KeyPurposeId`, where `KeyPurposeId ::= OBJECT IDENTIFIER` (RFC 5280, 4.2.1.12).
+///
+/// # Limitation
+/// The standard wants one purpose at least; an empty list is read and written too.
+#[derive(Drop)]
+#[derive_where(Debug, PartialEq, Eq)]
+pub struct ExtendedKeyUsage<A: Allocator = Global>(Asn1SequenceOf<ObjectIdentifierAsn1<A>, A>);
+
+impl<A: Allocator> Model for ExtendedKeyUsage<A> {
+    ghost use Rattle.std.specs.Prelude.{List, ℕ};
+
+    ghost Value = { List (List ℕ) };
+
+    ghost view = { λ u. u.0 };
+
+    ghost inverse = { λ list. record { 0 = list } };
+}
+
+/// Whether two identifiers are the same.
+fn is_purpose<A: Allocator>(known: &ObjectIdentifierAsn1<A>, purpose: &ObjectIdentifier<A>) -> bool
+    ensures { IsTrue result ↔ (known.now ≡ purpose.now) }
+{
+    known.0 == *purpose
+}
+
+impl<A: Allocator> ExtendedKeyUsage<A> {
+    /// These purposes, in this order. Takes no memory.
+    pub fn new(purposes: Vec<ObjectIdentifierAsn1<A>, A>) -> Self
+        ensures { result ≡ purposes.items }
+    {
+        ExtendedKeyUsage(Asn1SequenceOf(purposes))
+    }
+
+    /// The purposes, in the list's order.
+    pub fn iter(&self) -> slice::Iter<'_, ObjectIdentifierAsn1<A>>
+        ensures rest { iter_rest result ≡ self.now }
+        ensures bound { length (iter_rest result) < 2 ^ 64 }
+        ensures runs { IterYieldsInOrder (ObjectIdentifierAsn1 A) }
+    {
+        self.0.0.as_slice().iter()
+    }
+
+    /// Whether a purpose is in the list.
+    pub fn contains(&self, purpose: &ObjectIdentifier<A>) -> bool
+        ensures { IsTrue result ↔ Contains self.now purpose.now }
+    {
+        self.0.0.iter().any(|known| is_purpose(known, purpose))
+    }
+}
+
+impl<A: Allocator> ExtendedKeyUsage<A> {
+    ghost use Rattle.std.specs.Prelude.{◌≡◌, slice_get};
+    ghost use Rattle.std.specs.Borrow.{sem};
+    ghost use Rattle.std.specs.Option.{option_copied_mut};
+    ghost use Rattle.picky_asn1_x509_parts.specs.Lending.{lends_purpose};
+
+    /// The purpose at a place, from 0, to be changed; none past the end. All others stay as they are.
+    pub fn get_mut(&mut self, index: usize) -> Option<&mut ObjectIdentifierAsn1<A>>
+        ensures* writes_back { sem 𝓛 (lends_purpose A.row A.Allocator self.entry index result) }
+        ensures value { option_copied_mut result ≡ slice_get self.old index }
+    {
+        self.0.0.get_mut(index)
+    }
+}
+
+impl<A: Allocator> From<Vec<ObjectIdentifierAsn1<A>, A>> for ExtendedKeyUsage<A> {
+    ghost from_gives = { λ purposes usage. usage ≡ purposes.items };
+
+    fn from(purposes: Vec<ObjectIdentifierAsn1<A>, A>) -> Self {
+        ExtendedKeyUsage::new(purposes)
+    }
+}
+
+impl<A: Allocator + Copy> ExtendedKeyUsage<A> {
+    /// Equal purposes, in the same order.
+    ///
+    /// # Errors
+    /// `AllocError` where memory is refused.
+    pub fn clone(&self) -> Result<Self, AllocError>
+        ensures { IfOk result (λ copy. copy ≡ self.now) }
+    {
+        self.clone_eq()
+    }
+}
+
+impl<A: Allocator + Copy> CloneEq for ExtendedKeyUsage<A> {
+    fn clone_eq(&self) -> Result<Self, AllocError> {
+        Ok(ExtendedKeyUsage(self.0.clone_eq()?))
+    }
+}
+
+impl<A: Allocator> SameEq for ExtendedKeyUsage<A> {
+    ghost use Rattle.std.specs.Cmp.Lexicographic.{bytes_decides, pointwise_decides};
+
+    ghost decides = { pointwise_decides bytes_decides };
+}
+
+/// The tag of a SEQUENCE OF.
+const SEQUENCE_TAG: u8 = 0x30;
+
+/// The purposes as they stand in the SEQUENCE.
+type Purposes<A> = Asn1SequenceOf<ObjectIdentifierAsn1<A>, A>;
+
+impl<A: Allocator> ToContent for ExtendedKeyUsage<A> {
+    ghost content = { flat_map key_purpose.strict };
+
+    fn content_len(&self) -> Result<usize, TooLong> {
+        self.0.content_len()
+    }
+
+    fn write_content(&self, out: &mut [u8]) -> usize {
+        self.0.write_content(out)
+    }
+}
+
+impl<A: Allocator> ToDer for ExtendedKeyUsage<A> {
+    ghost strict = { λ v. element 48 (flat_map key_purpose.strict v) };
+
+    fn encoded_len(&self) -> Result<usize, TooLong> {
+        element_len(SEQUENCE_TAG, &ContentOf(self))
+    }
+
+    fn write_back(&self, out: &mut [u8]) -> usize {
+        write_element(SEQUENCE_TAG, &ContentOf(self), out)
+    }
+}
+
+impl<A: Allocator + Copy> Content<A> for ExtendedKeyUsage<A> {
+    ghost content_shape = { key_purposes };
+
+    ghost content_fits = { Unit {0} };
+
+    ghost content_lawful = { λ h. ⟦<Purposes<A> as Content<A>>⟧.content_lawful (tt, tt) };
+
+    ghost content_always = { tt };
+
+    ghost open = { λ b. refl };
+
+    ghost content_agrees = { λ v. refl };
+
+    fn known_content(&self) {
+        Content::<A>::known_content(&self.0);
+    }
+
+    fn read_content(alloc: A, reader: &mut Reader<'_, A>) -> Result<Self, ReadError> {
+        Ok(ExtendedKeyUsage(Asn1SequenceOf::read_content(alloc, reader)?))
+    }
+}
+
+impl<A: Allocator + Copy> Field<A> for ExtendedKeyUsage<A> {
+    ghost shape = { extended_key_usage };
+
+    ghost lawful = { λ h. tagged_lawful 48 key_purposes
+        (⟦<Purposes<A> as Content<A>>⟧.content_lawful (tt, tt)) };
+
+    ghost elements = { λ h. tagged_element 48 key_purposes refl (lit< tt) };
+
+    ghost agrees = { λ v. refl };
+
+    fn starts(byte: u8) -> bool {
+        byte == SEQUENCE_TAG
+    }
+
+    fn known(&self) {
+        Field::<A>::known(&self.0);
+    }
+
+    fn read(alloc: A, reader: &mut Reader<'_, A>) -> Result<Self, ReadError> {
+        let ContentOf(value) = read_element(alloc, SEQUENCE_TAG, reader)?;
+        Ok(value)
+    }
+}
+
+impl<A: Allocator + Copy> FromDer<A> for ExtendedKeyUsage<A> {
+    ghost always = { tt };
+
+    ghost whole = { tt };
+}
+
+impl<A: Allocator + Copy> OneTag<A> for ExtendedKeyUsage<A> {
+    ghost tag = { 48 };
+
+    ghost spelled_around = { λ v p y. (λ s. s, λ s. s) };
+
+    ghost strict_around = { λ v. refl };
+}

@@ -1,0 +1,730 @@
+//! Extensions of certificates and requests.
+
+ghost use Rattle.std.specs.Prelude.{◌≡◌, ◌↔◌, true, false, refl, Contains, IfOk, IsTrue};
+ghost use Rattle.std.proofs.Common.{eqb};
+ghost use Rattle.x509_der.specs.View.{if_found};
+ghost use Rattle.x509_der.specs.laws.Meaning.{sequence_seen, sequence_lawful, seen_element};
+ghost use Rattle.x509_der.specs.Reading.{Ready, Reads};
+ghost use Rattle.picky_asn1_x509_parts.specs.declared.extension.ExtensionValue.TheVariants as value;
+ghost use Rattle.picky_asn1_x509_parts.specs.Extensions.{authority_key_arcs, subject_key_arcs, key_usage_arcs, subject_name_arcs, issuer_name_arcs, constraints_arcs, extended_usage_arcs, crl_number_arcs, any_usage_arcs, kind_of as kind_by, kind_in, value_bytes, IsValue, by_kind, critical_of, written_critical, critical_kinds, Fields as FieldsOf, AreFitting, inner, fields_bytes, ExtensionFields, IsFitting, extension_base, extension_meaning, extension_bytes, extension, made, viewed, with_critical};
+
+use crate::authority_key_identifier::AuthorityKeyIdentifier;
+use crate::basic_constraints::BasicConstraints;
+use crate::extended_key_usage::ExtendedKeyUsage;
+use crate::key_identifier::{KeyIdentifier, SubjectKeyIdentifier};
+use crate::key_usage::KeyUsage;
+use std::alloc::{AllocError, Allocator, Global};
+use std::marker::Model;
+use x509_der::parts::{
+    AnyDefinedBy, DefinedBy, Field, Found, Join, OCTET_STRING_TAG, Optional, Reader, SEQUENCE_TAG,
+    Sequence, Tagged, View, read_viewed,
+};
+use x509_der::{
+    CloneEq, Deviation, FromDer, IntegerAsn1, ObjectIdentifierAsn1, OctetStringAsn1,
+    OctetStringAsn1Container, ReadError, ToDer, TooLong,
+};
+use x509_names::{GeneralName, GeneralNames};
+use x509_oids_objects as oids;
+
+/// The value of an extension, in an OCTET STRING.
+#[derive(Drop)]
+#[derive_where(Debug, PartialEq, Eq)]
+enum ExtensionValue<A: Allocator = Global> {
+    /// Of `id-ce-authorityKeyIdentifier`, 2.5.29.35.
+    AuthorityKeyIdentifier(OctetStringAsn1Container<AuthorityKeyIdentifier<A>>),
+    /// Of `id-ce-subjectKeyIdentifier`, 2.5.29.14.
+    SubjectKeyIdentifier(OctetStringAsn1Container<SubjectKeyIdentifier<A>>),
+    /// Of `id-ce-keyUsage`, 2.5.29.15.
+    KeyUsage(OctetStringAsn1Container<KeyUsage<A>>),
+    /// Of `id-ce-subjectAltName`, 2.5.29.17.
+    SubjectAltName(OctetStringAsn1Container<GeneralNames<A>>),
+    /// Of `id-ce-issuerAltName`, 2.5.29.18.
+    IssuerAltName(OctetStringAsn1Container<GeneralNames<A>>),
+    /// Of `id-ce-basicConstraints`, 2.5.29.19.
+    BasicConstraints(OctetStringAsn1Container<BasicConstraints>),
+    /// Of `id-ce-extKeyUsage`, 2.5.29.37.
+    ExtendedKeyUsage(OctetStringAsn1Container<ExtendedKeyUsage<A>>),
+    /// Of any other extension: octets, which aren't looked into.
+    Generic(OctetStringAsn1<A>),
+    /// Of `id-ce-cRLNumber`, 2.5.29.20.
+    CrlNumber(OctetStringAsn1Container<IntegerAsn1<A>>),
+}
+
+/// The value of an extension, lent: the variant is the one that the object identifier says.
+#[derive(Drop)]
+#[derive_where(Debug, Clone, Copy, PartialEq, Eq)]
+pub enum ExtensionView<'a, A: Allocator = Global> {
+    /// Which key signed (RFC 5280, 4.2.1.1).
+    AuthorityKeyIdentifier(&'a AuthorityKeyIdentifier<A>),
+    /// The identifier of the certified key (RFC 5280, 4.2.1.2).
+    SubjectKeyIdentifier(&'a SubjectKeyIdentifier<A>),
+    /// What the certified key may be used for (RFC 5280, 4.2.1.3).
+    KeyUsage(&'a KeyUsage<A>),
+    /// Further names of the subject (RFC 5280, 4.2.1.6).
+    SubjectAltName(&'a GeneralNames<A>),
+    /// Further names of the issuer (RFC 5280, 4.2.1.7).
+    IssuerAltName(&'a GeneralNames<A>),
+    /// Whether the subject is an authority (RFC 5280, 4.2.1.9).
+    BasicConstraints(&'a BasicConstraints),
+    /// What the certified key is for (RFC 5280, 4.2.1.12).
+    ExtendedKeyUsage(&'a ExtendedKeyUsage<A>),
+    /// The octets of an extension that isn't known here.
+    Generic(&'a OctetStringAsn1<A>),
+    /// The number of a revocation list (RFC 5280, 5.2.3).
+    CrlNumber(&'a OctetStringAsn1Container<IntegerAsn1<A>>),
+}
+
+impl<A: Allocator + Copy> CloneEq for ExtensionValue<A> {
+    fn clone_eq(&self) -> Result<Self, AllocError> {
+        match self {
+            ExtensionValue::AuthorityKeyIdentifier(key) => {
+                Ok(ExtensionValue::AuthorityKeyIdentifier(key.clone_eq()?))
+            }
+            ExtensionValue::SubjectKeyIdentifier(key) => {
+                Ok(ExtensionValue::SubjectKeyIdentifier(key.clone_eq()?))
+            }
+            ExtensionValue::KeyUsage(usage) => Ok(ExtensionValue::KeyUsage(usage.clone_eq()?)),
+            ExtensionValue::SubjectAltName(names) => {
+                Ok(ExtensionValue::SubjectAltName(names.clone_eq()?))
+            }
+            ExtensionValue::IssuerAltName(names) => {
+                Ok(ExtensionValue::IssuerAltName(names.clone_eq()?))
+            }
+            ExtensionValue::BasicConstraints(constraints) => {
+                Ok(ExtensionValue::BasicConstraints(constraints.clone_eq()?))
+            }
+            ExtensionValue::ExtendedKeyUsage(usage) => {
+                Ok(ExtensionValue::ExtendedKeyUsage(usage.clone_eq()?))
+            }
+            ExtensionValue::Generic(octets) => Ok(ExtensionValue::Generic(octets.clone_eq()?)),
+            ExtensionValue::CrlNumber(number) => Ok(ExtensionValue::CrlNumber(number.clone_eq()?)),
+        }
+    }
+}
+
+/// What an object identifier says of the value.
+#[derive(Debug, Drop, Clone, Copy, PartialEq, Eq)]
+enum ExtensionKind {
+    /// An authority key identifier.
+    AuthorityKeyIdentifier,
+    /// A subject key identifier.
+    SubjectKeyIdentifier,
+    /// A key usage.
+    KeyUsage,
+    /// General names of the subject.
+    SubjectAltName,
+    /// General names of the issuer.
+    IssuerAltName,
+    /// Basic constraints.
+    BasicConstraints,
+    /// Purposes of the key.
+    ExtendedKeyUsage,
+    /// Any octets.
+    Generic,
+    /// An INTEGER.
+    CrlNumber,
+}
+
+/// The kind that an object identifier says.
+fn kind_of<A: Allocator>(identifier: &ObjectIdentifierAsn1<A>) -> ExtensionKind
+    ensures { result ≡ kind_by identifier.now }
+{
+    if identifier.0.is_arcs(&[2, 5, 29, 35]) {
+        ExtensionKind::AuthorityKeyIdentifier
+    } else if identifier.0.is_arcs(&[2, 5, 29, 14]) {
+        ExtensionKind::SubjectKeyIdentifier
+    } else if identifier.0.is_arcs(&[2, 5, 29, 15]) {
+        ExtensionKind::KeyUsage
+    } else if identifier.0.is_arcs(&[2, 5, 29, 17]) {
+        ExtensionKind::SubjectAltName
+    } else if identifier.0.is_arcs(&[2, 5, 29, 18]) {
+        ExtensionKind::IssuerAltName
+    } else if identifier.0.is_arcs(&[2, 5, 29, 19]) {
+        ExtensionKind::BasicConstraints
+    } else if identifier.0.is_arcs(&[2, 5, 29, 37]) {
+        ExtensionKind::ExtendedKeyUsage
+    } else if identifier.0.is_arcs(&[2, 5, 29, 20]) {
+        ExtensionKind::CrlNumber
+    } else {
+        ExtensionKind::Generic
+    }
+}
+
+impl<A: Allocator> ToDer for ExtensionValue<A> {
+    ghost strict = { value_bytes };
+
+    fn encoded_len(&self) -> Result<usize, TooLong> {
+        match self {
+            ExtensionValue::AuthorityKeyIdentifier(key) => key.encoded_len(),
+            ExtensionValue::SubjectKeyIdentifier(key) => key.encoded_len(),
+            ExtensionValue::KeyUsage(usage) => usage.encoded_len(),
+            ExtensionValue::SubjectAltName(names) => names.encoded_len(),
+            ExtensionValue::IssuerAltName(names) => names.encoded_len(),
+            ExtensionValue::BasicConstraints(constraints) => constraints.encoded_len(),
+            ExtensionValue::ExtendedKeyUsage(usage) => usage.encoded_len(),
+            ExtensionValue::Generic(octets) => octets.encoded_len(),
+            ExtensionValue::CrlNumber(number) => number.encoded_len(),
+        }
+    }
+
+    fn write_back(&self, out: &mut [u8]) -> usize {
+        match self {
+            ExtensionValue::AuthorityKeyIdentifier(key) => key.write_back(out),
+            ExtensionValue::SubjectKeyIdentifier(key) => key.write_back(out),
+            ExtensionValue::KeyUsage(usage) => usage.write_back(out),
+            ExtensionValue::SubjectAltName(names) => names.write_back(out),
+            ExtensionValue::IssuerAltName(names) => names.write_back(out),
+            ExtensionValue::BasicConstraints(constraints) => constraints.write_back(out),
+            ExtensionValue::ExtendedKeyUsage(usage) => usage.write_back(out),
+            ExtensionValue::Generic(octets) => octets.write_back(out),
+            ExtensionValue::CrlNumber(number) => number.write_back(out),
+        }
+    }
+}
+
+/// Says that the value is one of its type. It does nothing when it runs.
+fn known_value<A: Allocator + Copy>(value: &ExtensionValue<A>)
+    ensures { IsValue value.now }
+{
+    match value {
+        ExtensionValue::AuthorityKeyIdentifier(key) => Field::<A>::known(key),
+        ExtensionValue::SubjectKeyIdentifier(key) => Field::<A>::known(key),
+        ExtensionValue::KeyUsage(usage) => Field::<A>::known(usage),
+        ExtensionValue::SubjectAltName(names) => Field::<A>::known(names),
+        ExtensionValue::IssuerAltName(names) => Field::<A>::known(names),
+        ExtensionValue::BasicConstraints(constraints) => Field::<A>::known(constraints),
+        ExtensionValue::ExtendedKeyUsage(usage) => Field::<A>::known(usage),
+        ExtensionValue::Generic(octets) => octets.known(),
+        ExtensionValue::CrlNumber(number) => Field::<A>::known(number),
+    }
+}
+
+/// Reads a value of a kind.
+///
+/// # Errors
+/// Refused where no value of the kind fills an OCTET STRING there, or memory is refused.
+fn read_as<A: Allocator + Copy>(
+    alloc: A,
+    kind: ExtensionKind,
+    reader: &mut Reader<'_, A>,
+) -> Result<ExtensionValue<A>, ReadError>
+    requires { Ready reader.old }
+    ensures { Reads (by_kind kind) reader.old reader.new result }
+{
+    match kind {
+        ExtensionKind::AuthorityKeyIdentifier => {
+            let key = OctetStringAsn1Container::<AuthorityKeyIdentifier<A>>::read(alloc, reader)?;
+            Ok(ExtensionValue::AuthorityKeyIdentifier(key))
+        }
+        ExtensionKind::SubjectKeyIdentifier => {
+            let key = OctetStringAsn1Container::<SubjectKeyIdentifier<A>>::read(alloc, reader)?;
+            Ok(ExtensionValue::SubjectKeyIdentifier(key))
+        }
+        ExtensionKind::KeyUsage => {
+            let usage = OctetStringAsn1Container::<KeyUsage<A>>::read(alloc, reader)?;
+            Ok(ExtensionValue::KeyUsage(usage))
+        }
+        ExtensionKind::SubjectAltName => {
+            let names = OctetStringAsn1Container::<GeneralNames<A>>::read(alloc, reader)?;
+            Ok(ExtensionValue::SubjectAltName(names))
+        }
+        ExtensionKind::IssuerAltName => {
+            let names = OctetStringAsn1Container::<GeneralNames<A>>::read(alloc, reader)?;
+            Ok(ExtensionValue::IssuerAltName(names))
+        }
+        ExtensionKind::BasicConstraints => {
+            let constraints = OctetStringAsn1Container::<BasicConstraints>::read(alloc, reader)?;
+            Ok(ExtensionValue::BasicConstraints(constraints))
+        }
+        ExtensionKind::ExtendedKeyUsage => {
+            let usage = OctetStringAsn1Container::<ExtendedKeyUsage<A>>::read(alloc, reader)?;
+            Ok(ExtensionValue::ExtendedKeyUsage(usage))
+        }
+        ExtensionKind::Generic => {
+            let octets = OctetStringAsn1::read(alloc, reader)?;
+            Ok(ExtensionValue::Generic(octets))
+        }
+        ExtensionKind::CrlNumber => {
+            let number = OctetStringAsn1Container::<IntegerAsn1<A>>::read(alloc, reader)?;
+            Ok(ExtensionValue::CrlNumber(number))
+        }
+    }
+}
+
+/// What stands in front of a value: the object identifier, and whether the extension is critical where that is spelled.
+type Key<A> = Join<ObjectIdentifierAsn1<A>, Optional<bool>>;
+
+impl<A: Allocator + Copy> AnyDefinedBy<Key<A>, A> for ExtensionValue<A> {
+    ghost use Rattle.picky_asn1_x509_parts.specs.facts.ExtensionFacts.{HoldLaws, value_family, value_agrees};
+
+    ghost shapes = { λ key. by_kind (kind_by key.0) };
+
+    ghost starts = { λ b. eqb b 4 };
+
+    ghost avoids = { λ b. false };
+
+    ghost family = { value_family (record {
+      authority_key = ⟦<OctetStringAsn1Container<AuthorityKeyIdentifier<A>> as Field<A>>⟧.lawful tt;
+      usage = ⟦<OctetStringAsn1Container<KeyUsage<A>> as Field<A>>⟧.lawful tt;
+      names = ⟦<OctetStringAsn1Container<GeneralNames<A>> as Field<A>>⟧.lawful (tt, tt);
+      constraints = ⟦<OctetStringAsn1Container<BasicConstraints> as Field<A>>⟧.lawful tt;
+      purposes = ⟦<OctetStringAsn1Container<ExtendedKeyUsage<A>> as Field<A>>⟧.lawful tt;
+      numbers = ⟦<OctetStringAsn1Container<IntegerAsn1<A>> as Field<A>>⟧.lawful tt;
+    }) };
+
+    ghost shapes_agree = { λ key v. value_agrees (kind_by key.0) v };
+
+    fn starts(byte: u8) -> bool {
+        byte == OCTET_STRING_TAG
+    }
+
+    fn known_behind(&self, _key: &Key<A>) {
+        known_value(self);
+    }
+
+    fn read_behind(alloc: A, key: &Key<A>, reader: &mut Reader<'_, A>) -> Result<Self, ReadError> {
+        read_as(alloc, kind_of(&key.0), reader)
+    }
+}
+
+/// The fields in the SEQUENCE, owned.
+type Inner<A> = DefinedBy<Key<A>, ExtensionValue<A>>;
+
+/// The fields as they were read: the value is of the kind that the object identifier says.
+#[derive(Drop)]
+struct Fitting<A: Allocator>(Inner<A>);
+
+impl<A: Allocator> Model for Fitting<A> {
+    ghost use Rattle.picky_asn1_x509_parts.specs.Extensions.{Fields, AreFitting};
+
+    ghost Value = { Fields A };
+
+    ghost view = { λ f. f.0 };
+
+    ghost invariant = { λ f. AreFitting f.0 };
+
+    ghost inverse = { λ f. record { 0 = f } };
+}
+
+impl<A: Allocator> ToDer for Fitting<A> {
+    ghost strict = { fields_bytes };
+
+    fn encoded_len(&self) -> Result<usize, TooLong> {
+        self.0.encoded_len()
+    }
+
+    fn write_back(&self, out: &mut [u8]) -> usize {
+        self.0.write_back(out)
+    }
+}
+
+impl<A: Allocator + Copy> Field<A> for Fitting<A> {
+    ghost use Rattle.picky_asn1_x509_parts.specs.facts.ExtensionFacts.{key_apart, inner_agrees};
+
+    ghost shape = { inner };
+
+    ghost lawful = { λ h. ⟦<Inner<A> as Field<A>>⟧.lawful ((tt, (tt, tt), λ c h. refl), key_apart) };
+
+    ghost alone = { ⊥ };
+
+    ghost elements = { λ h. absurd h };
+
+    ghost agrees = { inner_agrees };
+
+    fn starts(byte: u8) -> bool {
+        <Inner<A> as Field<A>>::starts(byte)
+    }
+
+    fn known(&self) {
+        self.0.known();
+    }
+
+    fn read(alloc: A, reader: &mut Reader<'_, A>) -> Result<Self, ReadError> {
+        let fields = Inner::<A>::read(alloc, reader)?;
+        Ok(Fitting(fields))
+    }
+}
+
+/// An extension: its object identifier, whether it is critical, and its value, which is of the kind that the object
+/// identifier says. Contracts see the three.
+///
+/// # Encoding
+/// `Extension ::= SEQUENCE { extnID OBJECT IDENTIFIER, critical BOOLEAN DEFAULT FALSE, extnValue OCTET STRING }` (RFC
+/// 5280, 4.1 and 4.2). The value fills the OCTET STRING whole. A FALSE that is spelled is read with the deviation
+/// `CriticalFalseSpelled`, and written as it must be: not at all.
+#[derive(Drop)]
+#[derive_where(Debug, PartialEq, Eq)]
+pub struct Extension<A: Allocator = Global> {
+    extn_id: ObjectIdentifierAsn1<A>,
+    critical: bool,
+    extn_value: ExtensionValue<A>,
+}
+
+impl<A: Allocator> Model for Extension<A> {
+    ghost use Rattle.std.specs.Prelude.{◌≡◌};
+    ghost use Rattle.picky_asn1_x509_parts.specs.Extensions.{ExtensionFields, kind_in, kind_of};
+
+    ghost Value = { ExtensionFields A };
+
+    ghost view = { λ e. record { extn_id = e.extn_id; critical = e.critical; extn_value = e.extn_value } };
+
+    ghost invariant = { λ e. kind_in e.extn_value ≡ kind_of e.extn_id };
+
+    ghost inverse = { λ v. record { extn_id = v.extn_id; critical = v.critical; extn_value = v.extn_value } };
+}
+
+impl<A: Allocator> Extension<A> {
+    /// The object identifier.
+    pub fn extn_id(&self) -> &ObjectIdentifierAsn1<A>
+        ensures { result.now ≡ self.now.extn_id }
+    {
+        &self.extn_id
+    }
+
+    /// Whether the extension is critical.
+    pub fn critical(&self) -> bool
+        ensures { result ≡ self.now.critical }
+    {
+        self.critical
+    }
+
+    /// The value, in the variant that the object identifier says. Takes no memory.
+    pub fn extn_value(&self) -> ExtensionView<'_, A>
+        ensures value { viewed result ≡ self.now.extn_value }
+        ensures kind { kind_in (viewed result) ≡ kind_by self.now.extn_id }
+    {
+        match &self.extn_value {
+            ExtensionValue::AuthorityKeyIdentifier(key) => {
+                ExtensionView::AuthorityKeyIdentifier(&key.0)
+            }
+            ExtensionValue::SubjectKeyIdentifier(key) => ExtensionView::SubjectKeyIdentifier(
+                &key.0,
+            ),
+            ExtensionValue::KeyUsage(usage) => ExtensionView::KeyUsage(&usage.0),
+            ExtensionValue::SubjectAltName(names) => ExtensionView::SubjectAltName(&names.0),
+            ExtensionValue::IssuerAltName(names) => ExtensionView::IssuerAltName(&names.0),
+            ExtensionValue::BasicConstraints(constraints) => {
+                ExtensionView::BasicConstraints(&constraints.0)
+            }
+            ExtensionValue::ExtendedKeyUsage(usage) => ExtensionView::ExtendedKeyUsage(&usage.0),
+            ExtensionValue::Generic(octets) => ExtensionView::Generic(octets),
+            ExtensionValue::CrlNumber(number) => ExtensionView::CrlNumber(number),
+        }
+    }
+
+    /// The extension, critical. Nothing else changes.
+    pub fn into_critical(mut self) -> Self
+        ensures { result ≡ with_critical self true }
+    {
+        self.critical = true;
+        self
+    }
+
+    /// The extension, not critical. Nothing else changes.
+    pub fn into_non_critical(mut self) -> Self
+        ensures { result ≡ with_critical self false }
+    {
+        self.critical = false;
+        self
+    }
+
+    /// Makes the extension critical or not. Nothing else changes.
+    pub fn set_critical(&mut self, critical: bool)
+        ensures { self.new ≡ with_critical self.old critical }
+    {
+        self.critical = critical;
+    }
+}
+
+impl<A: Allocator + Copy> Extension<A> {
+    /// An authority key identifier, not critical, as RFC 5280, 4.2.1.1, demands. Each part may be absent.
+    ///
+    /// # Errors
+    /// `AllocError` where memory is refused. The parts are then dropped.
+    pub fn new_authority_key_identifier(
+        alloc: A,
+        key_identifier: Option<KeyIdentifier<A>>,
+        authority_cert_issuer: Option<GeneralName<A>>,
+        authority_cert_serial_number: Option<IntegerAsn1<A>>,
+    ) -> Result<Self, AllocError>
+        ensures { IfOk result (λ e. e ≡ made authority_key_arcs false
+            (value.AuthorityKeyIdentifier (record {
+              key_identifier = key_identifier;
+              issuer = authority_cert_issuer;
+              serial_number = authority_cert_serial_number;
+            }))) }
+    {
+        let extn_id = ObjectIdentifierAsn1(oids::authority_key_identifier(alloc)?);
+        let key = AuthorityKeyIdentifier::new(
+            key_identifier,
+            authority_cert_issuer,
+            authority_cert_serial_number,
+        );
+        Ok(Extension {
+            extn_id,
+            critical: false,
+            extn_value: ExtensionValue::AuthorityKeyIdentifier(OctetStringAsn1Container(key)),
+        })
+    }
+
+    /// A subject key identifier, not critical, as RFC 5280, 4.2.1.2, demands.
+    ///
+    /// # Errors
+    /// `AllocError` where memory is refused. The octets are then dropped.
+    pub fn new_subject_key_identifier(
+        alloc: A,
+        key_identifier: Vec<u8, A>,
+    ) -> Result<Self, AllocError>
+        ensures { IfOk result (λ e. e ≡ made subject_key_arcs false
+            (value.SubjectKeyIdentifier key_identifier.items)) }
+    {
+        let extn_id = ObjectIdentifierAsn1(oids::subject_key_identifier(alloc)?);
+        let key = OctetStringAsn1(key_identifier);
+        Ok(Extension {
+            extn_id,
+            critical: false,
+            extn_value: ExtensionValue::SubjectKeyIdentifier(OctetStringAsn1Container(key)),
+        })
+    }
+
+    /// A key usage, critical, as RFC 5280, 4.2.1.3, recommends.
+    ///
+    /// # Errors
+    /// `AllocError` where memory is refused. The usage is then dropped.
+    pub fn new_key_usage(alloc: A, key_usage: KeyUsage<A>) -> Result<Self, AllocError>
+        ensures { IfOk result (λ e. e ≡ made key_usage_arcs true (value.KeyUsage key_usage)) }
+    {
+        let extn_id = ObjectIdentifierAsn1(oids::key_usage(alloc)?);
+        Ok(Extension {
+            extn_id,
+            critical: true,
+            extn_value: ExtensionValue::KeyUsage(OctetStringAsn1Container(key_usage)),
+        })
+    }
+
+    /// Further names of the subject, critical. RFC 5280, 4.2.1.6, demands that where the certificate's own subject is
+    /// empty, and recommends the contrary elsewhere.
+    ///
+    /// # Errors
+    /// `AllocError` where memory is refused. The names are then dropped.
+    pub fn new_subject_alt_name(alloc: A, names: GeneralNames<A>) -> Result<Self, AllocError>
+        ensures { IfOk result (λ e. e ≡ made subject_name_arcs true (value.SubjectAltName names)) }
+    {
+        let extn_id = ObjectIdentifierAsn1(oids::subject_alternative_name(alloc)?);
+        Ok(Extension {
+            extn_id,
+            critical: true,
+            extn_value: ExtensionValue::SubjectAltName(OctetStringAsn1Container(names)),
+        })
+    }
+
+    /// Further names of the issuer, not critical, as RFC 5280, 4.2.1.7, recommends.
+    ///
+    /// # Errors
+    /// `AllocError` where memory is refused. The names are then dropped.
+    pub fn new_issuer_alt_name(alloc: A, names: GeneralNames<A>) -> Result<Self, AllocError>
+        ensures { IfOk result (λ e. e ≡ made issuer_name_arcs false (value.IssuerAltName names)) }
+    {
+        let extn_id = ObjectIdentifierAsn1(oids::issuer_alternative_name(alloc)?);
+        Ok(Extension {
+            extn_id,
+            critical: false,
+            extn_value: ExtensionValue::IssuerAltName(OctetStringAsn1Container(names)),
+        })
+    }
+
+    /// Basic constraints, critical, which is always acceptable (RFC 5280, 4.2.1.9). Each part may be absent; the path
+    /// length is the number of intermediate certificates that may follow.
+    ///
+    /// # Errors
+    /// `AllocError` where memory is refused.
+    pub fn new_basic_constraints(
+        alloc: A,
+        ca: Option<bool>,
+        path_len_constraint: Option<u8>,
+    ) -> Result<Self, AllocError>
+        ensures { IfOk result (λ e. e ≡ made constraints_arcs true
+            (value.BasicConstraints (record { ca = ca; pathlen = path_len_constraint }))) }
+    {
+        let extn_id = ObjectIdentifierAsn1(oids::basic_constraints(alloc)?);
+        let constraints = BasicConstraints::new(ca, path_len_constraint);
+        Ok(Extension {
+            extn_id,
+            critical: true,
+            extn_value: ExtensionValue::BasicConstraints(OctetStringAsn1Container(constraints)),
+        })
+    }
+
+    /// Purposes of a key, critical exactly where `anyExtendedKeyUsage`, 2.5.29.37.0, isn't among them: with it, RFC
+    /// 5280, 4.2.1.12, recommends that the extension isn't critical.
+    ///
+    /// # Errors
+    /// `AllocError` where memory is refused. The purposes are then dropped.
+    pub fn new_extended_key_usage(
+        alloc: A,
+        extended_key_usage: ExtendedKeyUsage<A>,
+    ) -> Result<Self, AllocError>
+        ensures { IfOk result (λ e. (e ≡ made extended_usage_arcs e.critical
+            (value.ExtendedKeyUsage extended_key_usage)) ×
+            (IsTrue e.critical ↔ ¬ Contains extended_key_usage any_usage_arcs)) }
+    {
+        let extn_id = ObjectIdentifierAsn1(oids::extended_key_usage(alloc)?);
+        let any = oids::kp_any_extended_key_usage(alloc)?;
+        let critical = !extended_key_usage.contains(&any);
+        Ok(Extension {
+            extn_id,
+            critical,
+            extn_value: ExtensionValue::ExtendedKeyUsage(OctetStringAsn1Container(
+                extended_key_usage,
+            )),
+        })
+    }
+
+    /// The number of a revocation list, not critical, as RFC 5280, 5.2.3, demands.
+    ///
+    /// # Errors
+    /// `AllocError` where memory is refused. The number is then dropped.
+    pub fn new_crl_number(
+        alloc: A,
+        number: OctetStringAsn1Container<IntegerAsn1<A>>,
+    ) -> Result<Self, AllocError>
+        ensures { IfOk result (λ e. e ≡ made crl_number_arcs false (value.CrlNumber number)) }
+    {
+        let extn_id = ObjectIdentifierAsn1(oids::crl_number(alloc)?);
+        Ok(Extension {
+            extn_id,
+            critical: false,
+            extn_value: ExtensionValue::CrlNumber(number),
+        })
+    }
+}
+
+impl<A: Allocator + Copy> Extension<A> {
+    /// An equal extension.
+    ///
+    /// # Errors
+    /// `AllocError` where memory is refused.
+    pub fn clone(&self) -> Result<Self, AllocError>
+        ensures { IfOk result (λ copy. copy ≡ self.now) }
+    {
+        self.clone_eq()
+    }
+}
+
+impl<A: Allocator + Copy> CloneEq for Extension<A> {
+    fn clone_eq(&self) -> Result<Self, AllocError> {
+        let extn_id = self.extn_id.clone_eq()?;
+        let extn_value = self.extn_value.clone_eq()?;
+        Ok(Extension {
+            extn_id,
+            critical: self.critical,
+            extn_value,
+        })
+    }
+}
+
+/// The fields, owned.
+type Fields<A> = Tagged<Sequence, Fitting<A>>;
+
+/// The fields that are written, borrowed.
+type Written<'a, A> = Tagged<
+    Sequence,
+    DefinedBy<Join<&'a ObjectIdentifierAsn1<A>, Optional<&'a bool>>, &'a ExtensionValue<A>>,
+>;
+
+/// The fields of an extension, to be written.
+fn written<A: Allocator>(value: &Extension<A>) -> Written<'_, A>
+    ensures { ⟦<Written<'static, A> as ToDer>⟧.strict result ≡ extension_bytes value.now }
+{
+    let critical = if value.critical {
+        Optional(Some(&value.critical))
+    } else {
+        Optional(None)
+    };
+    Tagged::new(DefinedBy(Join(&value.extn_id, critical), &value.extn_value))
+}
+
+/// Whether an extension is critical: not, where it isn't spelled.
+fn critical_in(spelled: Option<bool>) -> bool
+    ensures { result ≡ critical_of spelled }
+{
+    spelled.unwrap_or(false)
+}
+
+/// The deviation of a FALSE that is spelled.
+fn spelled_false(spelled: Option<bool>) -> Option<Deviation>
+    ensures { if_found result ≡ critical_kinds spelled }
+{
+    match spelled {
+        Some(false) => Some(Deviation::CriticalFalseSpelled),
+        Some(true) | None => None,
+    }
+}
+
+impl<A: Allocator> ToDer for Extension<A> {
+    ghost strict = { extension_bytes };
+
+    fn encoded_len(&self) -> Result<usize, TooLong> {
+        written(self).encoded_len()
+    }
+
+    fn write_back(&self, out: &mut [u8]) -> usize {
+        written(self).write_back(out)
+    }
+}
+
+impl<A: Allocator + Copy> View<Fields<A>, A> for Extension<A> {
+    ghost use Rattle.picky_asn1_x509_parts.specs.facts.ExtensionFacts.{extension_is, extension_one};
+
+    ghost view = { extension_meaning };
+
+    fn meaning(parts: Fields<A>) -> Option<(Self, Found)> {
+        let Fitting(DefinedBy(Join(extn_id, Optional(spelled)), extn_value)) = parts.into_inner();
+        let found = Found::of(spelled_false(spelled));
+        let critical = critical_in(spelled);
+        Some((
+            Extension {
+                extn_id,
+                critical,
+                extn_value,
+            },
+            found,
+        ))
+    }
+
+    ghost is_seen = { λ f. sequence_seen extension_meaning inner (⟦<Fitting<A> as Field<A>>⟧.lawful tt)
+        extension_is extension_one };
+}
+
+impl<A: Allocator + Copy> Field<A> for Extension<A> {
+    ghost use Rattle.picky_asn1_x509_parts.specs.facts.ExtensionFacts.{extension_is, extension_one, extension_agrees};
+
+    ghost shape = { extension };
+
+    ghost lawful = { λ h. sequence_lawful extension_meaning inner (⟦<Fitting<A> as Field<A>>⟧.lawful tt)
+        extension_is extension_one };
+
+    ghost elements = { λ h. seen_element extension_meaning extension_base
+        (⟦<Fields<A> as Field<A>>⟧.elements tt) extension_is };
+
+    ghost agrees = { extension_agrees };
+
+    fn starts(byte: u8) -> bool {
+        byte == SEQUENCE_TAG
+    }
+
+    fn known(&self) {
+        self.extn_id.known();
+        known_value(&self.extn_value);
+    }
+
+    fn read(alloc: A, reader: &mut Reader<'_, A>) -> Result<Self, ReadError> {
+        read_viewed::<Self, Fields<A>, A>(alloc, reader)
+    }
+}
+
+impl<A: Allocator + Copy> FromDer<A> for Extension<A> {
+    ghost always = { tt };
+
+    ghost whole = { tt };
+}

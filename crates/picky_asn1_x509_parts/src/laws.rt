@@ -1,0 +1,90 @@
+//! Laws of the types of this crate. A function here does nothing when it runs: its contract is the law.
+
+ghost use Rattle.std.specs.Prelude.{◌≡◌, ◌≢◌, ◌+◌, ℕ, Bool, false, List, length, max, slice_index_or};
+ghost use Rattle.x509_der.specs.Tally.{Tally};
+ghost use Rattle.picky_asn1_x509_parts.specs.Constraints.{Constraints, ConstraintsAt, basic_constraints as constraints};
+ghost use Rattle.picky_asn1_x509_parts.specs.Extensions.{kind_of, kind_in, IsReadable, ExtensionFields, extension, ExtensionAt};
+ghost use Rattle.picky_asn1_x509_parts.specs.RequestAttributes.{attribute, AttributeAt};
+ghost use Rattle.picky_asn1_x509_parts.specs.KeyAuthorities.{KeyAuthority, authority_key_identifier as authorities};
+ghost use Rattle.picky_asn1_x509_parts.specs.KeyAuthorityLaws.{AuthorityAt, AuthorityMarks};
+ghost use Rattle.picky_asn1_x509_parts.specs.KeyPurposes.{PurposesAt, extended_key_usage as purposes};
+ghost use Rattle.picky_asn1_x509_parts.specs.KeyUsages.{put};
+
+use crate::attribute::Attribute;
+use crate::authority_key_identifier::AuthorityKeyIdentifier;
+use crate::basic_constraints::BasicConstraints;
+use crate::extended_key_usage::ExtendedKeyUsage;
+use crate::extension::Extension;
+use std::alloc::Allocator;
+use x509_der::laws::fields;
+use x509_der::parts::Field;
+
+/// What a setter of `KeyUsage` leaves: its own bit is as told, every other bit answers as before, and the length is the
+/// greater of the old one and that which reaches to the bit.
+pub fn key_usage_setters()
+    ensures here { (v : List Bool) (i : ℕ) (x : Bool) → slice_index_or (put v i x) i false ≡ x }
+    ensures others { (v : List Bool) (i j : ℕ) (x : Bool) → j ≢ i →
+        slice_index_or (put v i x) j false ≡ slice_index_or v j false }
+    ensures len { (v : List Bool) (i : ℕ) (x : Bool) → length (put v i x) ≡ max (length v) (i + 1) }
+{}
+
+/// Reading basic constraints takes no memory, so that `from_bytes`, `read_counted` and `read_metered` never answer want
+/// of it.
+pub fn basic_constraints_takes_no_memory<A: Allocator + Copy>()
+    ensures { ⟦<BasicConstraints as Field<A>>⟧.shape.frugal }
+{}
+
+/// The law of fields of `BasicConstraints`.
+pub fn basic_constraints_fields<A: Allocator + Copy>()
+    ensures { (v : Constraints) (string : List ℕ) (y : Tally) → constraints.spelled v string y →
+        ConstraintsAt v string y }
+{
+    fields::<BasicConstraints, A>();
+}
+
+/// The law of fields of `ExtendedKeyUsage`: each purpose stands in the list.
+pub fn extended_key_usage_fields<A: Allocator + Copy>()
+    ensures { (list : List (List ℕ)) (string : List ℕ) (y : Tally) → purposes.spelled list string y →
+        PurposesAt list string y }
+{
+    fields::<ExtendedKeyUsage<A>, A>();
+}
+
+/// The law of fields of `AuthorityKeyIdentifier`: each field stands in the list, also one that doesn't count.
+pub fn authority_key_identifier_fields<A: Allocator + Copy>()
+    ensures { (v : KeyAuthority A) (string : List ℕ) (y : Tally) → authorities.spelled v string y →
+        AuthorityAt v string y }
+{
+    fields::<AuthorityKeyIdentifier<A>, A>();
+}
+
+/// An encoding of an authority key identifier has one deviation over the whole where its fields aren't strictly
+/// ascending, and beside it those of all its fields, also of those that don't count.
+pub fn authority_key_identifier_marks<A: Allocator>()
+    ensures { (v : KeyAuthority A) (string : List ℕ) (y : Tally) → authorities.spelled v string y →
+        AuthorityMarks v string y }
+{}
+
+/// The law of fields of `Extension`: the object identifier, whether it is critical, where that is spelled, and the
+/// value in its OCTET STRING, in the shape of the kind that the identifier says.
+pub fn extension_fields<A: Allocator + Copy>()
+    ensures { (v : ExtensionFields A) (string : List ℕ) (y : Tally) → extension.spelled v string y →
+        ExtensionAt v string y }
+{
+    fields::<Extension<A>, A>();
+}
+
+/// An extension whose value holds what is read back as itself is so too, since its value is of the kind that its object
+/// identifier says, as `Extension::extn_value` states of each.
+pub fn extension_readable<A: Allocator>()
+    ensures { (v : ExtensionFields A) → kind_in v.extn_value ≡ kind_of v.extn_id → IsReadable v.extn_value →
+        extension.readable v }
+{}
+
+/// The law of fields of `Attribute`: the type, and behind it the values, in the shape of the kind that the type says.
+pub fn attribute_fields<A: Allocator + Copy>()
+    ensures { (v : Attribute A) (string : List ℕ) (y : Tally) → attribute.spelled v string y →
+        AttributeAt v string y }
+{
+    fields::<Attribute<A>, A>();
+}

@@ -1,0 +1,165 @@
+//! General names, times and versions that are made, with every request for memory refused.
+
+use super::Heap;
+use super::checks::{is_so, same};
+use refusing::Refusing;
+use std::alloc::{AllocError, Allocator};
+use std::process::Abort;
+use x509_der::{Asn1RawDer, ObjectIdentifierAsn1, ToDer, from_bytes, write_to_slice};
+use x509_names::{DirectoryString, GeneralName, Name, OtherName, Time, Validity, Version};
+use x509_oids_objects::user_principal_name;
+use x509_prim::{GeneralizedTime, GeneralizedTimeAsn1, UTCTime, UtcTimeAsn1, Utf8String};
+
+/// Whether the value is written as these bytes.
+fn is_written<T: ToDer>(value: &T, stated: &[u8]) -> bool {
+    let mut room = [0u8; 64];
+    let written = write_to_slice(value, room.as_mut_slice());
+    written == Ok(stated.len()) && room.starts_with(stated)
+}
+
+/// No request was made since all were refused, and the value is written as these bytes; none is refused any more.
+fn is_made<A: Heap, T: ToDer>(rt: &impl Abort, heap: A, value: &T, stated: &[u8]) {
+    same(rt, &heap.requests(), &0, "requests");
+    is_so(rt, is_written(value, stated), "the bytes");
+    heap.refuse(0);
+}
+
+/// The text as a directory string, in its own memory.
+fn directory_string<A: Heap>(rt: &impl Abort, heap: A, text: &str) -> DirectoryString<A> {
+    let text = String::from_str(heap, text).expect(rt, "memory");
+    DirectoryString::Utf8String(Utf8String::from(text))
+}
+
+/// A party `a`.
+fn parties_are_named_over<A: Heap>(rt: &impl Abort, heap: A) {
+    let party = directory_string(rt, heap, "a");
+    heap.refuse_all();
+    let name = GeneralName::new_edi_party_name(party, None);
+    is_made(rt, heap, &name, b"\xA5\x05\xA1\x03\x0C\x01a");
+}
+
+#[test]
+fn parties_are_named(rt: HostRuntime) {
+    let heap = Refusing::new(rt.alloc());
+    parties_are_named_over(&rt, &heap);
+}
+
+/// A party `a`, which `b` named.
+fn parties_are_assigned_over<A: Heap>(rt: &impl Abort, heap: A) {
+    let party = directory_string(rt, heap, "a");
+    let assigner = Some(directory_string(rt, heap, "b"));
+    heap.refuse_all();
+    let name = GeneralName::new_edi_party_name(party, assigner);
+    is_made(
+        rt,
+        heap,
+        &name,
+        b"\xA5\x0A\xA0\x03\x0C\x01b\xA1\x03\x0C\x01a",
+    );
+}
+
+#[test]
+fn parties_are_assigned(rt: HostRuntime) {
+    let heap = Refusing::new(rt.alloc());
+    parties_are_assigned_over(&rt, &heap);
+}
+
+/// The empty name.
+fn names_are_moved_over<A: Heap>(rt: &impl Abort, heap: A) {
+    let name = from_bytes::<Name<A>, A>(heap, b"\x30\x00").expect(rt, "a name");
+    heap.refuse_all();
+    let general = GeneralName::from(name);
+    is_made(rt, heap, &general, b"\xA4\x02\x30\x00");
+}
+
+#[test]
+fn names_are_moved(rt: HostRuntime) {
+    let heap = Refusing::new(rt.alloc());
+    names_are_moved_over(&rt, &heap);
+}
+
+/// A user principal name, `a`, of its parts.
+fn other_names_are_made_over<A: Heap>(rt: &impl Abort, heap: A) {
+    let type_id = user_principal_name(heap).expect(rt, "memory");
+    let value = Vec::from_slice(heap, b"\x0C\x01a").expect(rt, "memory");
+    let value = Asn1RawDer::from_vec(value).expect(rt, "an element");
+    heap.refuse_all();
+    let type_id = ObjectIdentifierAsn1(type_id);
+    let name = GeneralName::OtherName(OtherName { type_id, value });
+    let stated = b"\xA0\x11\x06\x0A\x2B\x06\x01\x04\x01\x82\x37\x14\x02\x03\xA0\x03\x0C\x01a";
+    is_made(rt, heap, &name, stated);
+}
+
+#[test]
+fn other_names_are_made(rt: HostRuntime) {
+    let heap = Refusing::new(rt.alloc());
+    other_names_are_made_over(&rt, &heap);
+}
+
+/// 1950-01-01 00:00:00.
+fn utc_time(rt: &impl Abort) -> UTCTime {
+    UTCTime::new(1950, 1, 1, 0, 0, 0).expect(rt, "a time")
+}
+
+/// 0000-02-29 00:00:00.
+fn generalized_time(rt: &impl Abort) -> GeneralizedTime {
+    GeneralizedTime::new(0, 2, 29, 0, 0, 0).expect(rt, "a time")
+}
+
+/// The two as elements.
+const UTC: &[u8] = b"\x17\x0D500101000000Z";
+
+const GENERALIZED: &[u8] = b"\x18\x0F00000229000000Z";
+
+#[test]
+fn times_are_moved(rt: HostRuntime) {
+    let heap = Refusing::new(rt.alloc());
+    heap.refuse_all();
+    is_made(&rt, &heap, &Time::from(utc_time(&rt)), UTC);
+    heap.refuse_all();
+    let time = UtcTimeAsn1(utc_time(&rt));
+    is_made(&rt, &heap, &Time::from(time), UTC);
+    heap.refuse_all();
+    is_made(&rt, &heap, &Time::from(generalized_time(&rt)), GENERALIZED);
+    heap.refuse_all();
+    let time = GeneralizedTimeAsn1(generalized_time(&rt));
+    is_made(&rt, &heap, &Time::from(time), GENERALIZED);
+}
+
+/// Whether it is an equal validity.
+fn is_copy(answer: Result<Validity, AllocError>, value: &Validity) -> bool {
+    match answer {
+        Ok(copy) => copy == *value,
+        Err(AllocError) => false,
+    }
+}
+
+#[test]
+fn validities_are_cloned(rt: HostRuntime) {
+    let validity = Validity {
+        not_before: Time::from(utc_time(&rt)),
+        not_after: Time::from(generalized_time(&rt)),
+    };
+    is_so(&rt, is_copy(validity.clone(), &validity), "a clone");
+    let stated = b"\x30\x20\x17\x0D500101000000Z\x18\x0F00000229000000Z";
+    is_so(&rt, is_written(&validity, stated), "the bytes");
+}
+
+/// Numbers and their versions.
+const VERSIONS: &[(u8, Option<Version>)] = &[
+    (0, Some(Version::V1)),
+    (1, Some(Version::V2)),
+    (2, Some(Version::V3)),
+    (3, None),
+    (15, None),
+    (255, None),
+];
+
+#[test]
+fn versions_have_numbers(rt: HostRuntime) {
+    for (number, version) in VERSIONS {
+        same(&rt, &Version::from_u8(*number), version, "a version");
+    }
+    same(&rt, &Version::default(), &Version::V1, "the default");
+    same(&rt, &(Version::V3 as u8), &2, "a number");
+}

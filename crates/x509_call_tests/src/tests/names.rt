@@ -1,0 +1,327 @@
+//! Attributes and names: what is made, added and found, with requests for memory refused.
+
+use super::Heap;
+use super::checks::{is_so, same};
+use refusing::{Refusing, Turn};
+use std::alloc::{AllocError, Allocator};
+use std::process::Abort;
+use x509_der::{ObjectIdentifier, ToDer, from_bytes, write_to_slice};
+use x509_names::{
+    AttributeTypeAndValue, AttributeTypeAndValueParameters, DirectoryString, Name, NameAttr,
+};
+use x509_prim::{Ia5String, Ia5StringAsn1, Utf8String};
+
+/// Whether these bytes are the DER encoding.
+fn is_written<T: ToDer>(value: &T, bytes: &[u8]) -> bool {
+    let mut room = [0u8; 64];
+    match write_to_slice(value, room.as_mut_slice()) {
+        Ok(len) => &room[..len] == bytes,
+        Err(_refused) => false,
+    }
+}
+
+/// A text as a directory string.
+fn text_of<A: Allocator>(alloc: A, text: &str) -> Result<DirectoryString<A>, AllocError> {
+    let text = String::from_str(alloc, text)?;
+    Ok(DirectoryString::Utf8String(Utf8String(text)))
+}
+
+/// The address `a@b`; none where memory is refused.
+fn address<A: Allocator>(alloc: A) -> Option<Ia5StringAsn1<A>> {
+    let text = String::from_str(alloc, "a@b").ok()?;
+    match Ia5String::from_string(text) {
+        Ok(address) => Some(Ia5StringAsn1::from(address)),
+        Err(_refused) => None,
+    }
+}
+
+/// What the maker of the attribute gives.
+fn made<A: Allocator>(
+    alloc: A,
+    attr: &NameAttr,
+    text: DirectoryString<A>,
+) -> Result<AttributeTypeAndValue<A>, AllocError> {
+    match attr {
+        NameAttr::CommonName => AttributeTypeAndValue::new_common_name(alloc, text),
+        NameAttr::Surname => AttributeTypeAndValue::new_surname(alloc, text),
+        NameAttr::SerialNumber => AttributeTypeAndValue::new_serial_number(alloc, text),
+        NameAttr::CountryName => AttributeTypeAndValue::new_country_name(alloc, text),
+        NameAttr::LocalityName => AttributeTypeAndValue::new_locality_name(alloc, text),
+        NameAttr::StateOrProvinceName => {
+            AttributeTypeAndValue::new_state_or_province_name(alloc, text)
+        }
+        NameAttr::StreetName => AttributeTypeAndValue::new_street_name(alloc, text),
+        NameAttr::OrganizationName => AttributeTypeAndValue::new_organization_name(alloc, text),
+        NameAttr::OrganizationalUnitName => {
+            AttributeTypeAndValue::new_organizational_unit_name(alloc, text)
+        }
+        NameAttr::GivenName => AttributeTypeAndValue::new_given_name(alloc, text),
+        NameAttr::Phone => AttributeTypeAndValue::new_phone(alloc, text),
+    }
+}
+
+/// The attributes, and the last arcs of their types below 2.5.4.
+const ATTRS: &[(NameAttr, u8)] = &[
+    (NameAttr::CommonName, 3),
+    (NameAttr::Surname, 4),
+    (NameAttr::SerialNumber, 5),
+    (NameAttr::CountryName, 6),
+    (NameAttr::LocalityName, 7),
+    (NameAttr::StateOrProvinceName, 8),
+    (NameAttr::StreetName, 9),
+    (NameAttr::OrganizationName, 10),
+    (NameAttr::OrganizationalUnitName, 11),
+    (NameAttr::GivenName, 42),
+    (NameAttr::Phone, 20),
+];
+
+/// What a run showed that should make the attribute `a` with this last arc.
+fn made_turn<A: Allocator + Copy>(alloc: A, attr: &NameAttr, arc: u8) -> Turn {
+    let bytes = [0x30, 8, 6, 3, 0x55, 4, arc, 0x0C, 1, 0x61];
+    let Ok(text) = text_of(alloc, "a") else {
+        return Turn::Refused;
+    };
+    match made(alloc, attr, text) {
+        Ok(attribute) => Turn::right(is_written(&attribute, &bytes)),
+        Err(AllocError) => Turn::Refused,
+    }
+}
+
+/// Each is made by two requests: one for the text, and one for the type.
+fn attributes_are_made_over<A: Heap>(rt: &impl Abort, heap: A) {
+    for (attr, arc) in ATTRS {
+        let requests = heap.in_turn(|| made_turn(heap, attr, *arc));
+        same(rt, &requests, &Some(2), "requests");
+    }
+}
+
+#[test]
+fn attributes_are_made(rt: HostRuntime) {
+    let heap = Refusing::new(rt.alloc());
+    attributes_are_made_over(&rt, &heap);
+}
+
+/// What a run showed that should make the e-mail address `a@b`.
+fn email_turn<A: Allocator + Copy>(alloc: A) -> Turn {
+    let bytes = b"\x30\x10\x06\x09\x2A\x86\x48\x86\xF7\x0D\x01\x09\x01\x16\x03a@b".as_slice();
+    let Some(address) = address(alloc) else {
+        return Turn::Refused;
+    };
+    match AttributeTypeAndValue::new_email_address(alloc, address) {
+        Ok(attribute) => Turn::right(is_written(&attribute, bytes)),
+        Err(AllocError) => Turn::Refused,
+    }
+}
+
+/// The test of this name, over any such allocator.
+fn addresses_are_made_over<A: Heap>(rt: &impl Abort, heap: A) {
+    let requests = heap.in_turn(|| email_turn(heap));
+    same(rt, &requests, &Some(2), "requests");
+}
+
+#[test]
+fn addresses_are_made(rt: HostRuntime) {
+    let heap = Refusing::new(rt.alloc());
+    addresses_are_made_over(&rt, &heap);
+}
+
+/// The name whose one attribute is the common name `a`.
+const NAMED: &[u8] = b"\x30\x0C\x31\x0A\x30\x08\x06\x03\x55\x04\x03\x0C\x01a";
+
+/// The same, with the telephone number `b`.
+const WITH_PHONE: &[u8] = &[
+    0x30, 0x18, 0x31, 0x0A, 0x30, 0x08, 0x06, 0x03, 0x55, 0x04, 0x03, 0x0C, 0x01, 0x61, 0x31, 0x0A,
+    0x30, 0x08, 0x06, 0x03, 0x55, 0x04, 0x14, 0x0C, 0x01, 0x62,
+];
+
+/// The same, with the e-mail address `a@b`.
+const WITH_EMAIL: &[u8] = &[
+    0x30, 0x20, 0x31, 0x0A, 0x30, 0x08, 0x06, 0x03, 0x55, 0x04, 0x03, 0x0C, 0x01, 0x61, 0x31, 0x12,
+    0x30, 0x10, 0x06, 0x09, 0x2A, 0x86, 0x48, 0x86, 0xF7, 0x0D, 0x01, 0x09, 0x01, 0x16, 0x03, 0x61,
+    0x40, 0x62,
+];
+
+/// What `new_common_name` of `a` gives.
+fn named<A: Allocator + Copy>(alloc: A) -> Result<Name<A>, AllocError> {
+    let text = text_of(alloc, "a")?;
+    Name::new_common_name(alloc, text)
+}
+
+/// What a run showed that should make the name.
+fn named_turn<A: Allocator + Copy>(alloc: A) -> Turn {
+    match named(alloc) {
+        Ok(name) => Turn::right(is_written(&name, NAMED)),
+        Err(AllocError) => Turn::Refused,
+    }
+}
+
+/// A name takes four requests: for the text, its type, the set and the list.
+fn names_are_made_over<A: Heap>(rt: &impl Abort, heap: A) {
+    let requests = heap.in_turn(|| named_turn(heap));
+    same(rt, &requests, &Some(4), "requests");
+}
+
+#[test]
+fn names_are_made(rt: HostRuntime) {
+    let heap = Refusing::new(rt.alloc());
+    names_are_made_over(&rt, &heap);
+}
+
+/// What a call that should add to the name showed: the name as it was where memory was refused.
+fn added_turn<A: Allocator>(answer: Result<(), AllocError>, name: &Name<A>, after: &[u8]) -> Turn {
+    match answer {
+        Ok(()) => Turn::right(is_written(name, after)),
+        Err(AllocError) => Turn::stands(is_written(name, NAMED)),
+    }
+}
+
+/// What a run showed that should add a telephone number.
+fn phone_turn<A: Allocator + Copy>(alloc: A, name: &mut Name<A>) -> Turn {
+    match text_of(alloc, "b") {
+        Ok(text) => {
+            let answer = name.add_attr(NameAttr::Phone, text);
+            added_turn(answer, name, WITH_PHONE)
+        }
+        Err(AllocError) => Turn::Refused,
+    }
+}
+
+/// What a run showed that should add an e-mail address.
+fn email_added_turn<A: Allocator + Copy>(alloc: A, name: &mut Name<A>) -> Turn {
+    match address(alloc) {
+        Some(address) => {
+            let answer = name.add_email(address);
+            added_turn(answer, name, WITH_EMAIL)
+        }
+        None => Turn::Refused,
+    }
+}
+
+/// A telephone number is added behind what stands there, or nothing is.
+fn attributes_are_added_over<A: Heap>(rt: &impl Abort, heap: A) {
+    let mut name = named(heap).expect(rt, "memory");
+    let requests = heap.in_turn(|| phone_turn(heap, &mut name));
+    is_so(rt, requests.is_some(), "a telephone number");
+}
+
+#[test]
+fn attributes_are_added(rt: HostRuntime) {
+    let heap = Refusing::new(rt.alloc());
+    attributes_are_added_over(&rt, &heap);
+}
+
+/// An e-mail address is added behind what stands there, or nothing is.
+fn addresses_are_added_over<A: Heap>(rt: &impl Abort, heap: A) {
+    let mut name = named(heap).expect(rt, "memory");
+    let requests = heap.in_turn(|| email_added_turn(heap, &mut name));
+    is_so(rt, requests.is_some(), "an e-mail address");
+}
+
+#[test]
+fn addresses_are_added(rt: HostRuntime) {
+    let heap = Refusing::new(rt.alloc());
+    addresses_are_added_over(&rt, &heap);
+}
+
+/// Whether this is the UTF8String `a`.
+fn is_a<A: Allocator>(found: Option<&DirectoryString<A>>) -> bool {
+    match found {
+        Some(DirectoryString::Utf8String(text)) => text.as_bytes() == b"a".as_slice(),
+        _ => false,
+    }
+}
+
+/// An empty name takes no memory, and has no common name.
+fn empty_names_take_no_memory_over<A: Heap>(rt: &impl Abort, heap: A) {
+    heap.refuse_all();
+    let name = Name::new(heap);
+    let is_empty = is_written(&name, &[0x30, 0]) && name.find_common_name().is_none();
+    is_so(rt, is_empty, "an empty name");
+    same(rt, &heap.requests(), &0, "requests");
+}
+
+#[test]
+fn empty_names_take_no_memory(rt: HostRuntime) {
+    let heap = Refusing::new(rt.alloc());
+    empty_names_take_no_memory_over(&rt, &heap);
+}
+
+/// An empty set, a set of the surname `c` and the common name `a`, and a set of the common name `b`.
+const SETS: &[u8] = &[
+    0x30, 0x24, 0x31, 0x00, 0x31, 0x14, 0x30, 0x08, 0x06, 0x03, 0x55, 0x04, 0x04, 0x0C, 0x01, 0x63,
+    0x30, 0x08, 0x06, 0x03, 0x55, 0x04, 0x03, 0x0C, 0x01, 0x61, 0x31, 0x0A, 0x30, 0x08, 0x06, 0x03,
+    0x55, 0x04, 0x03, 0x0C, 0x01, 0x62,
+];
+
+/// The first common name is found among all sets, without memory.
+fn common_names_are_found_over<A: Heap>(rt: &impl Abort, heap: A) {
+    let name = from_bytes::<Name<A>, A>(heap, SETS).expect(rt, "a name");
+    heap.refuse_all();
+    is_so(rt, is_a(name.find_common_name()), "the first of two");
+    same(rt, &heap.requests(), &0, "requests");
+}
+
+#[test]
+fn common_names_are_found(rt: HostRuntime) {
+    let heap = Refusing::new(rt.alloc());
+    common_names_are_found_over(&rt, &heap);
+}
+
+/// The title, 2.5.4.12, whose value is the common name `a`, which doesn't fit it.
+fn misfit<A: Allocator>(
+    rt: &impl Abort,
+    alloc: A,
+    text: DirectoryString<A>,
+) -> AttributeTypeAndValue<A> {
+    let title = ObjectIdentifier::from_arcs(alloc, &[2, 5, 4, 12]).expect(rt, "lawful arcs");
+    AttributeTypeAndValue {
+        ty: title.into(),
+        value: AttributeTypeAndValueParameters::CommonName(text),
+    }
+}
+
+/// An attribute whose value doesn't fit its type is written by its parts, and isn't what is read of them.
+fn misfits_are_written_over<A: Heap>(rt: &impl Abort, heap: A) {
+    let bytes = b"\x30\x08\x06\x03\x55\x04\x0C\x0C\x01a".as_slice();
+    let text = text_of(heap, "a").expect(rt, "memory");
+    let attribute = misfit(rt, heap, text);
+    let read = from_bytes::<AttributeTypeAndValue<A>, A>(heap, bytes).expect(rt, "an attribute");
+    is_so(rt, is_written(&attribute, bytes), "written by its parts");
+    is_so(rt, read != attribute, "read as another");
+}
+
+#[test]
+fn misfits_are_written(rt: HostRuntime) {
+    let heap = Refusing::new(rt.alloc());
+    misfits_are_written_over(&rt, &heap);
+}
+
+/// What a run showed that should clone a value.
+fn value_turn<A: Allocator + Copy>(value: &AttributeTypeAndValueParameters<A>) -> Turn {
+    match value.clone() {
+        Ok(copy) => Turn::right(copy == *value),
+        Err(AllocError) => Turn::Refused,
+    }
+}
+
+/// A value by itself is cloned by one request.
+fn values_are_cloned_over<A: Heap>(rt: &impl Abort, heap: A) {
+    let text = text_of(heap, "a").expect(rt, "memory");
+    let attribute = AttributeTypeAndValue::new_common_name(heap, text).expect(rt, "memory");
+    let requests = heap.in_turn(|| value_turn(&attribute.value));
+    same(rt, &requests, &Some(1), "requests");
+}
+
+#[test]
+fn values_are_cloned(rt: HostRuntime) {
+    let heap = Refusing::new(rt.alloc());
+    values_are_cloned_over(&rt, &heap);
+}
+
+/// Attributes of names are cloned without memory.
+#[test]
+fn kinds_of_attributes_are_cloned(rt: HostRuntime) {
+    for (attr, _arc) in ATTRS {
+        is_so(&rt, attr.clone().as_ref() == Ok(attr), "the same attribute");
+    }
+}

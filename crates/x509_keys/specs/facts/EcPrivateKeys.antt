@@ -1,0 +1,43 @@
+-- What the fields of an elliptic curve private key mean keeps the laws.
+use Rattle.std.proofs.Common.{◌≡◌, refl, ap, subst, ℕ, ◌≤◌, ◌||◌, eqb, true, false, List, [], length, Some, arith}
+use Rattle.std.proofs.lemmas.Bool.Decides.{nat_tests}
+use Rattle.std.specs.Prelude.{Bool, ◌&&◌, nat_eq}
+use Rattle.std.specs.Bool.{Decides, beq}
+use Rattle.std.specs.Option.{option_eq}
+use Rattle.std.specs.Cmp.Lexicographic.{pointwise, bytes_decides}
+use Rattle.x509_der.specs.facts.BitString.{bits_decide}
+use Rattle.x509_der.specs.facts.SameEq.{options_decide}
+use Rattle.x509_keys_parts.specs.declared.ec_parameters.EcParameters.{EcParameters}
+use Rattle.x509_keys.specs.facts.SameFields.{four_decide}
+use Rattle.x509_der.specs.Types.{Deviation}
+use Rattle.x509_der.specs.laws.Meaning.{IsMeaning}
+use Rattle.x509_keys.specs.declared.ec_private_key.ECPrivateKey.{ECPrivateKey}
+use Rattle.x509_keys.specs.EcPrivateKeys.{EcFields, ec_key_parts, ec_key_of, ec_key_with, ec_key_base, ec_key_inner, is_one, ec_key_means, ec_key_meaning}
+use Rattle.x509_keys.specs.facts.ReadIf.{was_read}
+
+-- the tag of a point is none that a curve begins with
+pub point_apart : (c : ℕ) → eqb c 161 ≡ true → (false || eqb c 160) ≡ false
+point_apart c h = grind (arith, nat_tests)
+
+-- the fields are those of what they mean, whose version is 1
+means_ec_key : {A : Type 0} (f : EcFields A) (v : ECPrivateKey A) (ks : List Deviation) → ec_key_means f ≡ Some (v, ks) → (is_one f.0 ≡ true) × ((f ≡ ec_key_parts v) × ([] ≡ ks))
+means_ec_key f v ks e = let r = was_read (is_one f.0) (ec_key_of f) v [] ks e in (r.0, (ap ec_key_parts r.1.0, r.1.1))
+
+pub ec_key_is : {A : Type 0} → IsMeaning (ec_key_meaning {A = A}) ec_key_base
+ec_key_is {A} = record {
+  written = λ v d r. (rw r.0 refl, d, r.1);
+  stays = λ v d. d;
+  clean = λ f v e d r. (means_ec_key f v [] e).1.0;
+  kept = λ f v ks e d. subst (λ x. ec_key_inner.valid x) (means_ec_key f v ks e).1.0 d;
+  read = λ f v ks e r. let m = means_ec_key f v ks e in (subst (λ (x : EcFields A). is_one x.0 ≡ true) m.1.0 m.0, subst (λ x. ec_key_inner.readable x) m.1.0 r);
+}
+
+-- and there is no deviation over the whole
+pub ec_key_one : {A : Type 0} (f : EcFields A) (v : ECPrivateKey A) (ks : List Deviation) → ec_key_means f ≡ Some (v, ks) → length ks ≤ 1
+ec_key_one f v ks e = omega (arith, ap length (means_ec_key f v ks e).1.1)
+
+-- the tests of the fields decide whether two keys are the same
+pub ec_keys_decide :
+    {A : Type 0} {E : EcParameters A → EcParameters A → Bool} → ((x y : EcParameters A) → Decides (E x y) (x ≡ y)) →
+    (x y : ECPrivateKey A) → Decides (pointwise nat_eq x.version y.version && (pointwise nat_eq x.private_key y.private_key && (option_eq E x.parameters y.parameters && option_eq (pointwise beq) x.public_key y.public_key))) (x ≡ y)
+ec_keys_decide d = four_decide (λ v. v.version) (λ v. v.private_key) (λ v. v.parameters) (λ v. v.public_key) ec_key_with (λ v. refl) bytes_decides bytes_decides (options_decide d) (options_decide bits_decide)

@@ -1,0 +1,187 @@
+//! Elliptic curve private keys.
+
+ghost use Rattle.std.specs.Prelude.{◌≡◌, IfOk, refl};
+ghost use Rattle.x509_der.specs.laws.Meaning.{sequence_seen, sequence_lawful, seen_element};
+ghost use Rattle.x509_keys.specs.EcPrivateKeys.{ec_key_parts, ec_key_inner, ec_key_base, is_one, ec_key_meaning, ec_private_key};
+ghost use Rattle.x509_keys.specs.facts.EcPrivateKeys.{ec_key_is, ec_key_one, point_apart};
+
+use crate::public_key::EncapsulatedEcPoint;
+use std::alloc::{AllocError, Allocator, Global};
+use x509_der::parts::{
+    Explicit0, Explicit1, Field, Found, Join, Optional, Reader, SEQUENCE_TAG, Sequence, Tagged,
+    View, known_there, read_viewed,
+};
+use x509_der::{CloneEq, FromDer, IntegerAsn1, OctetStringAsn1, ReadError, SameEq, ToDer, TooLong};
+use x509_keys_parts::EcParameters;
+
+/// The private key of an elliptic curve, and perhaps the curve and the public key. They aren't looked into.
+///
+/// # Encoding
+/// `ECPrivateKey ::= SEQUENCE { version INTEGER { ecPrivkeyVer1(1) } (ecPrivkeyVer1), privateKey OCTET STRING,
+/// parameters [0] EXPLICIT ECParameters OPTIONAL, publicKey [1] EXPLICIT BIT STRING OPTIONAL }` (RFC 5915, 3). Another
+/// version than 1 is refused; a value with another is written as it is, and isn't read back.
+#[derive(Drop)]
+#[derive_where(Debug, PartialEq, Eq)]
+pub struct ECPrivateKey<A: Allocator = Global> {
+    /// The version: 1 where it is read.
+    pub version: IntegerAsn1<A>,
+    /// The private key, a number in as many octets as the order of the curve has.
+    pub private_key: OctetStringAsn1<A>,
+    /// The curve.
+    pub parameters: Option<EcParameters<A>>,
+    /// The public key, a point of the curve.
+    pub public_key: Option<EncapsulatedEcPoint<A>>,
+}
+
+impl<A: Allocator + Copy> ECPrivateKey<A> {
+    /// An equal key.
+    ///
+    /// # Errors
+    /// `AllocError` where memory is refused.
+    pub fn clone(&self) -> Result<Self, AllocError>
+        ensures { IfOk result (λ copy. copy ≡ self.now) }
+    {
+        self.clone_eq()
+    }
+}
+
+impl<A: Allocator + Copy> CloneEq for ECPrivateKey<A> {
+    fn clone_eq(&self) -> Result<Self, AllocError> {
+        let version = self.version.clone_eq()?;
+        let private_key = self.private_key.clone_eq()?;
+        let parameters = self.parameters.clone_eq()?;
+        let public_key = self.public_key.clone_eq()?;
+        Ok(ECPrivateKey {
+            version,
+            private_key,
+            parameters,
+            public_key,
+        })
+    }
+}
+
+impl<A: Allocator> SameEq for ECPrivateKey<A> {
+    ghost use Rattle.std.proofs.Common.{rules};
+    ghost use Rattle.std.specs.Cmp.Lexicographic.{bytes_decides};
+    ghost use Rattle.x509_keys.specs.facts.EcPrivateKeys.{ec_keys_decide};
+
+    ghost decides = { ec_keys_decide {E = ⟦<EcParameters<A> as PartialEq>⟧.eq}
+        (Prim.search (rules, bytes_decides)) };
+}
+
+/// The fields in the SEQUENCE, owned or borrowed.
+type Nest<I, O, E, B> = Join<
+    I,
+    Join<O, Join<Optional<Tagged<Explicit0, E>>, Optional<Tagged<Explicit1, B>>>>,
+>;
+
+/// The fields in the SEQUENCE, owned.
+type Inner<A> = Nest<IntegerAsn1<A>, OctetStringAsn1<A>, EcParameters<A>, EncapsulatedEcPoint<A>>;
+
+/// The fields, owned.
+type Fields<A> = Tagged<Sequence, Inner<A>>;
+
+/// The fields that are written, borrowed.
+type Written<'a, A> = Tagged<
+    Sequence,
+    Nest<
+        &'a IntegerAsn1<A>,
+        &'a OctetStringAsn1<A>,
+        &'a EcParameters<A>,
+        &'a EncapsulatedEcPoint<A>,
+    >,
+>;
+
+/// Whether a version is 1.
+fn is_version_1<A: Allocator>(version: &IntegerAsn1<A>) -> bool
+    ensures { result ≡ is_one version.now }
+{
+    match version.as_bytes() {
+        [byte] => *byte == 1,
+        _ => false,
+    }
+}
+
+/// The fields of a key, to be written.
+fn written<A: Allocator>(key: &ECPrivateKey<A>) -> Written<'_, A>
+    ensures { ⟦<Written<'static, A> as ToDer>⟧.strict result ≡ ec_key_base.strict (ec_key_parts key.now) }
+{
+    let optional = Join(
+        Optional::lent(&key.parameters),
+        Optional::lent(&key.public_key),
+    );
+    Tagged::new(Join(&key.version, Join(&key.private_key, optional)))
+}
+
+impl<A: Allocator> ToDer for ECPrivateKey<A> {
+    ghost strict = { λ v. ec_key_base.strict (ec_key_parts v) };
+
+    fn encoded_len(&self) -> Result<usize, TooLong> {
+        written(self).encoded_len()
+    }
+
+    fn write_back(&self, out: &mut [u8]) -> usize {
+        written(self).write_back(out)
+    }
+}
+
+impl<A: Allocator + Copy> View<Fields<A>, A> for ECPrivateKey<A> {
+    ghost view = { ec_key_meaning };
+
+    fn meaning(parts: Fields<A>) -> Option<(Self, Found)> {
+        let Join(version, Join(private_key, optional)) = parts.into_inner();
+        let Join(parameters, public_key) = optional;
+        let key = ECPrivateKey {
+            version,
+            private_key,
+            parameters: parameters.into_field(),
+            public_key: public_key.into_field(),
+        };
+        if is_version_1(&key.version) {
+            Some((key, Found::Nothing))
+        } else {
+            None
+        }
+    }
+
+    ghost is_seen = { λ f. sequence_seen ec_key_meaning ec_key_inner (⟦<Inner<A> as Field<A>>⟧.lawful f)
+        ec_key_is ec_key_one };
+}
+
+impl<A: Allocator + Copy> Field<A> for ECPrivateKey<A> {
+    ghost shape = { ec_private_key };
+
+    ghost lawful = { λ h. sequence_lawful ec_key_meaning ec_key_inner
+        (⟦<Inner<A> as Field<A>>⟧.lawful (
+          tt,
+          (tt, ((tt, tt), (tt, tt), point_apart), λ c h. refl),
+          λ c
+              h. refl,
+        )) ec_key_is ec_key_one };
+
+    ghost elements = { λ h. seen_element ec_key_meaning ec_key_base (⟦<Fields<A> as Field<A>>⟧.elements tt)
+        ec_key_is };
+
+    ghost agrees = { λ v. refl };
+
+    fn starts(byte: u8) -> bool {
+        byte == SEQUENCE_TAG
+    }
+
+    fn known(&self) {
+        self.version.known();
+        self.private_key.known();
+        known_there::<EcParameters<A>, A>(&self.parameters);
+        known_there::<EncapsulatedEcPoint<A>, A>(&self.public_key);
+    }
+
+    fn read(alloc: A, reader: &mut Reader<'_, A>) -> Result<Self, ReadError> {
+        read_viewed::<Self, Fields<A>, A>(alloc, reader)
+    }
+}
+
+impl<A: Allocator + Copy> FromDer<A> for ECPrivateKey<A> {
+    ghost always = { tt };
+
+    ghost whole = { tt };
+}

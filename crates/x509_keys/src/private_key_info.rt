@@ -1,0 +1,497 @@
+//! Private keys and their algorithms.
+
+ghost use Rattle.std.specs.Prelude.{◌≡◌, [], ◌∷◌, Option, Some, None, IfOk, if◌then◌else◌, refl};
+ghost use Rattle.x509_der.specs.BitString.{bit_content};
+ghost use Rattle.x509_der.specs.Element.{element};
+ghost use Rattle.x509_der.specs.Optional.{optional};
+ghost use Rattle.x509_der.specs.View.{if_found};
+ghost use Rattle.x509_der.specs.laws.Meaning.{sequence_seen, sequence_lawful, seen_element};
+ghost use Rattle.x509_keys.specs.PrivateKeyInfos.{is_version, is_skipped, skipped_kinds, info_public_key, info_inner, info_base, info_meaning, private_key_info, info_bytes, curve_unless, version_with, rsa_info, ec_info, ed_info};
+ghost use Rattle.x509_keys.specs.EcPrivateKeys.{ec_key_with};
+ghost use Rattle.x509_keys.specs.KeyKinds.{rsa_encryption};
+ghost use Rattle.x509_keys_parts.specs.AlgorithmIdentifier.{identified};
+ghost use Rattle.x509_keys_parts.specs.declared.algorithm_parameters.AlgorithmIdentifierParameters.TheVariants as parameters;
+ghost use Rattle.x509_keys.specs.facts.PrivateKeyInfos.{info_is, info_one, info_agrees, public_key_apart};
+
+use crate::ec_private_key::ECPrivateKey;
+use crate::private_key_value::PrivateKeyValue;
+use crate::rsa_private_key::RsaPrivateKey;
+use std::alloc::{AllocError, Allocator, Global};
+use x509_der::parts::{
+    AnyDefinedBy, BIT_STRING_TAG, DefinedBy, Explicit1, Field, Found, Join, Optional, Reader,
+    SEQUENCE_TAG, Sequence, Tagged, View, element_len, read_viewed, write_bytes, write_element,
+};
+use x509_der::{
+    BitString, BitStringAsn1, CloneEq, Deviation, FromDer, IntegerAsn1, ObjectIdentifier,
+    OctetStringAsn1, OctetStringAsn1Container, RawIn, ReadError, SameEq, Tags, ToDer, TooLong,
+};
+use x509_keys_parts::algorithm_identifier::new_unchecked;
+use x509_keys_parts::{
+    AesParameters, AlgorithmIdentifier, AlgorithmIdentifierParameters, EcParameters, HashAlgorithm,
+    MaskGenAlgorithm, RsassaPssParams,
+};
+
+/// The version of keys that have no public key beside them, as keys of RSA and of elliptic curves mostly haven't (RFC
+/// 5958, 2).
+pub const PRIVATE_KEY_INFO_VERSION_1: u8 = 0;
+
+/// The version of keys that have their public key beside them (RFC 5958, 2).
+pub const PRIVATE_KEY_INFO_VERSION_2: u8 = 1;
+
+/// A private key and its algorithm, and perhaps the public key: `OneAsymmetricKey`, which was `PrivateKeyInfo` of RFC
+/// 5208.
+///
+/// # Encoding
+/// `SEQUENCE { version INTEGER { v1(0), v2(1) }, privateKeyAlgorithm AlgorithmIdentifier, privateKey OCTET STRING,
+/// publicKey [1] EXPLICIT BIT STRING OPTIONAL }`, after RFC 5958, 2, where the public key's tag is IMPLICIT.
+///
+/// | Algorithm | Private key, in the OCTET STRING |
+/// |---|---|
+/// | RSA, 1.2.840.113549.1.1.1 | [`PrivateKeyValue::Rsa`]: `RSAPrivateKey` (RFC 8017, A.1.2) |
+/// | elliptic curves, 1.2.840.10045.2.1 | [`PrivateKeyValue::EC`]: `ECPrivateKey` (RFC 5915, 3) |
+/// | Ed25519, X25519, Ed448, X448 | [`PrivateKeyValue::ED`]: `CurvePrivateKey`, an OCTET STRING (RFC 8410, 7) |
+///
+/// Keys of other algorithms and of other versions are refused. Between the private key and the public key one element
+/// of any tag but A1, as attributes, is read with the deviation `SkippedKeyElement` over the whole, and isn't kept.
+/// Whether the version and the public key go together isn't looked at. A value of another version, or whose key isn't
+/// of its algorithm's kind, is written by its parts, and isn't read back.
+#[derive(Drop)]
+#[derive_where(Debug, PartialEq, Eq)]
+pub struct PrivateKeyInfo<A: Allocator = Global> {
+    /// The version: 0 or 1 where it is read.
+    pub version: u8,
+    /// The algorithm.
+    pub private_key_algorithm: AlgorithmIdentifier<A>,
+    /// The private key.
+    pub private_key: PrivateKeyValue<A>,
+    /// The public key.
+    pub public_key: Option<BitString<A>>,
+}
+
+/// The algorithm of RSA keys, and the version of those that have two primes.
+///
+/// # Errors
+/// `AllocError` where memory is refused.
+fn rsa_start<A: Allocator + Copy>(
+    alloc: A,
+) -> Result<(AlgorithmIdentifier<A>, IntegerAsn1<A>), AllocError>
+    ensures { IfOk result (λ p. p ≡ (identified rsa_encryption parameters.Null, 0 ∷ [])) }
+{
+    let algorithm = AlgorithmIdentifier::new_rsa_encryption(alloc)?;
+    let version = IntegerAsn1::zero(alloc)?;
+    Ok((algorithm, version))
+}
+
+/// The curve inside an elliptic curve key, unless it is left out.
+///
+/// # Errors
+/// `AllocError` where memory is refused.
+fn inner_curve<A: Allocator + Copy>(
+    curve: &ObjectIdentifier<A>,
+    leave_out: bool,
+) -> Result<Option<EcParameters<A>>, AllocError>
+    ensures { IfOk result (λ p. p ≡ curve_unless leave_out curve.now) }
+{
+    if leave_out {
+        return Ok(None);
+    }
+    let curve = curve.clone()?;
+    Ok(Some(EcParameters::from(curve)))
+}
+
+/// A public key inside an elliptic curve key, where there is one.
+fn inner_point<A: Allocator>(point: Option<BitString<A>>) -> Option<BitStringAsn1<A>>
+    ensures { result ≡ point }
+{
+    match point {
+        Some(bits) => Some(BitStringAsn1(bits)),
+        None => None,
+    }
+}
+
+/// An elliptic curve key.
+///
+/// # Errors
+/// `AllocError` where memory is refused; what was given is dropped.
+fn ec_key<A: Allocator + Copy>(
+    alloc: A,
+    secret: OctetStringAsn1<A>,
+    parameters: Option<EcParameters<A>>,
+    point: Option<BitString<A>>,
+) -> Result<ECPrivateKey<A>, AllocError>
+    ensures { IfOk result (λ k. k ≡ ec_key_with (1 ∷ []) secret parameters point) }
+{
+    let version = IntegerAsn1::from_u64(alloc, 1)?;
+    Ok(ECPrivateKey {
+        version,
+        private_key: secret,
+        parameters,
+        public_key: inner_point(point),
+    })
+}
+
+/// The version where a public key is given, and where none is.
+fn version_for<A: Allocator>(public_key: &Option<BitString<A>>) -> u8
+    ensures { result ≡ version_with public_key.now }
+{
+    match public_key {
+        Some(_) => PRIVATE_KEY_INFO_VERSION_2,
+        None => PRIVATE_KEY_INFO_VERSION_1,
+    }
+}
+
+impl<A: Allocator + Copy> PrivateKeyInfo<A> {
+    /// An RSA key with two primes: the inner and the outer version are 0, and there is no public key outside.
+    ///
+    /// # Errors
+    /// `AllocError` where memory is refused; the numbers are dropped.
+    pub fn new_rsa_encryption(
+        alloc: A,
+        modulus: IntegerAsn1<A>,
+        public_exponent: IntegerAsn1<A>,
+        private_exponent: IntegerAsn1<A>,
+        primes: (IntegerAsn1<A>, IntegerAsn1<A>),
+        exponents: (IntegerAsn1<A>, IntegerAsn1<A>),
+        coefficient: IntegerAsn1<A>,
+    ) -> Result<Self, AllocError>
+        ensures { IfOk result (λ v. v ≡ rsa_info (record {
+          version = 0 ∷ [];
+          modulus = modulus;
+          public_exponent = public_exponent;
+          private_exponent = private_exponent;
+          prime_1 = primes.0;
+          prime_2 = primes.1;
+          exponent_1 = exponents.0;
+          exponent_2 = exponents.1;
+          coefficient = coefficient;
+        })) }
+    {
+        let (private_key_algorithm, version) = rsa_start(alloc)?;
+        let key = RsaPrivateKey {
+            version,
+            modulus,
+            public_exponent,
+            private_exponent,
+            prime_1: primes.0,
+            prime_2: primes.1,
+            exponent_1: exponents.0,
+            exponent_2: exponents.1,
+            coefficient,
+        };
+        Ok(PrivateKeyInfo {
+            version: PRIVATE_KEY_INFO_VERSION_1,
+            private_key_algorithm,
+            private_key: PrivateKeyValue::Rsa(OctetStringAsn1Container(key)),
+            public_key: None,
+        })
+    }
+
+    /// A key of the elliptic curve that has an object identifier. The inner version is 1, the outer one 0. Where
+    /// `skip_optional_params` is false, the curve stands inside the key too. A point is the public key inside the key;
+    /// outside there is none.
+    ///
+    /// # Errors
+    /// `AllocError` where memory is refused; the curve, the secret and the point are dropped.
+    pub fn new_ec_encryption(
+        alloc: A,
+        curve: ObjectIdentifier<A>,
+        secret: OctetStringAsn1<A>,
+        point: Option<BitString<A>>,
+        skip_optional_params: bool,
+    ) -> Result<Self, AllocError>
+        ensures { IfOk result (λ v. v ≡ ec_info curve (ec_key_with (1 ∷ []) secret
+            (curve_unless skip_optional_params curve) point)) }
+    {
+        let parameters = inner_curve(&curve, skip_optional_params)?;
+        let key = ec_key(alloc, secret, parameters, point)?;
+        let private_key_algorithm = AlgorithmIdentifier::new_elliptic_curve(
+            alloc,
+            EcParameters::from(curve),
+        )?;
+        Ok(PrivateKeyInfo {
+            version: PRIVATE_KEY_INFO_VERSION_1,
+            private_key_algorithm,
+            private_key: PrivateKeyValue::EC(OctetStringAsn1Container(key)),
+            public_key: None,
+        })
+    }
+}
+
+impl<A: Allocator> PrivateKeyInfo<A> {
+    /// A key of an algorithm without parameters, such as Ed25519: version 1 where a public key is given, else 0. Where
+    /// the algorithm is another than Ed25519, X25519, Ed448 or X448, what is written isn't read back as this value.
+    /// Takes no memory.
+    pub fn new_ed_encryption(
+        algorithm: ObjectIdentifier<A>,
+        secret: OctetStringAsn1<A>,
+        public_key: Option<BitString<A>>,
+    ) -> Self
+        ensures { result ≡ ed_info algorithm secret public_key }
+    {
+        PrivateKeyInfo {
+            version: version_for(&public_key),
+            private_key_algorithm: new_unchecked(algorithm, AlgorithmIdentifierParameters::None),
+            private_key: PrivateKeyValue::ED(OctetStringAsn1Container(secret)),
+            public_key,
+        }
+    }
+}
+
+impl<A: Allocator + Copy> PrivateKeyInfo<A> {
+    /// An equal key with its algorithm.
+    ///
+    /// # Errors
+    /// `AllocError` where memory is refused.
+    pub fn clone(&self) -> Result<Self, AllocError>
+        ensures { IfOk result (λ copy. copy ≡ self.now) }
+    {
+        self.clone_eq()
+    }
+}
+
+impl<A: Allocator + Copy> CloneEq for PrivateKeyInfo<A> {
+    fn clone_eq(&self) -> Result<Self, AllocError> {
+        let private_key_algorithm = self.private_key_algorithm.clone_eq()?;
+        let private_key = self.private_key.clone_eq()?;
+        let public_key = self.public_key.clone_eq()?;
+        Ok(PrivateKeyInfo {
+            version: self.version,
+            private_key_algorithm,
+            private_key,
+            public_key,
+        })
+    }
+}
+
+impl<A: Allocator> SameEq for PrivateKeyInfo<A> {
+    ghost use Rattle.std.proofs.Common.{rules};
+    ghost use Rattle.std.specs.Cmp.Lexicographic.{bytes_decides};
+    ghost use Rattle.x509_der.specs.facts.BitString.{bits_decide};
+    ghost use Rattle.x509_der.specs.facts.SameEq.{options_decide};
+    ghost use Rattle.x509_keys.specs.PrivateKeyInfos.{info_with};
+    ghost use Rattle.x509_keys.specs.facts.EcPrivateKeys.{ec_keys_decide};
+    ghost use Rattle.x509_keys.specs.facts.SameFields.{four_decide, decides_as};
+    ghost use Rattle.x509_keys.specs.facts.SamePrivateKeys.{same_private, private_decides};
+    ghost use Rattle.x509_keys_parts.specs.facts.SameAlgorithms.{algorithms_decide, parameters_decide, pss_params_decide};
+
+    ghost decides = { four_decide {C = ⟦<u8 as PartialEq>⟧.eq}
+        {D = ⟦<AlgorithmIdentifier<A> as PartialEq>⟧.eq} {E = ⟦<PrivateKeyValue<A> as PartialEq>⟧.eq}
+        (λ v. v.version) (λ v. v.private_key_algorithm) (λ v. v.private_key) (λ v. v.public_key) info_with
+        (λ v. refl) (Prim.search (rules)) (algorithms_decide
+        (parameters_decide ⟦<AlgorithmIdentifierParameters<A> as PartialEq>⟧.eq
+        {aes = ⟦<AesParameters<A> as PartialEq>⟧.eq} {ec = ⟦<EcParameters<A> as PartialEq>⟧.eq}
+        {pss = ⟦<RsassaPssParams<A> as PartialEq>⟧.eq} (λ x y. Prim.search (rules))
+        (λ x y. Prim.search (rules, bytes_decides)) (λ x y. Prim.search (rules, bytes_decides))
+        (pss_params_decide {hash = ⟦<HashAlgorithm as PartialEq>⟧.eq}
+        {mask = ⟦<MaskGenAlgorithm<A> as PartialEq>⟧.eq} (λ x y. Prim.search (rules))
+        (λ x y. Prim.search (rules, bytes_decides)))))
+        (decides_as (same_private ⟦<RsaPrivateKey<A> as PartialEq>⟧.eq ⟦<ECPrivateKey<A> as PartialEq>⟧.eq)
+        (Prim.search (rules)) (private_decides {E = ⟦<RsaPrivateKey<A> as PartialEq>⟧.eq}
+        {F = ⟦<ECPrivateKey<A> as PartialEq>⟧.eq} (Prim.search (rules, bytes_decides))
+        (ec_keys_decide {E = ⟦<EcParameters<A> as PartialEq>⟧.eq} (Prim.search (rules, bytes_decides)))))
+        (options_decide bits_decide) };
+}
+
+/// Tags of elements that are skipped: all but that of a public key.
+#[derive(Drop)]
+struct SkippedTags;
+
+impl Tags for SkippedTags {
+    ghost keep = { is_skipped };
+
+    fn keeps(tag: u8) -> bool {
+        tag != 0xA1
+    }
+}
+
+/// The content of a BIT STRING, borrowed.
+#[derive(Drop)]
+struct BitContent<'a, A: Allocator>(&'a BitString<A>);
+
+impl<'a, A: Allocator> ToDer for BitContent<'a, A> {
+    ghost strict = { λ b. bit_content b.0.now };
+
+    fn encoded_len(&self) -> Result<usize, TooLong> {
+        self.0.payload_view().len().checked_add(1).ok_or(TooLong)
+    }
+
+    fn write_back(&self, out: &mut [u8]) -> usize {
+        let start = write_bytes(self.0.payload_view(), out) - 1;
+        out[start] = self.0.get_num_unused_bits();
+        start
+    }
+}
+
+/// A BIT STRING, borrowed.
+#[derive(Drop)]
+struct Bits<'a, A: Allocator>(&'a BitString<A>);
+
+impl<'a, A: Allocator> ToDer for Bits<'a, A> {
+    ghost strict = { λ b. element 3 (bit_content b.0.now) };
+
+    fn encoded_len(&self) -> Result<usize, TooLong> {
+        element_len(BIT_STRING_TAG, &BitContent(self.0))
+    }
+
+    fn write_back(&self, out: &mut [u8]) -> usize {
+        write_element(BIT_STRING_TAG, &BitContent(self.0), out)
+    }
+}
+
+/// The public key under its tag, where there is one, borrowed.
+#[derive(Drop)]
+struct PublicBits<'a, A: Allocator>(&'a Option<BitString<A>>);
+
+impl<'a, A: Allocator> ToDer for PublicBits<'a, A> {
+    ghost strict = { λ b. (optional info_public_key).strict b.0.now };
+
+    fn encoded_len(&self) -> Result<usize, TooLong> {
+        match self.0 {
+            Some(bits) => element_len(0xA1, &Bits(bits)),
+            None => Ok(0),
+        }
+    }
+
+    fn write_back(&self, out: &mut [u8]) -> usize {
+        match self.0 {
+            Some(bits) => write_element(0xA1, &Bits(bits), out),
+            None => out.len(),
+        }
+    }
+}
+
+/// The algorithm and the key, borrowed.
+type WrittenKey<'a, A> = DefinedBy<&'a AlgorithmIdentifier<A>, &'a PrivateKeyValue<A>>;
+
+/// The fields that are written, borrowed.
+type Written<'a, A> = Tagged<Sequence, Join<&'a u8, Join<WrittenKey<'a, A>, PublicBits<'a, A>>>>;
+
+impl<A: Allocator> ToDer for PrivateKeyInfo<A> {
+    ghost strict = { info_bytes };
+
+    fn encoded_len(&self) -> Result<usize, TooLong> {
+        let key = DefinedBy(&self.private_key_algorithm, &self.private_key);
+        let rest = Join(key, PublicBits(&self.public_key));
+        Written::new(Join(&self.version, rest)).encoded_len()
+    }
+
+    fn write_back(&self, out: &mut [u8]) -> usize {
+        let key = DefinedBy(&self.private_key_algorithm, &self.private_key);
+        let rest = Join(key, PublicBits(&self.public_key));
+        Written::new(Join(&self.version, rest)).write_back(out)
+    }
+}
+
+/// Whether a version is 0 or 1.
+fn is_version(version: u8) -> bool
+    ensures { result ≡ is_version version }
+{
+    version == PRIVATE_KEY_INFO_VERSION_1 || version == PRIVATE_KEY_INFO_VERSION_2
+}
+
+/// The deviation of an element that is skipped.
+fn deviation_of<A: Allocator>(skipped: &Option<RawIn<SkippedTags, A>>) -> Option<Deviation>
+    ensures { if_found result ≡ skipped_kinds skipped.now }
+{
+    match skipped {
+        Some(_) => Some(Deviation::SkippedKeyElement),
+        None => None,
+    }
+}
+
+/// The bits of a public key, where there is one.
+fn bits_in<A: Allocator>(key: Option<BitStringAsn1<A>>) -> Option<BitString<A>>
+    ensures { result ≡ key }
+{
+    match key {
+        Some(BitStringAsn1(bits)) => Some(bits),
+        None => None,
+    }
+}
+
+/// Says that the public key is one of its type. It does nothing when it runs.
+fn known_bits<A: Allocator>(bits: &Option<BitString<A>>)
+    ensures { (optional info_public_key).valid bits.now }
+{
+    match bits {
+        Some(_) | None => {}
+    }
+}
+
+/// The fields in the SEQUENCE.
+type Inner<A> = Join<
+    u8,
+    Join<
+        DefinedBy<AlgorithmIdentifier<A>, PrivateKeyValue<A>>,
+        Join<Optional<RawIn<SkippedTags, A>>, Optional<Tagged<Explicit1, BitStringAsn1<A>>>>,
+    >,
+>;
+
+/// The fields, owned.
+type Fields<A> = Tagged<Sequence, Inner<A>>;
+
+impl<A: Allocator + Copy> View<Fields<A>, A> for PrivateKeyInfo<A> {
+    ghost view = { info_meaning };
+
+    fn meaning(parts: Fields<A>) -> Option<(Self, Found)> {
+        let Join(version, Join(key, Join(Optional(skipped), public_key))) = parts.into_inner();
+        let found = Found::of(deviation_of(&skipped));
+        let DefinedBy(private_key_algorithm, private_key) = key;
+        let info = PrivateKeyInfo {
+            version,
+            private_key_algorithm,
+            private_key,
+            public_key: bits_in(public_key.into_field()),
+        };
+        if is_version(version) {
+            Some((info, found))
+        } else {
+            None
+        }
+    }
+
+    ghost is_seen = { λ f. sequence_seen info_meaning info_inner (⟦<Inner<A> as Field<A>>⟧.lawful f) info_is
+        info_one };
+}
+
+impl<A: Allocator + Copy> Field<A> for PrivateKeyInfo<A> {
+    ghost shape = { private_key_info };
+
+    ghost lawful = { λ h. sequence_lawful info_meaning info_inner
+        (⟦<Inner<A> as Field<A>>⟧.lawful (
+          tt,
+          (
+            (tt, λ c h. refl),
+            ((tt, tt), (tt, tt), public_key_apart),
+            λ c
+                h. refl,
+          ),
+          λ c h. refl,
+        )) info_is info_one };
+
+    ghost elements = { λ h. seen_element info_meaning info_base (⟦<Fields<A> as Field<A>>⟧.elements tt)
+        info_is };
+
+    ghost agrees = { info_agrees };
+
+    fn starts(byte: u8) -> bool {
+        byte == SEQUENCE_TAG
+    }
+
+    fn known(&self) {
+        let _version = self.version;
+        self.private_key_algorithm.known();
+        self.private_key.known_behind(&self.private_key_algorithm);
+        known_bits(&self.public_key);
+    }
+
+    fn read(alloc: A, reader: &mut Reader<'_, A>) -> Result<Self, ReadError> {
+        read_viewed::<Self, Fields<A>, A>(alloc, reader)
+    }
+}
+
+impl<A: Allocator + Copy> FromDer<A> for PrivateKeyInfo<A> {
+    ghost always = { tt };
+
+    ghost whole = { tt };
+}

@@ -1,0 +1,164 @@
+//! Private keys.
+
+ghost use Rattle.std.specs.Prelude.{◌≡◌, false, IfOk};
+ghost use Rattle.std.proofs.Common.{eqb};
+ghost use Rattle.x509_der.specs.Reading.{Ready, Reads};
+ghost use Rattle.x509_keys.specs.KeyKinds.{key_kind as kind_by};
+ghost use Rattle.x509_keys.specs.PrivateKeyValues.{private_key_bytes, IsPrivateKey, private_by_kind};
+
+use crate::ec_private_key::ECPrivateKey;
+use crate::key_kind::{KeyKind, key_kind};
+use crate::rsa_private_key::RsaPrivateKey;
+use std::alloc::{AllocError, Allocator, Global};
+use x509_der::parts::{AnyDefinedBy, Field, OCTET_STRING_TAG, Reader};
+use x509_der::{
+    CloneEq, OctetStringAsn1, OctetStringAsn1Container, ReadError, SameEq, ToDer, TooLong,
+};
+use x509_keys_parts::{AlgorithmIdentifier, EcParameters};
+
+/// A secret of Ed25519, X25519, Ed448 or X448, in octets (RFC 8410, 7). They aren't looked into.
+pub type EncapsulatedEcSecret<A = Global> = OctetStringAsn1<A>;
+
+/// A private key. Which of them an algorithm has, its object identifier says.
+///
+/// # Encoding
+/// An OCTET STRING around the key (RFC 5958, 2). It is read behind the algorithm identifier that chooses it, and not
+/// alone.
+#[derive(Drop)]
+#[derive_where(Debug, PartialEq, Eq)]
+pub enum PrivateKeyValue<A: Allocator = Global> {
+    /// Of RSA (RFC 8017, A.1.2).
+    Rsa(OctetStringAsn1Container<RsaPrivateKey<A>>),
+    /// Of an elliptic curve that the parameters say (RFC 5915, 3).
+    EC(OctetStringAsn1Container<ECPrivateKey<A>>),
+    /// Of Ed25519, X25519, Ed448 or X448 (RFC 8410, 7).
+    ED(OctetStringAsn1Container<EncapsulatedEcSecret<A>>),
+}
+
+impl<A: Allocator + Copy> PrivateKeyValue<A> {
+    /// An equal key.
+    ///
+    /// # Errors
+    /// `AllocError` where memory is refused.
+    pub fn clone(&self) -> Result<Self, AllocError>
+        ensures { IfOk result (λ copy. copy ≡ self.now) }
+    {
+        self.clone_eq()
+    }
+}
+
+impl<A: Allocator + Copy> CloneEq for PrivateKeyValue<A> {
+    fn clone_eq(&self) -> Result<Self, AllocError> {
+        match self {
+            PrivateKeyValue::Rsa(key) => Ok(PrivateKeyValue::Rsa(key.clone_eq()?)),
+            PrivateKeyValue::EC(key) => Ok(PrivateKeyValue::EC(key.clone_eq()?)),
+            PrivateKeyValue::ED(secret) => Ok(PrivateKeyValue::ED(secret.clone_eq()?)),
+        }
+    }
+}
+
+impl<A: Allocator> SameEq for PrivateKeyValue<A> {
+    ghost use Rattle.std.proofs.Common.{rules};
+    ghost use Rattle.std.specs.Cmp.Lexicographic.{bytes_decides};
+    ghost use Rattle.x509_keys.specs.facts.SameFields.{decides_as};
+    ghost use Rattle.x509_keys.specs.facts.EcPrivateKeys.{ec_keys_decide};
+    ghost use Rattle.x509_keys.specs.facts.SamePrivateKeys.{same_private, private_decides};
+
+    ghost decides = { decides_as (same_private ⟦<RsaPrivateKey<A> as PartialEq>⟧.eq
+        ⟦<ECPrivateKey<A> as PartialEq>⟧.eq) (Prim.search (rules))
+        (private_decides {E = ⟦<RsaPrivateKey<A> as PartialEq>⟧.eq} {F = ⟦<ECPrivateKey<A> as PartialEq>⟧.eq}
+        (Prim.search (rules, bytes_decides)) (ec_keys_decide {E = ⟦<EcParameters<A> as PartialEq>⟧.eq}
+        (Prim.search (rules, bytes_decides)))) };
+}
+
+impl<A: Allocator> ToDer for PrivateKeyValue<A> {
+    ghost strict = { private_key_bytes };
+
+    fn encoded_len(&self) -> Result<usize, TooLong> {
+        match self {
+            PrivateKeyValue::Rsa(key) => key.encoded_len(),
+            PrivateKeyValue::EC(key) => key.encoded_len(),
+            PrivateKeyValue::ED(secret) => secret.encoded_len(),
+        }
+    }
+
+    fn write_back(&self, out: &mut [u8]) -> usize {
+        match self {
+            PrivateKeyValue::Rsa(key) => key.write_back(out),
+            PrivateKeyValue::EC(key) => key.write_back(out),
+            PrivateKeyValue::ED(secret) => secret.write_back(out),
+        }
+    }
+}
+
+/// Says that the key is one of its type. It does nothing when it runs.
+fn known_key<A: Allocator + Copy>(key: &PrivateKeyValue<A>)
+    ensures { IsPrivateKey key.now }
+{
+    match key {
+        PrivateKeyValue::Rsa(key) => key.known(),
+        PrivateKeyValue::EC(key) => key.known(),
+        PrivateKeyValue::ED(secret) => secret.known(),
+    }
+}
+
+/// Reads a key of a kind.
+///
+/// # Errors
+/// Refused where the kind has no private keys or no key of it stands there, or memory is refused.
+fn read_as<A: Allocator + Copy>(
+    alloc: A,
+    kind: KeyKind,
+    reader: &mut Reader<'_, A>,
+) -> Result<PrivateKeyValue<A>, ReadError>
+    requires { Ready reader.old }
+    ensures { Reads (private_by_kind kind) reader.old reader.new result }
+{
+    match kind {
+        KeyKind::Rsa => {
+            let key = OctetStringAsn1Container::<RsaPrivateKey<A>>::read(alloc, reader)?;
+            Ok(PrivateKeyValue::Rsa(key))
+        }
+        KeyKind::Ec => {
+            let key = OctetStringAsn1Container::<ECPrivateKey<A>>::read(alloc, reader)?;
+            Ok(PrivateKeyValue::EC(key))
+        }
+        KeyKind::Ed => {
+            let secret = OctetStringAsn1Container::<EncapsulatedEcSecret<A>>::read(alloc, reader)?;
+            Ok(PrivateKeyValue::ED(secret))
+        }
+        KeyKind::Mldsa | KeyKind::Unknown => Err(ReadError::Unsupported),
+    }
+}
+
+impl<A: Allocator + Copy> AnyDefinedBy<AlgorithmIdentifier<A>, A> for PrivateKeyValue<A> {
+    ghost use Rattle.x509_keys.specs.facts.PrivateKeyValues.{private_family, private_agrees};
+
+    ghost shapes = { λ a. private_by_kind (kind_by a.algorithm) };
+
+    ghost starts = { λ b. eqb b 4 };
+
+    ghost avoids = { λ b. false };
+
+    ghost family = { private_family (⟦<OctetStringAsn1Container<RsaPrivateKey<A>> as Field<A>>⟧.lawful tt)
+        (⟦<OctetStringAsn1Container<ECPrivateKey<A>> as Field<A>>⟧.lawful tt)
+        (⟦<OctetStringAsn1Container<EncapsulatedEcSecret<A>> as Field<A>>⟧.lawful tt) };
+
+    ghost shapes_agree = { λ a v. private_agrees (kind_by a.algorithm) v };
+
+    fn starts(byte: u8) -> bool {
+        byte == OCTET_STRING_TAG
+    }
+
+    fn known_behind(&self, _key: &AlgorithmIdentifier<A>) {
+        known_key(self);
+    }
+
+    fn read_behind(
+        alloc: A,
+        key: &AlgorithmIdentifier<A>,
+        reader: &mut Reader<'_, A>,
+    ) -> Result<Self, ReadError> {
+        read_as(alloc, key_kind(key.oid()), reader)
+    }
+}

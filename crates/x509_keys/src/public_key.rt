@@ -1,0 +1,169 @@
+//! Public keys.
+
+ghost use Rattle.std.specs.Prelude.{◌≡◌, false, IfOk};
+ghost use Rattle.std.proofs.Common.{eqb};
+ghost use Rattle.x509_der.specs.Reading.{Ready, Reads};
+ghost use Rattle.x509_keys.specs.KeyKinds.{key_kind as kind_by};
+ghost use Rattle.x509_keys.specs.PublicKeys.{public_key_bytes, IsPublicKey, public_by_kind};
+
+use crate::key_kind::{KeyKind, key_kind};
+use crate::rsa_public_key::{EncapsulatedRsaPublicKey, RsaPublicKey};
+use std::alloc::{AllocError, Allocator, Global};
+use x509_der::parts::{AnyDefinedBy, BIT_STRING_TAG, Field, Reader};
+use x509_der::{BitStringAsn1, CloneEq, OctetStringAsn1, ReadError, SameEq, ToDer, TooLong};
+use x509_keys_parts::AlgorithmIdentifier;
+
+/// A point of an elliptic curve, in octets (RFC 5480, 2.2). They aren't looked into.
+pub type EcPoint<A = Global> = OctetStringAsn1<A>;
+
+/// A public key of an elliptic curve in a BIT STRING (RFC 5480, 2.2; RFC 8410, 4). Its bits aren't looked into.
+pub type EncapsulatedEcPoint<A = Global> = BitStringAsn1<A>;
+
+/// A public key of ML-DSA in a BIT STRING (RFC 9881, 4). Its bits aren't looked into.
+pub type EncapsulatedMldsaPublicKey<A = Global> = BitStringAsn1<A>;
+
+/// A public key. Which of them an algorithm has, its object identifier says.
+///
+/// # Encoding
+/// A BIT STRING (RFC 5280, 4.1.2.7). It is read behind the algorithm identifier that chooses it, and not alone.
+#[derive(Drop)]
+#[derive_where(Debug, PartialEq, Eq)]
+pub enum PublicKey<A: Allocator = Global> {
+    /// Of RSA, in a BIT STRING without unused bits.
+    Rsa(EncapsulatedRsaPublicKey<A>),
+    /// Of an elliptic curve that the parameters say.
+    Ec(EncapsulatedEcPoint<A>),
+    /// Of Ed25519, X25519, Ed448 or X448.
+    Ed(EncapsulatedEcPoint<A>),
+    /// Of ML-DSA.
+    Mldsa(EncapsulatedMldsaPublicKey<A>),
+}
+
+impl<A: Allocator + Copy> PublicKey<A> {
+    /// An equal key.
+    ///
+    /// # Errors
+    /// `AllocError` where memory is refused.
+    pub fn clone(&self) -> Result<Self, AllocError>
+        ensures { IfOk result (λ copy. copy ≡ self.now) }
+    {
+        self.clone_eq()
+    }
+}
+
+impl<A: Allocator + Copy> CloneEq for PublicKey<A> {
+    fn clone_eq(&self) -> Result<Self, AllocError> {
+        match self {
+            PublicKey::Rsa(key) => Ok(PublicKey::Rsa(key.clone_eq()?)),
+            PublicKey::Ec(bits) => Ok(PublicKey::Ec(bits.clone_eq()?)),
+            PublicKey::Ed(bits) => Ok(PublicKey::Ed(bits.clone_eq()?)),
+            PublicKey::Mldsa(bits) => Ok(PublicKey::Mldsa(bits.clone_eq()?)),
+        }
+    }
+}
+
+impl<A: Allocator> SameEq for PublicKey<A> {
+    ghost use Rattle.std.proofs.Common.{rules};
+    ghost use Rattle.std.specs.Cmp.Lexicographic.{bytes_decides};
+    ghost use Rattle.x509_keys.specs.facts.SameFields.{decides_as};
+    ghost use Rattle.x509_keys.specs.facts.SamePublicKeys.{same_public, public_decides};
+
+    ghost decides = { decides_as (same_public ⟦<RsaPublicKey<A> as PartialEq>⟧.eq) (Prim.search (rules))
+        (public_decides {E = ⟦<RsaPublicKey<A> as PartialEq>⟧.eq} (Prim.search (rules, bytes_decides))) };
+}
+
+impl<A: Allocator> ToDer for PublicKey<A> {
+    ghost strict = { public_key_bytes };
+
+    fn encoded_len(&self) -> Result<usize, TooLong> {
+        match self {
+            PublicKey::Rsa(key) => key.encoded_len(),
+            PublicKey::Ec(bits) | PublicKey::Ed(bits) | PublicKey::Mldsa(bits) => {
+                bits.encoded_len()
+            }
+        }
+    }
+
+    fn write_back(&self, out: &mut [u8]) -> usize {
+        match self {
+            PublicKey::Rsa(key) => key.write_back(out),
+            PublicKey::Ec(bits) | PublicKey::Ed(bits) | PublicKey::Mldsa(bits) => {
+                bits.write_back(out)
+            }
+        }
+    }
+}
+
+/// Says that the key is one of its type. It does nothing when it runs.
+fn known_key<A: Allocator + Copy>(key: &PublicKey<A>)
+    ensures { IsPublicKey key.now }
+{
+    match key {
+        PublicKey::Rsa(key) => key.known(),
+        PublicKey::Ec(bits) | PublicKey::Ed(bits) | PublicKey::Mldsa(bits) => bits.known(),
+    }
+}
+
+/// Reads a key of a kind.
+///
+/// # Errors
+/// Refused where the kind isn't known or no key of it stands there, or memory is refused.
+fn read_as<A: Allocator + Copy>(
+    alloc: A,
+    kind: KeyKind,
+    reader: &mut Reader<'_, A>,
+) -> Result<PublicKey<A>, ReadError>
+    requires { Ready reader.old }
+    ensures { Reads (public_by_kind kind) reader.old reader.new result }
+{
+    match kind {
+        KeyKind::Rsa => {
+            let key = EncapsulatedRsaPublicKey::read(alloc, reader)?;
+            Ok(PublicKey::Rsa(key))
+        }
+        KeyKind::Ec => {
+            let bits = BitStringAsn1::read(alloc, reader)?;
+            Ok(PublicKey::Ec(bits))
+        }
+        KeyKind::Ed => {
+            let bits = BitStringAsn1::read(alloc, reader)?;
+            Ok(PublicKey::Ed(bits))
+        }
+        KeyKind::Mldsa => {
+            let bits = BitStringAsn1::read(alloc, reader)?;
+            Ok(PublicKey::Mldsa(bits))
+        }
+        KeyKind::Unknown => Err(ReadError::Unsupported),
+    }
+}
+
+impl<A: Allocator + Copy> AnyDefinedBy<AlgorithmIdentifier<A>, A> for PublicKey<A> {
+    ghost use Rattle.x509_keys.specs.facts.PublicKeys.{public_family, public_agrees};
+
+    ghost shapes = { λ a. public_by_kind (kind_by a.algorithm) };
+
+    ghost starts = { λ b. eqb b 3 };
+
+    ghost avoids = { λ b. false };
+
+    ghost family = { public_family (⟦<EncapsulatedRsaPublicKey<A> as Field<A>>⟧.lawful tt)
+        (⟦<BitStringAsn1<A> as Field<A>>⟧.lawful tt) };
+
+    ghost shapes_agree = { λ a v. public_agrees (kind_by a.algorithm) v };
+
+    fn starts(byte: u8) -> bool {
+        byte == BIT_STRING_TAG
+    }
+
+    fn known_behind(&self, _key: &AlgorithmIdentifier<A>) {
+        known_key(self);
+    }
+
+    fn read_behind(
+        alloc: A,
+        key: &AlgorithmIdentifier<A>,
+        reader: &mut Reader<'_, A>,
+    ) -> Result<Self, ReadError> {
+        read_as(alloc, key_kind(key.oid()), reader)
+    }
+}

@@ -1,0 +1,274 @@
+//! RSA private keys.
+
+ghost use Rattle.std.specs.Prelude.{◌≡◌, IfOk, refl};
+ghost use Rattle.x509_der.specs.laws.Structure.{structure_lawful, structure_element};
+ghost use Rattle.x509_keys.specs.RsaPrivateKeys.{private_parts, private_base, rsa_private_key};
+ghost use Rattle.x509_keys.specs.facts.RsaPrivateKeys.{private_key_same};
+
+use std::alloc::{AllocError, Allocator, Global};
+use x509_der::parts::{
+    Field, Join, Reader, SEQUENCE_TAG, Sequence, Structure, Tagged, read_fields,
+};
+use x509_der::{CloneEq, FromDer, IntegerAsn1, ReadError, SameEq, ToDer, TooLong};
+
+/// The private key of RSA with two primes: a version and eight numbers, each held as the content of an INTEGER. They
+/// aren't looked into.
+///
+/// # Encoding
+/// `RSAPrivateKey ::= SEQUENCE { version INTEGER, modulus INTEGER, publicExponent INTEGER, privateExponent INTEGER,
+/// prime1 INTEGER, prime2 INTEGER, exponent1 INTEGER, exponent2 INTEGER, coefficient INTEGER }` (RFC 8017, A.1.2),
+/// exactly these nine. Any INTEGERs are read, and any version, though that of a key with two primes is 0.
+#[derive(Drop)]
+#[derive_where(Debug, PartialEq, Eq)]
+pub struct RsaPrivateKey<A: Allocator = Global> {
+    /// The version: 0 for two primes.
+    pub version: IntegerAsn1<A>,
+    /// The modulus n.
+    pub modulus: IntegerAsn1<A>,
+    /// The public exponent e.
+    pub public_exponent: IntegerAsn1<A>,
+    /// The private exponent d.
+    pub private_exponent: IntegerAsn1<A>,
+    /// The prime p.
+    pub prime_1: IntegerAsn1<A>,
+    /// The prime q.
+    pub prime_2: IntegerAsn1<A>,
+    /// d mod (p - 1).
+    pub exponent_1: IntegerAsn1<A>,
+    /// d mod (q - 1).
+    pub exponent_2: IntegerAsn1<A>,
+    /// The inverse of q mod p.
+    pub coefficient: IntegerAsn1<A>,
+}
+
+impl<A: Allocator> RsaPrivateKey<A> {
+    /// The modulus. Deprecated: the field is public.
+    pub fn modulus(&self) -> &IntegerAsn1<A>
+        ensures { result.now ≡ self.now.modulus }
+    {
+        &self.modulus
+    }
+
+    /// The public exponent. Deprecated: the field is public.
+    pub fn public_exponent(&self) -> &IntegerAsn1<A>
+        ensures { result.now ≡ self.now.public_exponent }
+    {
+        &self.public_exponent
+    }
+
+    /// The private exponent. Deprecated: the field is public.
+    pub fn private_exponent(&self) -> &IntegerAsn1<A>
+        ensures { result.now ≡ self.now.private_exponent }
+    {
+        &self.private_exponent
+    }
+
+    /// The first prime. Deprecated: the field is public.
+    pub fn prime_1(&self) -> &IntegerAsn1<A>
+        ensures { result.now ≡ self.now.prime_1 }
+    {
+        &self.prime_1
+    }
+
+    /// The second prime. Deprecated: the field is public.
+    pub fn prime_2(&self) -> &IntegerAsn1<A>
+        ensures { result.now ≡ self.now.prime_2 }
+    {
+        &self.prime_2
+    }
+
+    /// The two primes, in their order. Deprecated: the fields are public.
+    pub fn primes(&self) -> (&IntegerAsn1<A>, &IntegerAsn1<A>)
+        ensures first { result.0.now ≡ self.now.prime_1 }
+        ensures second { result.1.now ≡ self.now.prime_2 }
+    {
+        (&self.prime_1, &self.prime_2)
+    }
+
+    /// The exponent that belongs to the first prime. Deprecated: the field is public.
+    pub fn exponent_1(&self) -> &IntegerAsn1<A>
+        ensures { result.now ≡ self.now.exponent_1 }
+    {
+        &self.exponent_1
+    }
+
+    /// The exponent that belongs to the second prime. Deprecated: the field is public.
+    pub fn exponent_2(&self) -> &IntegerAsn1<A>
+        ensures { result.now ≡ self.now.exponent_2 }
+    {
+        &self.exponent_2
+    }
+
+    /// The exponents that belong to the two primes, in their order. Deprecated: the fields are public.
+    pub fn exponents(&self) -> (&IntegerAsn1<A>, &IntegerAsn1<A>)
+        ensures first { result.0.now ≡ self.now.exponent_1 }
+        ensures second { result.1.now ≡ self.now.exponent_2 }
+    {
+        (&self.exponent_1, &self.exponent_2)
+    }
+
+    /// The coefficient. Deprecated: the field is public.
+    pub fn coefficient(&self) -> &IntegerAsn1<A>
+        ensures { result.now ≡ self.now.coefficient }
+    {
+        &self.coefficient
+    }
+
+    /// The modulus and the public exponent; the rest is dropped. Takes no memory.
+    pub fn into_public_components(self) -> (IntegerAsn1<A>, IntegerAsn1<A>)
+        ensures modulus { result.0 ≡ self.modulus }
+        ensures public_exponent { result.1 ≡ self.public_exponent }
+    {
+        (self.modulus, self.public_exponent)
+    }
+}
+
+impl<A: Allocator + Copy> RsaPrivateKey<A> {
+    /// An equal key.
+    ///
+    /// # Errors
+    /// `AllocError` where memory is refused.
+    pub fn clone(&self) -> Result<Self, AllocError>
+        ensures { IfOk result (λ copy. copy ≡ self.now) }
+    {
+        self.clone_eq()
+    }
+}
+
+impl<A: Allocator + Copy> CloneEq for RsaPrivateKey<A> {
+    fn clone_eq(&self) -> Result<Self, AllocError> {
+        let version = self.version.clone_eq()?;
+        let modulus = self.modulus.clone_eq()?;
+        let public_exponent = self.public_exponent.clone_eq()?;
+        let private_exponent = self.private_exponent.clone_eq()?;
+        let prime_1 = self.prime_1.clone_eq()?;
+        let prime_2 = self.prime_2.clone_eq()?;
+        let exponent_1 = self.exponent_1.clone_eq()?;
+        let exponent_2 = self.exponent_2.clone_eq()?;
+        let coefficient = self.coefficient.clone_eq()?;
+        Ok(RsaPrivateKey {
+            version,
+            modulus,
+            public_exponent,
+            private_exponent,
+            prime_1,
+            prime_2,
+            exponent_1,
+            exponent_2,
+            coefficient,
+        })
+    }
+}
+
+impl<A: Allocator> SameEq for RsaPrivateKey<A> {
+    ghost use Rattle.std.proofs.Common.{rules};
+    ghost use Rattle.std.specs.Cmp.Lexicographic.{bytes_decides};
+
+    ghost decides = { Prim.search (rules, bytes_decides) };
+}
+
+/// Four fields one behind another, and what stands behind them.
+type Four<I, R> = Join<I, Join<I, Join<I, Join<I, R>>>>;
+
+/// The fields as they stand in the SEQUENCE, owned or borrowed.
+type Nest<I> = Tagged<Sequence, Four<I, Four<I, I>>>;
+
+/// The fields, owned.
+type Fields<A> = Nest<IntegerAsn1<A>>;
+
+/// The fields of a key, to be written.
+fn written<A: Allocator>(key: &RsaPrivateKey<A>) -> Nest<&IntegerAsn1<A>>
+    ensures { ⟦<Nest<&'static IntegerAsn1<A>> as ToDer>⟧.strict result ≡ private_base.strict
+        (private_parts key.now) }
+{
+    let factors = Join(&key.exponent_1, Join(&key.exponent_2, &key.coefficient));
+    let rest = Join(&key.prime_1, Join(&key.prime_2, factors));
+    let exponents = Join(&key.public_exponent, Join(&key.private_exponent, rest));
+    Tagged::new(Join(&key.version, Join(&key.modulus, exponents)))
+}
+
+impl<A: Allocator> ToDer for RsaPrivateKey<A> {
+    ghost strict = { λ v. private_base.strict (private_parts v) };
+
+    fn encoded_len(&self) -> Result<usize, TooLong> {
+        written(self).encoded_len()
+    }
+
+    fn write_back(&self, out: &mut [u8]) -> usize {
+        written(self).write_back(out)
+    }
+}
+
+impl<A: Allocator> Structure<Fields<A>> for RsaPrivateKey<A> {
+    ghost fields = { private_parts };
+
+    fn from_fields(parts: Fields<A>) -> Self {
+        let Join(version, Join(modulus, Join(public_exponent, rest))) = parts.into_inner();
+        let Join(private_exponent, Join(prime_1, Join(prime_2, factors))) = rest;
+        let Join(exponent_1, Join(exponent_2, coefficient)) = factors;
+        RsaPrivateKey {
+            version,
+            modulus,
+            public_exponent,
+            private_exponent,
+            prime_1,
+            prime_2,
+            exponent_1,
+            exponent_2,
+            coefficient,
+        }
+    }
+
+    ghost same = { private_key_same };
+}
+
+impl<A: Allocator + Copy> Field<A> for RsaPrivateKey<A> {
+    ghost shape = { rsa_private_key };
+
+    ghost lawful = { λ h. structure_lawful private_parts private_base private_key_same
+        (⟦<Fields<A> as Field<A>>⟧.lawful (
+          tt,
+          (
+            tt,
+            (
+              tt,
+              (tt, (tt, (tt, (tt, (tt, tt, λ c h. refl), λ c h. refl), λ c h. refl), λ c h. refl), λ c h. refl),
+              λ c
+                  h. refl,
+            ),
+            λ c h. refl,
+          ),
+          λ c h. refl,
+        )) };
+
+    ghost elements = { λ h. structure_element private_parts private_base
+        (⟦<Fields<A> as Field<A>>⟧.elements tt) };
+
+    ghost agrees = { λ v. refl };
+
+    fn starts(byte: u8) -> bool {
+        byte == SEQUENCE_TAG
+    }
+
+    fn known(&self) {
+        self.version.known();
+        self.modulus.known();
+        self.public_exponent.known();
+        self.private_exponent.known();
+        self.prime_1.known();
+        self.prime_2.known();
+        self.exponent_1.known();
+        self.exponent_2.known();
+        self.coefficient.known();
+    }
+
+    fn read(alloc: A, reader: &mut Reader<'_, A>) -> Result<Self, ReadError> {
+        read_fields::<Self, Fields<A>, A>(alloc, reader)
+    }
+}
+
+impl<A: Allocator + Copy> FromDer<A> for RsaPrivateKey<A> {
+    ghost always = { tt };
+
+    ghost whole = { tt };
+}

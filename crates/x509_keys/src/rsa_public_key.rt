@@ -1,0 +1,123 @@
+//! RSA public keys.
+
+ghost use Rattle.std.specs.Prelude.{◌≡◌, IfOk, refl};
+ghost use Rattle.x509_der.specs.laws.Structure.{structure_lawful, structure_element};
+ghost use Rattle.x509_keys.specs.RsaPublicKeys.{public_parts, public_base, rsa_public_key};
+ghost use Rattle.x509_keys.specs.facts.RsaPublicKeys.{public_key_same};
+
+use std::alloc::{AllocError, Allocator, Global};
+use x509_der::parts::{
+    Field, Join, Reader, SEQUENCE_TAG, Sequence, Structure, Tagged, read_fields,
+};
+use x509_der::{
+    BitStringAsn1Container, CloneEq, FromDer, IntegerAsn1, ReadError, SameEq, ToDer, TooLong,
+};
+
+/// The public key of RSA: two numbers, each held as the content of an INTEGER. They aren't looked into.
+///
+/// # Encoding
+/// `RSAPublicKey ::= SEQUENCE { modulus INTEGER, publicExponent INTEGER }` (RFC 8017, A.1.1). Any INTEGERs are read.
+#[derive(Drop)]
+#[derive_where(Debug, PartialEq, Eq)]
+pub struct RsaPublicKey<A: Allocator = Global> {
+    /// The modulus n.
+    pub modulus: IntegerAsn1<A>,
+    /// The public exponent e.
+    pub public_exponent: IntegerAsn1<A>,
+}
+
+/// An RSA public key in a BIT STRING without unused bits (RFC 3279, 2.3.1).
+pub type EncapsulatedRsaPublicKey<A = Global> = BitStringAsn1Container<RsaPublicKey<A>>;
+
+impl<A: Allocator + Copy> RsaPublicKey<A> {
+    /// An equal key.
+    ///
+    /// # Errors
+    /// `AllocError` where memory is refused.
+    pub fn clone(&self) -> Result<Self, AllocError>
+        ensures { IfOk result (λ copy. copy ≡ self.now) }
+    {
+        self.clone_eq()
+    }
+}
+
+impl<A: Allocator + Copy> CloneEq for RsaPublicKey<A> {
+    fn clone_eq(&self) -> Result<Self, AllocError> {
+        let modulus = self.modulus.clone_eq()?;
+        let public_exponent = self.public_exponent.clone_eq()?;
+        Ok(RsaPublicKey {
+            modulus,
+            public_exponent,
+        })
+    }
+}
+
+impl<A: Allocator> SameEq for RsaPublicKey<A> {
+    ghost use Rattle.std.proofs.Common.{rules};
+    ghost use Rattle.std.specs.Cmp.Lexicographic.{bytes_decides};
+
+    ghost decides = { Prim.search (rules, bytes_decides) };
+}
+
+/// The fields as they stand in the SEQUENCE, owned or borrowed.
+type Nest<I> = Tagged<Sequence, Join<I, I>>;
+
+/// The fields, owned.
+type Fields<A> = Nest<IntegerAsn1<A>>;
+
+impl<A: Allocator> ToDer for RsaPublicKey<A> {
+    ghost strict = { λ v. public_base.strict (public_parts v) };
+
+    fn encoded_len(&self) -> Result<usize, TooLong> {
+        Nest::new(Join(&self.modulus, &self.public_exponent)).encoded_len()
+    }
+
+    fn write_back(&self, out: &mut [u8]) -> usize {
+        Nest::new(Join(&self.modulus, &self.public_exponent)).write_back(out)
+    }
+}
+
+impl<A: Allocator> Structure<Fields<A>> for RsaPublicKey<A> {
+    ghost fields = { public_parts };
+
+    fn from_fields(parts: Fields<A>) -> Self {
+        let Join(modulus, public_exponent) = parts.into_inner();
+        RsaPublicKey {
+            modulus,
+            public_exponent,
+        }
+    }
+
+    ghost same = { public_key_same };
+}
+
+impl<A: Allocator + Copy> Field<A> for RsaPublicKey<A> {
+    ghost shape = { rsa_public_key };
+
+    ghost lawful = { λ h. structure_lawful public_parts public_base public_key_same
+        (⟦<Fields<A> as Field<A>>⟧.lawful (tt, tt, λ c h. refl)) };
+
+    ghost elements = { λ h. structure_element public_parts public_base
+        (⟦<Fields<A> as Field<A>>⟧.elements tt) };
+
+    ghost agrees = { λ v. refl };
+
+    fn starts(byte: u8) -> bool {
+        byte == SEQUENCE_TAG
+    }
+
+    fn known(&self) {
+        self.modulus.known();
+        self.public_exponent.known();
+    }
+
+    fn read(alloc: A, reader: &mut Reader<'_, A>) -> Result<Self, ReadError> {
+        read_fields::<Self, Fields<A>, A>(alloc, reader)
+    }
+}
+
+impl<A: Allocator + Copy> FromDer<A> for RsaPublicKey<A> {
+    ghost always = { tt };
+
+    ghost whole = { tt };
+}

@@ -1,0 +1,17 @@
+pub mod AesAuthEncParams
+pub mod AesParameters
+pub mod AlgorithmIdentifier
+pub mod AlgorithmKinds
+pub mod AlgorithmLaws
+pub mod AlgorithmParameters
+pub mod DigestInfos
+pub mod EcParameters
+pub mod HashAlgorithms
+pub mod HashLaws
+pub mod Named
+pub mod RawAlgorithm
+pub mod RsaSignatures
+pub mod RsassaPss
+pub mod ShaVariants
+pub mod Unsupported
+pub mod facts

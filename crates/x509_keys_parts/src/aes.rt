@@ -1,0 +1,175 @@
+//! AES: its modes, and the parameters of its algorithm identifiers.
+
+ghost use Rattle.std.specs.Prelude.{◌≡◌, IfOk, refl};
+ghost use Rattle.x509_der.specs.laws.Structure.{structure_lawful, structure_element};
+ghost use Rattle.x509_keys_parts.specs.AesParameters.{aes_parts, aes_base, aes_parameters};
+ghost use Rattle.x509_keys_parts.specs.facts.AesParameters.{aes_same, octets_apart, null_apart};
+
+use crate::aes_auth_enc::AesAuthEncParams;
+use std::alloc::{AllocError, Allocator, Global};
+use x509_der::parts::{Choice, Field, Reader, Structure, read_fields};
+use x509_der::{CloneEq, FromDer, OctetStringAsn1, ReadError, SameEq, ToDer, TooLong};
+
+/// A mode of operation of AES, for which each key size has an algorithm of its own.
+#[derive(Debug, Drop, Clone, Copy, PartialEq, Eq)]
+pub enum AesMode {
+    /// Electronic codebook.
+    Ecb,
+    /// Cipher block chaining.
+    Cbc,
+    /// Output feedback.
+    Ofb,
+    /// Cipher feedback.
+    Cfb,
+    /// Key wrap.
+    Wrap,
+    /// Galois/counter mode.
+    Gcm,
+    /// Counter with cipher block chaining message authentication code.
+    Ccm,
+    /// Key wrap with padding.
+    WrapPad,
+}
+
+impl SameEq for AesMode {
+    ghost use Rattle.std.proofs.Common.{rules};
+
+    ghost decides = { Prim.search (rules) };
+}
+
+/// The parameters of an AES algorithm that has some, told apart by the tag.
+///
+/// # Encoding
+/// `CHOICE { NULL, AES-IV OCTET STRING, SEQUENCE { aes-nonce OCTET STRING, aes-ICVlen INTEGER } }`: NULL for a mode
+/// that takes none, an initialization vector (RFC 3565, 4.1), or what authenticated encryption takes (RFC 5084, 3.1
+/// and 3.2).
+#[derive(Drop)]
+#[derive_where(Debug, PartialEq, Eq)]
+pub enum AesParameters<A: Allocator = Global> {
+    /// None are needed.
+    Null,
+    /// The initialization vector.
+    InitializationVector(OctetStringAsn1<A>),
+    /// A nonce and the length of the integrity check value.
+    AuthenticatedEncryptionParameters(AesAuthEncParams<A>),
+}
+
+impl<A: Allocator + Copy> AesParameters<A> {
+    /// Equal parameters.
+    ///
+    /// # Errors
+    /// `AllocError` where memory is refused.
+    pub fn clone(&self) -> Result<Self, AllocError>
+        ensures { IfOk result (λ copy. copy ≡ self.now) }
+    {
+        self.clone_eq()
+    }
+}
+
+impl<A: Allocator + Copy> CloneEq for AesParameters<A> {
+    fn clone_eq(&self) -> Result<Self, AllocError> {
+        match self {
+            AesParameters::Null => Ok(AesParameters::Null),
+            AesParameters::InitializationVector(vector) => {
+                Ok(AesParameters::InitializationVector(vector.clone_eq()?))
+            }
+            AesParameters::AuthenticatedEncryptionParameters(parameters) => {
+                Ok(AesParameters::AuthenticatedEncryptionParameters(parameters.clone_eq()?))
+            }
+        }
+    }
+}
+
+impl<A: Allocator> SameEq for AesParameters<A> {
+    ghost use Rattle.std.proofs.Common.{rules};
+    ghost use Rattle.std.specs.Cmp.Lexicographic.{bytes_decides};
+
+    ghost decides = { Prim.search (rules, bytes_decides) };
+}
+
+/// The alternatives, owned or borrowed.
+type Nest<N, O, P> = Choice<N, Choice<O, P>>;
+
+/// The alternatives, owned.
+type Fields<A> = Nest<(), OctetStringAsn1<A>, AesAuthEncParams<A>>;
+
+/// The alternative that is written, borrowed.
+type Written<'a, A> = Nest<(), &'a OctetStringAsn1<A>, &'a AesAuthEncParams<A>>;
+
+/// The alternative of parameters, to be written.
+fn written<A: Allocator>(value: &AesParameters<A>) -> Written<'_, A>
+    ensures { ⟦<Written<'static, A> as ToDer>⟧.strict result ≡ aes_base.strict (aes_parts value.now) }
+{
+    match value {
+        AesParameters::Null => Choice::First(()),
+        AesParameters::InitializationVector(vector) => Choice::Second(Choice::First(vector)),
+        AesParameters::AuthenticatedEncryptionParameters(parameters) => {
+            Choice::Second(Choice::Second(parameters))
+        }
+    }
+}
+
+impl<A: Allocator> ToDer for AesParameters<A> {
+    ghost strict = { λ v. aes_base.strict (aes_parts v) };
+
+    fn encoded_len(&self) -> Result<usize, TooLong> {
+        written(self).encoded_len()
+    }
+
+    fn write_back(&self, out: &mut [u8]) -> usize {
+        written(self).write_back(out)
+    }
+}
+
+impl<A: Allocator> Structure<Fields<A>> for AesParameters<A> {
+    ghost fields = { aes_parts };
+
+    fn from_fields(parts: Fields<A>) -> Self {
+        match parts {
+            Choice::First(()) => AesParameters::Null,
+            Choice::Second(Choice::First(vector)) => AesParameters::InitializationVector(vector),
+            Choice::Second(Choice::Second(parameters)) => {
+                AesParameters::AuthenticatedEncryptionParameters(parameters)
+            }
+        }
+    }
+
+    ghost same = { aes_same };
+}
+
+impl<A: Allocator + Copy> Field<A> for AesParameters<A> {
+    ghost shape = { aes_parameters };
+
+    ghost lawful = { λ h. structure_lawful aes_parts aes_base aes_same
+        (⟦<Fields<A> as Field<A>>⟧.lawful (
+          (tt, ((tt, tt), ((tt, tt), octets_apart))),
+          ((tt, (tt, tt)), null_apart),
+        )) };
+
+    ghost elements = { λ h. structure_element aes_parts aes_base
+        (⟦<Fields<A> as Field<A>>⟧.elements (tt, (tt, tt))) };
+
+    ghost agrees = { λ v. refl };
+
+    fn starts(byte: u8) -> bool {
+        <Fields<A> as Field<A>>::starts(byte)
+    }
+
+    fn known(&self) {
+        match self {
+            AesParameters::Null => {}
+            AesParameters::InitializationVector(vector) => vector.known(),
+            AesParameters::AuthenticatedEncryptionParameters(parameters) => parameters.known(),
+        }
+    }
+
+    fn read(alloc: A, reader: &mut Reader<'_, A>) -> Result<Self, ReadError> {
+        read_fields::<Self, Fields<A>, A>(alloc, reader)
+    }
+}
+
+impl<A: Allocator + Copy> FromDer<A> for AesParameters<A> {
+    ghost always = { tt };
+
+    ghost whole = { tt };
+}

@@ -1,0 +1,283 @@
+//! Algorithm identifiers.
+
+ghost use Rattle.std.specs.Prelude.{◌≡◌, ◌↔◌, IsTrue, IfOk, refl};
+ghost use Rattle.std.specs.List.{Contains};
+ghost use Rattle.x509_der.specs.View.{if_found};
+ghost use Rattle.x509_keys_parts.specs.AlgorithmIdentifier.{identified, is_rsa, are_absent, with_null, kinds_if, algorithm_bytes, written_fields, lacks_null};
+
+use crate::aes::AesParameters;
+use crate::algorithm_parameters::{AlgorithmIdentifierParameters, AlgorithmKind, kind_of};
+use crate::ec_parameters::EcParameters;
+use crate::hash_algorithm::HashAlgorithm;
+use crate::rsassa_pss::{MaskGenAlgorithm, RsassaPssParams};
+use std::alloc::{AllocError, Allocator, Global};
+use std::marker::Model;
+use x509_der::parts::{
+    AnyDefinedBy, DefinedBy, Field, Found, Reader, SEQUENCE_TAG, Sequence, Tagged, View,
+    read_viewed,
+};
+use x509_der::{
+    CloneEq, Deviation, FromDer, ObjectIdentifier, ObjectIdentifierAsn1, ReadError, SameEq, ToDer,
+    TooLong,
+};
+
+/// An algorithm by its object identifier, and its parameters.
+///
+/// # Encoding
+/// `SEQUENCE { algorithm OBJECT IDENTIFIER, parameters ANY DEFINED BY algorithm OPTIONAL }` (RFC 5280, 4.1.1.2).
+///
+/// | Algorithm | Parameters |
+/// |---|---|
+/// | RSA keys; RSASSA-PKCS1-v1_5 with SHA-1, SHA-2 or SHA-3 | NULL |
+/// | RSASSA-PSS | `RSASSA-PSS-params` (RFC 4055, 3.1) |
+/// | elliptic curve keys | `EcParameters` (RFC 5480, 2.1.1) |
+/// | ECDSA with SHA-2 or SHA-3, Ed25519, Ed448, X25519, X448, ML-DSA, DSA with SHA-1 | none |
+/// | AES, whose identifiers stand under 2.16.840.1.101.3.4.1 | `AesParameters`, or none |
+/// | SHA-1, and hash functions under 2.16.840.1.101.3.4.2 | NULL |
+///
+/// An RSA algorithm whose NULL is left out is read with the deviation `RsaParametersAbsent`, and written with it.
+/// Other algorithms aren't read, and nor are other parameters, or none where some are demanded.
+#[derive(Drop)]
+#[derive_where(Debug, PartialEq, Eq)]
+pub struct AlgorithmIdentifier<A: Allocator = Global> {
+    algorithm: ObjectIdentifierAsn1<A>,
+    parameters: AlgorithmIdentifierParameters<A>,
+}
+
+impl<A: Allocator> Model for AlgorithmIdentifier<A> {
+    ghost use Rattle.x509_keys_parts.specs.AlgorithmIdentifier.{Algorithm};
+
+    ghost Value = { Algorithm A };
+
+    ghost view = { λ v. record { algorithm = v.algorithm; parameters = v.parameters } };
+
+    ghost inverse = { λ v. record { algorithm = v.algorithm; parameters = v.parameters } };
+}
+
+/// An algorithm with parameters, which may be other than those that it has. Such an algorithm identifier is written by
+/// its parts, and isn't read back. Takes no memory.
+pub fn new_unchecked<A: Allocator>(
+    algorithm: ObjectIdentifier<A>,
+    parameters: AlgorithmIdentifierParameters<A>,
+) -> AlgorithmIdentifier<A>
+    ensures { result ≡ identified algorithm parameters }
+{
+    AlgorithmIdentifier {
+        algorithm: ObjectIdentifierAsn1(algorithm),
+        parameters,
+    }
+}
+
+impl<A: Allocator> AlgorithmIdentifier<A> {
+    /// The object identifier of the algorithm.
+    pub fn oid(&self) -> &ObjectIdentifier<A>
+        ensures { result.now ≡ self.now.algorithm }
+    {
+        &self.algorithm.0
+    }
+
+    /// The object identifier of the algorithm, as an element.
+    pub fn oid_asn1(&self) -> &ObjectIdentifierAsn1<A>
+        ensures { result.now ≡ self.now.algorithm }
+    {
+        &self.algorithm
+    }
+
+    /// The parameters.
+    pub fn parameters(&self) -> &AlgorithmIdentifierParameters<A>
+        ensures { result.now ≡ self.now.parameters }
+    {
+        &self.parameters
+    }
+
+    /// Whether this is the algorithm. Its parameters aren't looked at.
+    pub fn is_a(&self, algorithm: &ObjectIdentifier<A>) -> bool
+        ensures { IsTrue result ↔ (self.now.algorithm ≡ algorithm.now) }
+    {
+        self.algorithm.0 == *algorithm
+    }
+
+    /// Whether the algorithm is one of these. Its parameters aren't looked at.
+    pub fn is_one_of(&self, algorithms: &[ObjectIdentifier<A>]) -> bool
+        ensures { IsTrue result ↔ Contains algorithms.now self.now.algorithm }
+    {
+        algorithms.iter().any(|algorithm| self.is_a(algorithm))
+    }
+}
+
+impl<A: Allocator + Copy> AlgorithmIdentifier<A> {
+    /// An equal algorithm identifier.
+    ///
+    /// # Errors
+    /// `AllocError` where memory is refused.
+    pub fn clone(&self) -> Result<Self, AllocError>
+        ensures { IfOk result (λ copy. copy ≡ self.now) }
+    {
+        self.clone_eq()
+    }
+}
+
+impl<A: Allocator + Copy> CloneEq for AlgorithmIdentifier<A> {
+    fn clone_eq(&self) -> Result<Self, AllocError> {
+        let algorithm = self.algorithm.clone_eq()?;
+        let parameters = self.parameters.clone_eq()?;
+        Ok(AlgorithmIdentifier {
+            algorithm,
+            parameters,
+        })
+    }
+}
+
+impl<A: Allocator> SameEq for AlgorithmIdentifier<A> {
+    ghost use Rattle.std.proofs.Common.{rules};
+    ghost use Rattle.std.specs.Cmp.Lexicographic.{bytes_decides};
+    ghost use Rattle.x509_keys_parts.specs.facts.SameAlgorithms.{algorithms_decide, parameters_decide, pss_params_decide};
+
+    ghost decides = { algorithms_decide (parameters_decide
+        ⟦<AlgorithmIdentifierParameters<A> as PartialEq>⟧.eq {aes = ⟦<AesParameters<A> as PartialEq>⟧.eq}
+        {ec = ⟦<EcParameters<A> as PartialEq>⟧.eq} {pss = ⟦<RsassaPssParams<A> as PartialEq>⟧.eq}
+        (λ x y. Prim.search (rules)) (λ x y. Prim.search (rules, bytes_decides))
+        (λ x y. Prim.search (rules, bytes_decides)) (pss_params_decide
+        {hash = ⟦<HashAlgorithm as PartialEq>⟧.eq} {mask = ⟦<MaskGenAlgorithm<A> as PartialEq>⟧.eq}
+        (λ x y. Prim.search (rules)) (λ x y. Prim.search (rules, bytes_decides)))) };
+}
+
+/// The fields as they stand in the SEQUENCE, owned or borrowed.
+type Nest<K, V> = Tagged<Sequence, DefinedBy<K, V>>;
+
+/// The fields in the SEQUENCE, owned.
+type Inner<A> = DefinedBy<ObjectIdentifierAsn1<A>, AlgorithmIdentifierParameters<A>>;
+
+/// The fields, owned.
+type Fields<A> = Tagged<Sequence, Inner<A>>;
+
+impl<A: Allocator> ToDer for AlgorithmIdentifier<A> {
+    ghost strict = { λ v. algorithm_bytes (written_fields v) };
+
+    fn encoded_len(&self) -> Result<usize, TooLong> {
+        Nest::new(DefinedBy(&self.algorithm, &self.parameters)).encoded_len()
+    }
+
+    fn write_back(&self, out: &mut [u8]) -> usize {
+        Nest::new(DefinedBy(&self.algorithm, &self.parameters)).write_back(out)
+    }
+}
+
+/// Whether the kind is that of RSA algorithms.
+fn is_rsa(kind: AlgorithmKind) -> bool
+    ensures { result ≡ is_rsa kind }
+{
+    match kind {
+        AlgorithmKind::Rsa => true,
+        AlgorithmKind::RsassaPss
+        | AlgorithmKind::EcPublicKey
+        | AlgorithmKind::Bare
+        | AlgorithmKind::Aes
+        | AlgorithmKind::Hash
+        | AlgorithmKind::Unknown => false,
+    }
+}
+
+/// Whether there are no parameters.
+fn are_absent<A: Allocator>(parameters: &AlgorithmIdentifierParameters<A>) -> bool
+    ensures { result ≡ are_absent parameters.now }
+{
+    match parameters {
+        AlgorithmIdentifierParameters::None => true,
+        AlgorithmIdentifierParameters::Null
+        | AlgorithmIdentifierParameters::Aes(_)
+        | AlgorithmIdentifierParameters::Ec(_)
+        | AlgorithmIdentifierParameters::RsassaPss(_) => false,
+    }
+}
+
+/// Whether the NULL of an RSA algorithm was left out.
+fn lacks_null<A: Allocator>(
+    algorithm: &ObjectIdentifierAsn1<A>,
+    parameters: &AlgorithmIdentifierParameters<A>,
+) -> bool
+    ensures { result ≡ lacks_null (algorithm.now, parameters.now) }
+{
+    is_rsa(kind_of(algorithm)) && are_absent(parameters)
+}
+
+/// The parameters, and NULL where it was left out.
+fn with_null<A: Allocator>(
+    left_out: bool,
+    parameters: AlgorithmIdentifierParameters<A>,
+) -> AlgorithmIdentifierParameters<A>
+    ensures { result ≡ with_null left_out parameters }
+{
+    if left_out {
+        AlgorithmIdentifierParameters::Null
+    } else {
+        parameters
+    }
+}
+
+/// The deviation of NULL that was left out.
+fn absence(left_out: bool) -> Option<Deviation>
+    ensures { if_found result ≡ kinds_if left_out }
+{
+    if left_out {
+        Some(Deviation::RsaParametersAbsent)
+    } else {
+        None
+    }
+}
+
+impl<A: Allocator + Copy> View<Fields<A>, A> for AlgorithmIdentifier<A> {
+    ghost use Rattle.x509_der.specs.laws.Meaning.{sequence_seen};
+    ghost use Rattle.x509_keys_parts.specs.AlgorithmIdentifier.{inner, algorithm_meaning};
+    ghost use Rattle.x509_keys_parts.specs.facts.AlgorithmIdentifier.{algorithm_means, algorithm_one};
+
+    ghost view = { algorithm_meaning };
+
+    fn meaning(parts: Fields<A>) -> Option<(Self, Found)> {
+        let DefinedBy(algorithm, parameters) = parts.into_inner();
+        let left_out = lacks_null(&algorithm, &parameters);
+        let value = AlgorithmIdentifier {
+            algorithm,
+            parameters: with_null(left_out, parameters),
+        };
+        Some((value, Found::of(absence(left_out))))
+    }
+
+    ghost is_seen = { λ f. sequence_seen algorithm_meaning inner (⟦<Inner<A> as Field<A>>⟧.lawful f)
+        algorithm_means algorithm_one };
+}
+
+impl<A: Allocator + Copy> Field<A> for AlgorithmIdentifier<A> {
+    ghost use Rattle.x509_der.specs.laws.Meaning.{sequence_lawful, seen_element};
+    ghost use Rattle.x509_keys_parts.specs.AlgorithmIdentifier.{inner, base, algorithm_meaning, algorithm_identifier};
+    ghost use Rattle.x509_keys_parts.specs.facts.AlgorithmIdentifier.{algorithm_means, algorithm_one, algorithm_agrees};
+
+    ghost shape = { algorithm_identifier };
+
+    ghost lawful = { λ h. sequence_lawful algorithm_meaning inner
+        (⟦<Inner<A> as Field<A>>⟧.lawful (tt, λ c h. refl)) algorithm_means algorithm_one };
+
+    ghost elements = { λ h. seen_element algorithm_meaning base (⟦<Fields<A> as Field<A>>⟧.elements tt)
+        algorithm_means };
+
+    ghost agrees = { λ v. algorithm_agrees (written_fields v) };
+
+    fn starts(byte: u8) -> bool {
+        byte == SEQUENCE_TAG
+    }
+
+    fn known(&self) {
+        self.algorithm.known();
+        self.parameters.known_behind(&self.algorithm);
+    }
+
+    fn read(alloc: A, reader: &mut Reader<'_, A>) -> Result<Self, ReadError> {
+        read_viewed::<Self, Fields<A>, A>(alloc, reader)
+    }
+}
+
+impl<A: Allocator + Copy> FromDer<A> for AlgorithmIdentifier<A> {
+    ghost always = { tt };
+
+    ghost whole = { tt };
+}

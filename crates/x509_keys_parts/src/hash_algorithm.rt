@@ -1,0 +1,312 @@
+//! Hash functions, as RSASSA-PSS names them.
+
+ghost use Rattle.std.specs.Prelude.{◌≡◌, false, refl, IfOk, IfErr, None, Some};
+ghost use Rattle.x509_der.specs.ObjectIdentifier.{dotted};
+ghost use Rattle.x509_der.specs.View.{if_found};
+ghost use Rattle.x509_der.specs.laws.Meaning.{seen_lawful, seen_element, sequence_seen, sequence_lawful};
+ghost use Rattle.x509_keys_parts.specs.HashAlgorithms.{hash_arcs, hash_len, hash_number, hash_of, hash_name_base, hash_name_meaning, hash_name, null_kinds, hash_inner, hash_base, hash_fields, hash_meaning, hash_algorithm};
+ghost use Rattle.x509_keys_parts.specs.Unsupported.{Names};
+ghost use Rattle.x509_keys_parts.specs.facts.HashAlgorithmFacts.{hash_name_is, hash_name_seen, hash_is, few_kinds};
+
+use crate::errors::{AlgorithmError, unsupported};
+use std::alloc::{AllocError, Allocator};
+use std::marker::Model;
+use x509_der::parts::{
+    Field, Found, Join, OBJECT_IDENTIFIER_TAG, Optional, Reader, SEQUENCE_TAG, Sequence, Tagged,
+    View, read_viewed, write_bytes,
+};
+use x509_der::{
+    CloneEq, Deviation, FromDer, ObjectIdentifier, ObjectIdentifierAsn1, ReadError, SameEq, ToDer,
+    TooLong,
+};
+use x509_oids_algorithms as oids;
+
+/// A hash function.
+///
+/// # Encoding
+/// `SEQUENCE { algorithm OBJECT IDENTIFIER, parameters NULL }` (RFC 4055, 2.1), with one of eight object identifiers;
+/// others are refused. An encoding without NULL is read with the deviation `HashNullAbsent`; other parameters are
+/// refused.
+#[derive(Debug, Drop, Clone, Copy, PartialEq, Eq)]
+pub enum HashAlgorithm {
+    /// SHA-224, 28 bytes.
+    SHA224,
+    /// SHA-256, 32 bytes.
+    SHA256,
+    /// SHA-384, 48 bytes.
+    SHA384,
+    /// SHA-512, 64 bytes.
+    SHA512,
+    /// SHA3-224, 28 bytes.
+    SHA3_224,
+    /// SHA3-256, 32 bytes.
+    SHA3_256,
+    /// SHA3-384, 48 bytes.
+    SHA3_384,
+    /// SHA3-512, 64 bytes.
+    SHA3_512,
+}
+
+/// All hash functions.
+const HASHES: &'static [HashAlgorithm] = &[
+    HashAlgorithm::SHA224,
+    HashAlgorithm::SHA256,
+    HashAlgorithm::SHA384,
+    HashAlgorithm::SHA512,
+    HashAlgorithm::SHA3_224,
+    HashAlgorithm::SHA3_256,
+    HashAlgorithm::SHA3_384,
+    HashAlgorithm::SHA3_512,
+];
+
+/// The hash function that an object identifier names.
+fn known<A: Allocator>(identifier: &ObjectIdentifier<A>) -> Option<HashAlgorithm>
+    ensures { result ≡ hash_of identifier.now }
+{
+    for hash in HASHES {
+        if identifier.is_arcs(hash.arcs()) {
+            return Some(*hash);
+        }
+    }
+    None
+}
+
+impl HashAlgorithm {
+    /// How many bytes a hash has.
+    pub fn len(self) -> usize
+        ensures { result ≡ hash_len self }
+    {
+        match self {
+            HashAlgorithm::SHA224 | HashAlgorithm::SHA3_224 => 28,
+            HashAlgorithm::SHA256 | HashAlgorithm::SHA3_256 => 32,
+            HashAlgorithm::SHA384 | HashAlgorithm::SHA3_384 => 48,
+            HashAlgorithm::SHA512 | HashAlgorithm::SHA3_512 => 64,
+        }
+    }
+
+    /// Whether a hash has no bytes: never.
+    pub fn is_empty(self) -> bool
+        ensures { result ≡ false }
+    {
+        false
+    }
+
+    /// The arcs of its object identifier.
+    fn arcs(self) -> &'static [u64]
+        ensures { result.now ≡ hash_arcs self }
+    {
+        match self {
+            HashAlgorithm::SHA224 => &[2, 16, 840, 1, 101, 3, 4, 2, 4],
+            HashAlgorithm::SHA256 => &[2, 16, 840, 1, 101, 3, 4, 2, 1],
+            HashAlgorithm::SHA384 => &[2, 16, 840, 1, 101, 3, 4, 2, 2],
+            HashAlgorithm::SHA512 => &[2, 16, 840, 1, 101, 3, 4, 2, 3],
+            HashAlgorithm::SHA3_224 => &[2, 16, 840, 1, 101, 3, 4, 2, 7],
+            HashAlgorithm::SHA3_256 => &[2, 16, 840, 1, 101, 3, 4, 2, 8],
+            HashAlgorithm::SHA3_384 => &[2, 16, 840, 1, 101, 3, 4, 2, 9],
+            HashAlgorithm::SHA3_512 => &[2, 16, 840, 1, 101, 3, 4, 2, 10],
+        }
+    }
+
+    /// The last arc of its object identifier.
+    fn number(self) -> u8
+        ensures { result ≡ hash_number self }
+    {
+        match self {
+            HashAlgorithm::SHA224 => 4,
+            HashAlgorithm::SHA256 => 1,
+            HashAlgorithm::SHA384 => 2,
+            HashAlgorithm::SHA512 => 3,
+            HashAlgorithm::SHA3_224 => 7,
+            HashAlgorithm::SHA3_256 => 8,
+            HashAlgorithm::SHA3_384 => 9,
+            HashAlgorithm::SHA3_512 => 10,
+        }
+    }
+
+    /// Its object identifier.
+    ///
+    /// # Errors
+    /// `AllocError` where memory is refused.
+    pub fn to_oid<A: Allocator>(self, alloc: A) -> Result<ObjectIdentifier<A>, AllocError>
+        ensures { IfOk result (λ o. o ≡ hash_arcs self) }
+    {
+        match self {
+            HashAlgorithm::SHA224 => oids::sha224(alloc),
+            HashAlgorithm::SHA256 => oids::sha256(alloc),
+            HashAlgorithm::SHA384 => oids::sha384(alloc),
+            HashAlgorithm::SHA512 => oids::sha512(alloc),
+            HashAlgorithm::SHA3_224 => oids::sha3_224(alloc),
+            HashAlgorithm::SHA3_256 => oids::sha3_256(alloc),
+            HashAlgorithm::SHA3_384 => oids::sha3_384(alloc),
+            HashAlgorithm::SHA3_512 => oids::sha3_512(alloc),
+        }
+    }
+
+    /// The hash function that an object identifier names. Takes memory only where there is none.
+    ///
+    /// # Errors
+    /// Refused exactly where it names none of the eight: `Unsupported`, with the dotted text, or `OutOfMemory` where
+    /// memory for that text is refused.
+    pub fn from_oid<A: Allocator>(
+        alloc: A,
+        identifier: &ObjectIdentifier<A>,
+    ) -> Result<Self, AlgorithmError<A>>
+        ensures ok { IfOk result (λ hash. hash_of identifier.now ≡ Some hash) }
+        ensures err { IfErr result (λ e. (hash_of identifier.now ≡ None) × Names e (dotted identifier.now)) }
+    {
+        match known(identifier) {
+            Some(hash) => Ok(hash),
+            None => Err(unsupported(alloc, identifier)),
+        }
+    }
+}
+
+impl CloneEq for HashAlgorithm {
+    fn clone_eq(&self) -> Result<Self, AllocError> {
+        Ok(*self)
+    }
+}
+
+impl SameEq for HashAlgorithm {
+    ghost use Rattle.std.proofs.Common.{rules};
+
+    ghost decides = { Prim.search (rules) };
+}
+
+/// A hash function as its object identifier alone.
+#[derive(Drop)]
+struct HashName(HashAlgorithm);
+
+impl Model for HashName {
+    ghost use Rattle.x509_keys_parts.specs.declared.hash_algorithm.HashAlgorithm.{HashAlgorithm};
+
+    ghost Value = { HashAlgorithm };
+
+    ghost view = { λ n. n.0 };
+
+    ghost inverse = { λ hash. record { 0 = hash } };
+}
+
+/// The object identifier of a hash function as an element. All have the same arcs but for the last, which is below 128.
+fn name_element(hash: HashAlgorithm) -> [u8; 11]
+    ensures { result ≡ hash_name.strict hash }
+{
+    [6, 9, 0x60, 0x86, 0x48, 1, 0x65, 3, 4, 2, hash.number()]
+}
+
+impl ToDer for HashName {
+    ghost strict = { hash_name.strict };
+
+    fn encoded_len(&self) -> Result<usize, TooLong> {
+        Ok(name_element(self.0).len())
+    }
+
+    fn write_back(&self, out: &mut [u8]) -> usize {
+        write_bytes(&name_element(self.0), out)
+    }
+}
+
+impl<A: Allocator + Copy> View<ObjectIdentifierAsn1<A>, A> for HashName {
+    ghost view = { hash_name_meaning };
+
+    fn meaning(parts: ObjectIdentifierAsn1<A>) -> Option<(Self, Found)> {
+        let hash = known(&parts.0)?;
+        Some((HashName(hash), Found::Nothing))
+    }
+
+    ghost is_seen = { λ f. hash_name_seen };
+}
+
+impl<A: Allocator + Copy> Field<A> for HashName {
+    ghost shape = { hash_name };
+
+    ghost lawful = { λ h. seen_lawful hash_name_meaning hash_name_base
+        (⟦<ObjectIdentifierAsn1<A> as Field<A>>⟧.lawful tt) hash_name_seen };
+
+    ghost elements = { λ h. seen_element hash_name_meaning hash_name_base
+        (⟦<ObjectIdentifierAsn1<A> as Field<A>>⟧.elements tt) hash_name_is };
+
+    ghost agrees = { λ v. refl };
+
+    fn starts(byte: u8) -> bool {
+        byte == OBJECT_IDENTIFIER_TAG
+    }
+
+    #[tactic(auto, using(crate::specs::facts::HashAlgorithmFacts::arcs_lawful))]
+    fn known(&self) {}
+
+    fn read(alloc: A, reader: &mut Reader<'_, A>) -> Result<Self, ReadError> {
+        read_viewed::<Self, ObjectIdentifierAsn1<A>, A>(alloc, reader)
+    }
+}
+
+/// The fields that are written.
+type Written = Tagged<Sequence, Join<HashName, ()>>;
+
+impl ToDer for HashAlgorithm {
+    ghost strict = { λ v. hash_base.strict (hash_fields v) };
+
+    fn encoded_len(&self) -> Result<usize, TooLong> {
+        Written::new(Join(HashName(*self), ())).encoded_len()
+    }
+
+    fn write_back(&self, out: &mut [u8]) -> usize {
+        Written::new(Join(HashName(*self), ())).write_back(out)
+    }
+}
+
+/// The deviation of parameters that are absent.
+fn absence(null: Option<()>) -> Option<Deviation>
+    ensures { if_found result ≡ null_kinds null }
+{
+    match null {
+        Some(_) => None,
+        None => Some(Deviation::HashNullAbsent),
+    }
+}
+
+/// The fields in the SEQUENCE.
+type Inner = Join<HashName, Optional<()>>;
+
+/// The fields that are read.
+type Fields = Tagged<Sequence, Inner>;
+
+impl<A: Allocator + Copy> View<Fields, A> for HashAlgorithm {
+    ghost view = { hash_meaning };
+
+    fn meaning(parts: Fields) -> Option<(Self, Found)> {
+        let Join(HashName(hash), Optional(null)) = parts.into_inner();
+        Some((hash, Found::of(absence(null))))
+    }
+
+    ghost is_seen = { λ f. sequence_seen hash_meaning hash_inner (⟦<Inner as Field<A>>⟧.lawful f) hash_is
+        few_kinds };
+}
+
+impl<A: Allocator + Copy> Field<A> for HashAlgorithm {
+    ghost shape = { hash_algorithm };
+
+    ghost lawful = { λ h. sequence_lawful hash_meaning hash_inner
+        (⟦<Inner as Field<A>>⟧.lawful (tt, (tt, tt), λ c h. refl)) hash_is few_kinds };
+
+    ghost elements = { λ h. seen_element hash_meaning hash_base (⟦<Fields as Field<A>>⟧.elements tt)
+        hash_is };
+
+    ghost agrees = { λ v. refl };
+
+    fn starts(byte: u8) -> bool {
+        byte == SEQUENCE_TAG
+    }
+
+    fn known(&self) {}
+
+    fn read(alloc: A, reader: &mut Reader<'_, A>) -> Result<Self, ReadError> {
+        read_viewed::<Self, Fields, A>(alloc, reader)
+    }
+}
+
+impl<A: Allocator + Copy> FromDer<A> for HashAlgorithm {
+    ghost always = { tt };
+
+    ghost whole = { tt };
+}

@@ -1,0 +1,318 @@
+//! Parameters of RSASSA-PSS.
+
+ghost use Rattle.std.specs.Prelude.{◌≡◌, refl, IfOk};
+ghost use Rattle.x509_der.specs.Integer.{sign_bit};
+ghost use Rattle.x509_der.specs.View.{meant};
+ghost use Rattle.x509_der.specs.laws.Meaning.{seen_element, sequence_seen, sequence_lawful};
+ghost use Rattle.x509_der.specs.laws.Structure.{structure_lawful, structure_element};
+ghost use Rattle.x509_keys_parts.specs.RsassaPss.{mask_gen_parts, mask_gen_base, mask_gen, mgf1, pss_inner, pss_base, salt_of, pss_fields, pss_meaning, rsassa_pss, pss_with};
+ghost use Rattle.x509_keys_parts.specs.facts.RsassaPssFacts.{mask_gen_same, pss_is, pss_one};
+
+use crate::hash_algorithm::HashAlgorithm;
+use crate::salt_length::SaltLength;
+use std::alloc::{AllocError, Allocator, Global};
+use x509_der::parts::{
+    Explicit0, Explicit1, Explicit2, Field, Found, Join, Reader, SEQUENCE_TAG, Sequence, Structure,
+    Tagged, View, read_fields, read_viewed,
+};
+use x509_der::{
+    CloneEq, Deviation, FromDer, IntegerAsn1, ObjectIdentifierAsn1, ReadError, SameEq, ToDer,
+    TooLong,
+};
+use x509_oids_algorithms::id_mgf1;
+
+/// A mask generation function, and its hash function.
+///
+/// # Encoding
+/// `SEQUENCE { algorithm OBJECT IDENTIFIER, parameters HashAlgorithm }` (RFC 4055, 2.2). Any object identifier is read.
+#[derive(Drop)]
+#[derive_where(Debug, PartialEq, Eq)]
+pub struct MaskGenAlgorithm<A: Allocator = Global> {
+    /// The mask generation function: MGF1 in use.
+    pub mask_gen_algorithm: ObjectIdentifierAsn1<A>,
+    /// Its hash function.
+    pub hash_algorithm: HashAlgorithm,
+}
+
+impl<A: Allocator> MaskGenAlgorithm<A> {
+    /// MGF1 with a hash function (RFC 8017, B.2.1).
+    ///
+    /// # Errors
+    /// `AllocError` where memory is refused.
+    pub fn new(alloc: A, hash_algorithm: HashAlgorithm) -> Result<Self, AllocError>
+        ensures { IfOk result (λ v. v ≡ mgf1 hash_algorithm) }
+    {
+        Ok(MaskGenAlgorithm {
+            mask_gen_algorithm: ObjectIdentifierAsn1(id_mgf1(alloc)?),
+            hash_algorithm,
+        })
+    }
+}
+
+impl<A: Allocator + Copy> MaskGenAlgorithm<A> {
+    /// An equal mask generation function.
+    ///
+    /// # Errors
+    /// `AllocError` where memory is refused.
+    pub fn clone(&self) -> Result<Self, AllocError>
+        ensures { IfOk result (λ copy. copy ≡ self.now) }
+    {
+        self.clone_eq()
+    }
+}
+
+impl<A: Allocator + Copy> CloneEq for MaskGenAlgorithm<A> {
+    fn clone_eq(&self) -> Result<Self, AllocError> {
+        Ok(MaskGenAlgorithm {
+            mask_gen_algorithm: self.mask_gen_algorithm.clone_eq()?,
+            hash_algorithm: self.hash_algorithm,
+        })
+    }
+}
+
+impl<A: Allocator> SameEq for MaskGenAlgorithm<A> {
+    ghost use Rattle.std.proofs.Common.{rules};
+    ghost use Rattle.std.specs.Cmp.Lexicographic.{bytes_decides};
+
+    ghost decides = { Prim.search (rules, bytes_decides) };
+}
+
+/// The fields as they stand in the SEQUENCE, owned or borrowed.
+type MaskGenNest<I> = Tagged<Sequence, Join<I, HashAlgorithm>>;
+
+impl<A: Allocator> ToDer for MaskGenAlgorithm<A> {
+    ghost strict = { λ v. mask_gen_base.strict (mask_gen_parts v) };
+
+    fn encoded_len(&self) -> Result<usize, TooLong> {
+        MaskGenNest::new(Join(&self.mask_gen_algorithm, self.hash_algorithm)).encoded_len()
+    }
+
+    fn write_back(&self, out: &mut [u8]) -> usize {
+        MaskGenNest::new(Join(&self.mask_gen_algorithm, self.hash_algorithm)).write_back(out)
+    }
+}
+
+impl<A: Allocator> Structure<MaskGenNest<ObjectIdentifierAsn1<A>>> for MaskGenAlgorithm<A> {
+    ghost fields = { mask_gen_parts };
+
+    fn from_fields(parts: MaskGenNest<ObjectIdentifierAsn1<A>>) -> Self {
+        let Join(mask_gen_algorithm, hash_algorithm) = parts.into_inner();
+        MaskGenAlgorithm {
+            mask_gen_algorithm,
+            hash_algorithm,
+        }
+    }
+
+    ghost same = { mask_gen_same };
+}
+
+impl<A: Allocator + Copy> Field<A> for MaskGenAlgorithm<A> {
+    ghost shape = { mask_gen };
+
+    ghost lawful = { λ h. structure_lawful mask_gen_parts mask_gen_base mask_gen_same
+        (⟦<MaskGenNest<ObjectIdentifierAsn1<A>> as Field<A>>⟧.lawful (tt, tt, λ c h. refl)) };
+
+    ghost elements = { λ h. structure_element mask_gen_parts mask_gen_base
+        (⟦<MaskGenNest<ObjectIdentifierAsn1<A>> as Field<A>>⟧.elements tt) };
+
+    ghost agrees = { λ v. refl };
+
+    fn starts(byte: u8) -> bool {
+        byte == SEQUENCE_TAG
+    }
+
+    fn known(&self) {
+        self.mask_gen_algorithm.known();
+    }
+
+    fn read(alloc: A, reader: &mut Reader<'_, A>) -> Result<Self, ReadError> {
+        read_fields::<Self, MaskGenNest<ObjectIdentifierAsn1<A>>, A>(alloc, reader)
+    }
+}
+
+impl<A: Allocator + Copy> FromDer<A> for MaskGenAlgorithm<A> {
+    ghost always = { tt };
+
+    ghost whole = { tt };
+}
+
+/// Parameters of RSASSA-PSS. The trailer field isn't among them, since it is always the default.
+///
+/// # Encoding
+/// `SEQUENCE { hashAlgorithm [0] EXPLICIT HashAlgorithm, maskGenAlgorithm [1] EXPLICIT MaskGenAlgorithm, saltLength [2]
+/// EXPLICIT INTEGER }` (RFC 4055, 3.1): all three are demanded, and written also where they are defaults. A negative
+/// salt length is refused; one above 2^64 - 1 is read as 2^64 - 1 with the deviation `SaltTooLarge`.
+#[derive(Drop)]
+#[derive_where(Debug, PartialEq, Eq)]
+pub struct RsassaPssParams<A: Allocator = Global> {
+    /// The hash function.
+    pub hash_algorithm: HashAlgorithm,
+    /// The mask generation function.
+    pub mask_gen_algorithm: MaskGenAlgorithm<A>,
+    /// How many bytes the salt has.
+    pub salt_length: usize,
+}
+
+impl<A: Allocator> RsassaPssParams<A> {
+    /// MGF1 with the same hash function, and a salt as long as a hash.
+    ///
+    /// # Errors
+    /// `AllocError` where memory is refused.
+    pub fn new(alloc: A, hash_algorithm: HashAlgorithm) -> Result<Self, AllocError>
+        ensures { IfOk result (λ v. v ≡ pss_with hash_algorithm) }
+    {
+        Ok(RsassaPssParams {
+            hash_algorithm,
+            mask_gen_algorithm: MaskGenAlgorithm::new(alloc, hash_algorithm)?,
+            salt_length: hash_algorithm.len(),
+        })
+    }
+}
+
+impl<A: Allocator + Copy> RsassaPssParams<A> {
+    /// Equal parameters.
+    ///
+    /// # Errors
+    /// `AllocError` where memory is refused.
+    pub fn clone(&self) -> Result<Self, AllocError>
+        ensures { IfOk result (λ copy. copy ≡ self.now) }
+    {
+        self.clone_eq()
+    }
+}
+
+impl<A: Allocator + Copy> CloneEq for RsassaPssParams<A> {
+    fn clone_eq(&self) -> Result<Self, AllocError> {
+        Ok(RsassaPssParams {
+            hash_algorithm: self.hash_algorithm,
+            mask_gen_algorithm: self.mask_gen_algorithm.clone_eq()?,
+            salt_length: self.salt_length,
+        })
+    }
+}
+
+impl<A: Allocator> SameEq for RsassaPssParams<A> {
+    ghost use Rattle.std.specs.Prelude.{nat_eq};
+    ghost use Rattle.std.proofs.Common.{rules};
+    ghost use Rattle.std.specs.Cmp.Lexicographic.{bytes_decides};
+    ghost use Rattle.x509_keys_parts.specs.facts.RsassaPssFacts.{pss_decides};
+
+    ghost decides = { λ x y. pss_decides x y (⟦<HashAlgorithm as PartialEq>⟧.eq x.hash_algorithm
+        y.hash_algorithm) (⟦<MaskGenAlgorithm<A> as PartialEq>⟧.eq x.mask_gen_algorithm y.mask_gen_algorithm)
+        (nat_eq x.salt_length y.salt_length) (Prim.search (rules)) (Prim.search (rules, bytes_decides))
+        (Prim.search (rules)) };
+}
+
+/// The fields in the SEQUENCE, owned or borrowed.
+type Nest<M, S> = Join<
+    Tagged<Explicit0, HashAlgorithm>,
+    Join<Tagged<Explicit1, M>, Tagged<Explicit2, S>>,
+>;
+
+/// The fields in the SEQUENCE, owned.
+type Inner<A> = Nest<MaskGenAlgorithm<A>, IntegerAsn1<A>>;
+
+/// The fields, owned.
+type Fields<A> = Tagged<Sequence, Inner<A>>;
+
+/// The fields that are written, borrowed.
+type Written<'a, A> = Tagged<Sequence, Nest<&'a MaskGenAlgorithm<A>, SaltLength>>;
+
+/// The fields of parameters, to be written.
+fn written<A: Allocator>(value: &RsassaPssParams<A>) -> Written<'_, A>
+    ensures { ⟦<Written<'static, A> as ToDer>⟧.strict result ≡ pss_base.strict (pss_fields value.now) }
+{
+    Tagged::new(Join(
+        Tagged::new(value.hash_algorithm),
+        Join(
+            Tagged::new(&value.mask_gen_algorithm),
+            Tagged::new(SaltLength(value.salt_length)),
+        ),
+    ))
+}
+
+impl<A: Allocator> ToDer for RsassaPssParams<A> {
+    ghost strict = { λ v. pss_base.strict (pss_fields v) };
+
+    fn encoded_len(&self) -> Result<usize, TooLong> {
+        written(self).encoded_len()
+    }
+
+    fn write_back(&self, out: &mut [u8]) -> usize {
+        written(self).write_back(out)
+    }
+}
+
+/// Whether a number in two's complement is negative.
+fn is_negative(content: &[u8]) -> bool
+    ensures { result ≡ sign_bit content.now }
+{
+    match content {
+        [] => false,
+        [first, ..] => *first >= 128,
+    }
+}
+
+/// The salt length that an INTEGER says, and the deviation of one that is too large; none where it is negative.
+#[tactic(auto, using(crate::specs::facts::RsassaPssFacts::salt_small, crate::specs::facts::RsassaPssFacts::salt_large, crate::specs::facts::RsassaPssFacts::salt_negative))]
+fn salt_in<A: Allocator>(salt: &IntegerAsn1<A>) -> Option<(usize, Found)>
+    ensures { salt_of salt.now ≡ meant result }
+{
+    if is_negative(salt.as_bytes()) {
+        return None;
+    }
+    match salt.to_u64() {
+        Some(number) => Some((number as usize, Found::Nothing)),
+        None => Some((usize::MAX, Found::One(Deviation::SaltTooLarge))),
+    }
+}
+
+impl<A: Allocator + Copy> View<Fields<A>, A> for RsassaPssParams<A> {
+    ghost view = { pss_meaning };
+
+    fn meaning(parts: Fields<A>) -> Option<(Self, Found)> {
+        let Join(hash_algorithm, Join(mask_gen_algorithm, salt)) = parts.into_inner();
+        let (salt_length, found) = salt_in(&salt.into_inner())?;
+        let parameters = RsassaPssParams {
+            hash_algorithm: hash_algorithm.into_inner(),
+            mask_gen_algorithm: mask_gen_algorithm.into_inner(),
+            salt_length,
+        };
+        Some((parameters, found))
+    }
+
+    ghost is_seen = { λ f. sequence_seen pss_meaning pss_inner (⟦<Inner<A> as Field<A>>⟧.lawful f) pss_is
+        pss_one };
+}
+
+impl<A: Allocator + Copy> Field<A> for RsassaPssParams<A> {
+    ghost shape = { rsassa_pss };
+
+    ghost lawful = { λ h. sequence_lawful pss_meaning pss_inner
+        (⟦<Inner<A> as Field<A>>⟧.lawful (tt, (tt, tt, λ c h. refl), λ c h. refl)) pss_is pss_one };
+
+    ghost elements = { λ h. seen_element pss_meaning pss_base (⟦<Fields<A> as Field<A>>⟧.elements tt)
+        pss_is };
+
+    ghost agrees = { λ v. refl };
+
+    fn starts(byte: u8) -> bool {
+        byte == SEQUENCE_TAG
+    }
+
+    fn known(&self) {
+        self.mask_gen_algorithm.known();
+        // The number is looked at, so that the proof knows its range.
+        let _salt_length = self.salt_length;
+    }
+
+    fn read(alloc: A, reader: &mut Reader<'_, A>) -> Result<Self, ReadError> {
+        read_viewed::<Self, Fields<A>, A>(alloc, reader)
+    }
+}
+
+impl<A: Allocator + Copy> FromDer<A> for RsassaPssParams<A> {
+    ghost always = { tt };
+
+    ghost whole = { tt };
+}

@@ -1,0 +1,238 @@
+//! Algorithm identifiers, and the parameters of AES and of elliptic curve keys.
+
+use super::clones::OwnClone;
+use super::fields::Field;
+use super::rows::{Heap, Row, Table, all_hold};
+use refusing::Refusing;
+use std::alloc::{AllocError, Allocator};
+use std::process::Abort;
+use x509_der::Deviation;
+use x509_keys::{AesAuthEncParams, AesParameters, AlgorithmIdentifier, EcParameters};
+
+impl<A: Allocator + Copy> OwnClone for AesAuthEncParams<A> {
+    fn own_clone(&self) -> Result<Self, AllocError> {
+        self.clone()
+    }
+}
+
+impl<A: Allocator + Copy> OwnClone for AesParameters<A> {
+    fn own_clone(&self) -> Result<Self, AllocError> {
+        self.clone()
+    }
+}
+
+impl<A: Allocator + Copy> OwnClone for EcParameters<A> {
+    fn own_clone(&self) -> Result<Self, AllocError> {
+        self.clone()
+    }
+}
+
+impl<A: Allocator + Copy> OwnClone for AlgorithmIdentifier<A> {
+    fn own_clone(&self) -> Result<Self, AllocError> {
+        self.clone()
+    }
+}
+
+/// The nonce of authenticated encryption, and the length of its integrity check value.
+const NONCE: Field<'static> = Field {
+    around: &[0],
+    start: 2,
+    tags: &[0x04],
+};
+
+const ICV_LEN: Field<'static> = Field {
+    around: &[0],
+    start: 5,
+    tags: &[0x02],
+};
+
+/// Any INTEGER is read, also a negative one.
+const AUTHENTICATED: Table<'static> = Table {
+    strict: &[("30070401aa02020080", 3), ("30060401aa0201ff", 3)],
+    rows: &[Row {
+        input: "30060401aa020100",
+        strict: "30060401aa020100",
+        places: &[],
+        headers: 3,
+        fields: &[NONCE, ICV_LEN],
+    }],
+    refused: &[
+        "30030401aa",
+        "3003020100",
+        "30060201000401aa",
+        "30070401aa0202007f",
+        "30080401aa0201000500",
+        "31060401aa020100",
+    ],
+};
+
+/// NULL, an initialization vector, and what authenticated encryption takes.
+const AES: Table<'static> = Table {
+    strict: &[
+        ("0500", 1),
+        ("040ca5a5a5a5a5a5a5a5a5a5a5a5", 1),
+        ("3011040cffffffffffffffffffffffff02010c", 3),
+    ],
+    rows: &[],
+    refused: &["050100", "020100", "3000", "0601", "05000500"],
+};
+
+/// The curve P-256, and any other identifier.
+const CURVES: Table<'static> = Table {
+    strict: &[("06082a8648ce3d030107", 1), ("06012a", 1)],
+    rows: &[],
+    refused: &["0500", "0600", "300306012a", "060180"],
+};
+
+/// An identifier for which no other stands, since the parameters are its own.
+const IDENTIFIER: Field<'static> = Field {
+    around: &[0],
+    start: 2,
+    tags: &[],
+};
+
+/// The identifier of an RSA key, with NULL.
+const RSA: &str = "300d06092a864886f70d0101010500";
+
+/// RSASSA-PSS with SHA-256, and a salt of 32 bytes.
+const PSS: &str =
+    "304106092a864886f70d01010a3034a00f300d06096086480165030402010500a11c301a06092a864886f70d010108300d06096086480165030402010500a203020120";
+
+/// The same with the NULL of both hash functions left out.
+const PSS_WITHOUT_NULL: &str =
+    "303d06092a864886f70d01010a3030a00d300b0609608648016503040201a11a301806092a864886f70d010108300b0609608648016503040201a203020120";
+
+const ROWS: &[Row<'static>] = &[
+    Row {
+        input: RSA,
+        strict: RSA,
+        places: &[],
+        headers: 3,
+        fields: &[
+            IDENTIFIER,
+            Field {
+                around: &[0],
+                start: 13,
+                tags: &[0x05],
+            },
+        ],
+    },
+    Row {
+        input: "300b06092a864886f70d010101",
+        strict: RSA,
+        places: &[(Deviation::RsaParametersAbsent, 0, 13)],
+        headers: 2,
+        fields: &[IDENTIFIER],
+    },
+    Row {
+        input: PSS_WITHOUT_NULL,
+        strict: PSS,
+        places: &[
+            (Deviation::HashNullAbsent, 17, 30),
+            (Deviation::HashNullAbsent, 45, 58),
+        ],
+        headers: 13,
+        fields: &[],
+    },
+    Row {
+        input: "300d06096086480165030401010500",
+        strict: "300d06096086480165030401010500",
+        places: &[],
+        headers: 3,
+        fields: &[
+            IDENTIFIER,
+            Field {
+                around: &[0],
+                start: 13,
+                tags: &[0x04, 0x05],
+            },
+        ],
+    },
+    Row {
+        input: "301306072a8648ce3d020106082a8648ce3d040302",
+        strict: "301306072a8648ce3d020106082a8648ce3d040302",
+        places: &[],
+        headers: 3,
+        fields: &[
+            IDENTIFIER,
+            Field {
+                around: &[0],
+                start: 11,
+                tags: &[0x06],
+            },
+        ],
+    },
+];
+
+const ALGORITHMS: Table<'static> = Table {
+    strict: &[
+        (PSS, 15),
+        ("300b0609608648016503040129", 2),
+        ("30190609608648016503040101040ca5a5a5a5a5a5a5a5a5a5a5a5", 3),
+        (
+            "301e06096086480165030401013011040cffffffffffffffffffffffff02010c",
+            5,
+        ),
+        ("300d06096086480165030402080500", 3),
+        ("300906052b0e03021a0500", 3),
+        ("300b0609608648016503040311", 2),
+        ("300506032b6570", 2),
+        ("300906072a8648ce380403", 2),
+        ("300d060960864801650304030e0500", 3),
+    ],
+    rows: ROWS,
+    refused: &[
+        "300e06092a864886f70d010101050100",
+        "300d06092a864886f70d0101010400",
+        "300f06092a864886f70d01010105000500",
+        "300b0609608648016503040201",
+        "300b06072a8648ce3804030500",
+        "300d06092a864886f70d0101040500",
+        "300c06082a864886f70d02050500",
+        "300a06086086480165030401",
+        "300c060860864801650304020500",
+        "300906072a8648ce3d0201",
+        "300b06072a8648ce3d02010500",
+        "300b06092a864886f70d01010a",
+        "300d06092a864886f70d01010a0500",
+        "300d06096086480165030403110500",
+        "300e0609608648016503040129020100",
+        "3003060129",
+        "310d06092a864886f70d0101010500",
+        "3000",
+    ],
+};
+
+/// The test of this name, over any such allocator.
+fn aes_parameters_hold_over<A: Heap>(rt: &impl Abort, heap: A) {
+    all_hold::<A, AesAuthEncParams<A>>(rt, heap, &AUTHENTICATED);
+    all_hold::<A, AesParameters<A>>(rt, heap, &AES);
+}
+
+#[test]
+fn aes_parameters_hold(rt: HostRuntime) {
+    let heap = Refusing::new(rt.alloc());
+    aes_parameters_hold_over(&rt, &heap);
+}
+
+/// The test of this name, over any such allocator.
+fn curves_hold_over<A: Heap>(rt: &impl Abort, heap: A) {
+    all_hold::<A, EcParameters<A>>(rt, heap, &CURVES);
+}
+
+#[test]
+fn curves_hold(rt: HostRuntime) {
+    let heap = Refusing::new(rt.alloc());
+    curves_hold_over(&rt, &heap);
+}
+
+/// The test of this name, over any such allocator.
+fn algorithms_hold_over<A: Heap>(rt: &impl Abort, heap: A) {
+    all_hold::<A, AlgorithmIdentifier<A>>(rt, heap, &ALGORITHMS);
+}
+
+#[test]
+fn algorithms_hold(rt: HostRuntime) {
+    let heap = Refusing::new(rt.alloc());
+    algorithms_hold_over(&rt, &heap);
+}
