@@ -7,6 +7,8 @@ mod checks;
 mod directory_strings;
 mod elements;
 mod equality;
+mod extension_lists;
+mod extensions;
 mod first_fields;
 mod general_names;
 mod identifiers;

@@ -5,6 +5,7 @@ mod attributes;
 mod character_strings;
 mod clones;
 mod elements;
+mod extension_lists;
 mod extensions;
 mod fields;
 mod forms;

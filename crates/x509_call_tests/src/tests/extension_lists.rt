@@ -246,9 +246,9 @@ fn attributes_are_made(rt: HostRuntime) {
 }
 
 /// Octets DE AD BE EF of 2.5.29.32, which isn't known, not critical and critical.
-const GENERIC: &[u8] = b"\x30\x0B\x06\x03\x55\x1D\x20\x04\x04\xDE\xAD\xBE\xEF".as_slice();
+const GENERIC: &[u8] = b"\x30\x0B\x06\x03\x55\x1D\x20\x04\x04\xDE\xAD\xBE\xEF";
 
-const CRITICAL: &[u8] = b"\x30\x0E\x06\x03\x55\x1D\x20\x01\x01\xFF\x04\x04\xDE\xAD\xBE\xEF".as_slice();
+const CRITICAL: &[u8] = b"\x30\x0E\x06\x03\x55\x1D\x20\x01\x01\xFF\x04\x04\xDE\xAD\xBE\xEF";
 
 /// Whether the extension is critical is told, and changed with nothing else; no memory is asked for.
 fn critical_is_changed_over<A: Heap>(rt: &impl Abort, heap: A) {
