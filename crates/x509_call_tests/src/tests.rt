@@ -11,6 +11,7 @@ mod extension_lists;
 mod extensions;
 mod first_fields;
 mod general_names;
+mod hash_algorithms;
 mod identifiers;
 mod keys;
 mod lists;
