@@ -7,4 +7,6 @@ pub use Rattle.picky_asn1_x509_parts.specs.facts.ExtensionListFacts
 pub use Rattle.picky_asn1_x509_parts.specs.facts.KeyAuthorityFacts
 pub use Rattle.picky_asn1_x509_parts.specs.facts.KeyAuthorityLaws
 pub use Rattle.picky_asn1_x509_parts.specs.facts.KeyUsages
+pub use Rattle.picky_asn1_x509_parts.specs.facts.SameAttributes
 pub use Rattle.picky_asn1_x509_parts.specs.facts.SameAuthorities
+pub use Rattle.picky_asn1_x509_parts.specs.facts.SameExtensions
