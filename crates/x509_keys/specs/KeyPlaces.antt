@@ -82,7 +82,7 @@ pub record RsaPrivateAt {A : Type 0} (k : RsaPrivateKey A) (n : ℕ) (slice stri
   pub bytes : slice ≡ element 48 content
   pub numbers_at : NumbersAt (private_numbers k) (n + header content) content string y
 
--- the version, the secret, the curve and the point of an elliptic curve key that stands behind n bytes, each behind the others
+-- the parts of an elliptic curve key that stands behind n bytes: the version, the secret, the curve and the point
 pub record EcPrivateAt {A : Type 0} (k : ECPrivateKey A) (n : ℕ) (slice string : List ℕ) (y : Tally) : Type 0 where
   pub content : List ℕ
   pub bytes : slice ≡ element 48 content

@@ -1,16 +1,15 @@
 -- Where the parts of private keys stand.
-use Rattle.std.proofs.Common.{◌≡◌, ◌∙◌, ap, sym, subst, refl, ℕ, ◌+◌, List, [], ◌∷◌, ◌++◌, length}
+use Rattle.std.proofs.Common.{◌∙◌, ap, sym, subst, refl, ℕ, ◌+◌, List, [], ◌∷◌, ◌++◌, length}
 use Rattle.std.proofs.lemmas.List.{append-nil}
 use Rattle.x509_der.specs.Element.{header}
 use Rattle.x509_der.specs.Fields.{Stands}
-use Rattle.x509_der.specs.Optional.{OptionalAt}
 use Rattle.x509_der.specs.PrimitiveContent.{octets}
 use Rattle.x509_der.specs.Shape.{Shape}
 use Rattle.x509_der.specs.Tagged.{ContentAt, tagged}
 use Rattle.x509_der.specs.Tally.{Tally}
 use Rattle.x509_keys.specs.declared.ec_private_key.ECPrivateKey.{ECPrivateKey}
 use Rattle.x509_keys.specs.declared.rsa_private_key.RsaPrivateKey.{RsaPrivateKey}
-use Rattle.x509_keys.specs.EcPrivateKeys.{EcFields, ec_curve, ec_key_of, ec_key_parts, ec_point, ec_private_key}
+use Rattle.x509_keys.specs.EcPrivateKeys.{EcFields, ec_key_of, ec_private_key}
 use Rattle.x509_keys.specs.KeyPlaces.{NumbersAt, RsaPrivateAt, EcPrivateAt}
 use Rattle.x509_keys.specs.PrivateKeyValues.{private_by_kind}
 use Rattle.x509_keys.specs.RsaPrivateKeys.{Number, number_and, rsa_private_key}
