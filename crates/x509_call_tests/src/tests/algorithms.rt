@@ -482,15 +482,37 @@ fn identifier<A: Heap>(rt: &impl Abort, heap: A, arcs: &[u64]) -> ObjectIdentifi
     ObjectIdentifier::from_arcs(heap, arcs).expect(rt, "lawful arcs")
 }
 
+/// Two identifiers, by arcs.
+fn two<A: Heap>(
+    rt: &impl Abort,
+    heap: A,
+    first: &[u64],
+    second: &[u64],
+) -> Vec<ObjectIdentifier<A>, A> {
+    let mut both = Vec::with_capacity(heap, 2).expect(rt, "memory");
+    is_so(rt, both.push(identifier(rt, heap, first)).is_ok(), "memory");
+    is_so(
+        rt,
+        both.push(identifier(rt, heap, second)).is_ok(),
+        "memory",
+    );
+    both
+}
+
 /// An algorithm identifier and its parameters are looked at without memory.
 fn algorithms_are_looked_at_over<A: Heap>(rt: &impl Abort, heap: A) {
     let value = curve(heap).expect(rt, CURVE);
     let key = identifier(rt, heap, &[1, 2, 840, 10045, 2, 1]);
     let named = identifier(rt, heap, &[1, 2, 840, 10045, 4, 3, 2]);
-    let others = [identifier(rt, heap, &[1, 2, 840, 10045, 2]), named];
+    let others = two(
+        rt,
+        heap,
+        &[1, 2, 840, 10045, 2],
+        &[1, 2, 840, 10045, 4, 3, 2],
+    );
     heap.refuse_all();
     is_so(rt, curve_answers(&value, &key, &others), "an algorithm");
-    is_so(rt, has_curve(value.parameters(), &others[1]), "a curve");
+    is_so(rt, has_curve(value.parameters(), &named), "a curve");
     same(rt, &heap.requests(), &0, "requests");
     heap.refuse(0);
 }
@@ -501,16 +523,28 @@ fn algorithms_are_looked_at(rt: HostRuntime) {
     algorithms_are_looked_at_over(&rt, &heap);
 }
 
+/// Whether the algorithm is one of these, and not of the first alone.
+fn is_behind_the_first<A: Allocator>(
+    value: &AlgorithmIdentifier<A>,
+    others: &[ObjectIdentifier<A>],
+) -> bool {
+    match others.get(..1) {
+        Some(first) => value.is_one_of(others) && !value.is_one_of(first),
+        None => false,
+    }
+}
+
 /// An algorithm is one of several where it stands behind others too.
 fn algorithms_are_found_over<A: Heap>(rt: &impl Abort, heap: A) {
     let value = curve(heap).expect(rt, CURVE);
-    let others = [
-        identifier(rt, heap, &[1, 2, 840, 10045, 4, 3, 2]),
-        identifier(rt, heap, &[1, 2, 840, 10045, 2, 1]),
-    ];
+    let others = two(
+        rt,
+        heap,
+        &[1, 2, 840, 10045, 4, 3, 2],
+        &[1, 2, 840, 10045, 2, 1],
+    );
     heap.refuse_all();
-    is_so(rt, value.is_one_of(&others), "the second");
-    is_so(rt, !value.is_one_of(&others[..1]), "the first");
+    is_so(rt, is_behind_the_first(&value, &others), "the second");
     same(rt, &heap.requests(), &0, "requests");
     heap.refuse(0);
 }
