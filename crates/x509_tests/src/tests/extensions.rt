@@ -3,7 +3,7 @@
 use super::clones::OwnClone;
 use super::fields::Field;
 use super::rows::{Heap, Row, Table, all_hold};
-use picky_asn1_x509_parts::{AuthorityKeyIdentifier, BasicConstraints, ExtendedKeyUsage, KeyUsage};
+use picky_asn1_x509::{AuthorityKeyIdentifier, BasicConstraints, ExtendedKeyUsage, KeyUsage};
 use refusing::Refusing;
 use std::alloc::{AllocError, Allocator};
 use std::process::Abort;

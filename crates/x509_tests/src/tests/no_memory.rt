@@ -1,7 +1,7 @@
 //! Types whose values take no memory, read with every request refused.
 
 use super::rows::{Heap, READINGS, bytes_of, read_by};
-use picky_asn1_x509_parts::BasicConstraints;
+use picky_asn1_x509::BasicConstraints;
 use refusing::Refusing;
 use std::process::Abort;
 use x509_der::{FromDer, ReadError};
