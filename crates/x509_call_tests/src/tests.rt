@@ -10,6 +10,7 @@ mod equality;
 mod first_fields;
 mod general_names;
 mod identifiers;
+mod keys;
 mod lists;
 mod memory;
 mod names;

@@ -11,6 +11,7 @@ mod forms;
 mod general_names;
 mod hash_algorithms;
 mod identifiers;
+mod keys;
 mod lists;
 mod names;
 mod no_memory;

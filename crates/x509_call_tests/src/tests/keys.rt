@@ -80,7 +80,7 @@ fn is_written<T: ToDer>(value: &T, bytes: &[u8]) -> bool {
 }
 
 /// What a run showed that should make a value that is written as these bytes.
-fn made_turn<T: ToDer>(answer: Result<T, AllocError>, bytes: &[u8]) -> Turn {
+fn made_turn<T: ToDer + Drop>(answer: Result<T, AllocError>, bytes: &[u8]) -> Turn {
     match answer {
         Ok(value) => Turn::right(is_written(&value, bytes)),
         Err(AllocError) => Turn::Refused,
