@@ -8,3 +8,7 @@ pub use Rattle.picky_asn1_x509_parts.specs.facts.KeyAuthorityFacts
 pub use Rattle.picky_asn1_x509_parts.specs.facts.KeyAuthorityLaws
 pub use Rattle.picky_asn1_x509_parts.specs.facts.KeyUsages
 pub use Rattle.picky_asn1_x509_parts.specs.facts.SameAuthorities
+pub mod Certificates
+pub mod OlderCertificates
+pub mod Requests
+pub mod TbsCertificates
