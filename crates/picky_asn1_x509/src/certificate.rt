@@ -6,7 +6,7 @@ ghost use Rattle.x509_der.specs.FirstField.{FirstPart};
 ghost use Rattle.x509_der.specs.laws.Structure.{structure_lawful, structure_element};
 ghost use Rattle.picky_asn1_x509_parts.specs.Extensions.{subject_key_arcs, authority_key_arcs, constraints_arcs};
 ghost use Rattle.picky_asn1_x509.specs.Certificates.{signature_fields, certificate_parts, certificate_base, certificate, certificate_bytes};
-ghost use Rattle.picky_asn1_x509.specs.LookUps.{first_of, held_by, subject_key_in, authority_key_in, constraints_in};
+ghost use Rattle.picky_asn1_x509.specs.LookUps.{has_identifier, first_of, held_by, subject_key_in, authority_key_in, constraints_in};
 ghost use Rattle.picky_asn1_x509.specs.TbsCertificates.{tbs_certificate};
 ghost use Rattle.picky_asn1_x509.specs.facts.Certificates.{certificate_same, certificate_agrees};
 
@@ -37,6 +37,13 @@ pub struct Certificate<A: Allocator = Global> {
     pub signature_value: BitStringAsn1<A>,
 }
 
+/// Whether an extension has an identifier.
+fn is_identified<A: Allocator>(extension: &Extension<A>, arcs: &[u64]) -> bool
+    ensures { result ≡ has_identifier arcs.now extension.now }
+{
+    extension.extn_id().0.is_arcs(arcs)
+}
+
 /// The first extension with an identifier.
 fn first_extension<'a, A: Allocator>(
     extensions: &'a [Extension<A>],
@@ -46,7 +53,7 @@ fn first_extension<'a, A: Allocator>(
         (λ e. first_of arcs.now extensions.now ≡ Some e.now) }
 {
     for extension in extensions {
-        if extension.extn_id().0.is_arcs(arcs) {
+        if is_identified(extension, arcs) {
             return Some(extension);
         }
     }

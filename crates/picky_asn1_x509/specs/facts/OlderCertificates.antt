@@ -1,8 +1,8 @@
 -- What the form without unique identifiers spells, the full one spells with none.
 use Rattle.std.specs.Prelude.{◌&&◌}
-use Rattle.std.proofs.Common.{◌≡◌, ◌∙◌, refl, ap, sym, ℕ, true, List, [], ◌++◌, Option, Some, None}
+use Rattle.std.proofs.Common.{◌≡◌, ◌∙◌, refl, ap, sym, ℕ, Bool, true, List, [], ◌++◌, Option, Some, None}
 use Rattle.x509_der.specs.Types.{Deviation}
-use Rattle.x509_der.specs.Join.{Joined}
+use Rattle.x509_der.specs.Join.{Joined, join}
 use Rattle.x509_der.specs.Optional.{optional}
 use Rattle.x509_der.specs.Shape.{Shape}
 use Rattle.x509_der.specs.Tally.{Tally, none}
@@ -28,9 +28,12 @@ no_ids V3 = refl
 abbrev wider : {A : Type 0} → OlderFields A → TbsFields A
 wider f = (f.0, (f.1.0, (None, (None, f.1.1))))
 
+abbrev later : {A : Type 0} → Shape (Option (List Bool) × Option (List (ExtensionFields A)))
+later = join (λ j. j.0) (λ j. j.1) (optional subject_id_field) (optional extensions_field)
+
 wider_end : {A : Type 0} (es : Option (List (ExtensionFields A))) (p : List ℕ) (y : Tally) → (optional extensions_field).spelled es p y → ends.spelled (None, (None, es)) p y
-wider_end es p y h =
-    none_before issuer_id_field _ (None, es) p y
+wider_end {A} es p y h =
+    none_before issuer_id_field (later {A = A}) (None, es) p y
     (none_before subject_id_field (optional extensions_field) es p y h)
 
 wider_inner : {A : Type 0} (f : OlderFields A) (p : List ℕ) (y : Tally) → older_inner.spelled f p y → tbs_inner.spelled (wider f) p y
