@@ -4,13 +4,14 @@ use super::Heap;
 use super::checks::{is_so, same, same_bytes};
 use picky_asn1_x509::certificate::{Certificate, TbsCertificate};
 use picky_asn1_x509::certification_request::{CertificationRequest, CertificationRequestInfo};
-use picky_asn1_x509::name::Name;
-use picky_asn1_x509::subject_public_key_info::SubjectPublicKeyInfo;
-use picky_asn1_x509::{Attribute, BitString, Deviation, ReadError, SignedRead, from_bytes, to_vec};
+use picky_asn1_x509::{Attribute, SignedRead};
 use refusing::{Refusing, Turn};
-use std::alloc::Allocator;
 use std::process::Abort;
-use x509_der::{ObjectIdentifier, ToDer, write_to_slice};
+use x509_der::{
+    BitString, Deviation, ObjectIdentifier, ReadError, ToDer, from_bytes, to_vec, write_to_slice,
+};
+use x509_keys::SubjectPublicKeyInfo;
+use x509_names::{Name, Version};
 
 /// A certificate, where its signed part ends, how many deviations stand inside of that, and what is written of it.
 struct SignedRow<'a> {
@@ -266,7 +267,7 @@ fn requests_take_attributes(rt: HostRuntime) {
 fn misfits_are_refused_over<A: Heap>(rt: &impl Abort, heap: A) {
     let input = decoded(rt, heap, CONSTRAINED);
     let mut read = from_bytes::<Certificate<A>, A>(heap, input.as_slice()).expect(rt, "one");
-    read.tbs_certificate.version = picky_asn1_x509::Version::V2;
+    read.tbs_certificate.version = Version::V2;
     let written = to_vec(heap, &read).expect(rt, "memory");
     let again = from_bytes::<Certificate<A>, A>(heap, written.as_slice());
     is_so(rt, again.is_err(), "version 2 has no extensions");
