@@ -15,7 +15,17 @@ import sys
 FOLDERS = ("must-fail", "more-edits")
 
 # How many edits the gate tries in these crates together, at most.
-BUDGETS = [(50, ["x509_der"]), (35, ["x509_der_parts"]), (40, ["x509_prim", "x509_prim_parts"])]
+BUDGETS = [
+    (25, ["x509_der"]),
+    (20, ["x509_der_parts"]),
+    (20, ["x509_prim", "x509_prim_parts"]),
+    (30, ["x509_names", "x509_names_parts"]),
+    (35, ["x509_keys_parts"]),
+    (25, ["x509_keys"]),
+    (40, ["picky_asn1_x509_parts"]),
+    (30, ["picky_asn1_x509"]),
+    (20, ["x509_der_structures", "x509_der_structures_parts"]),
+]
 
 
 class BadEdit(Exception):

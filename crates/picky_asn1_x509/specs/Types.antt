@@ -2,8 +2,6 @@
 pub use Rattle.picky_asn1_x509_parts.specs.declared.attribute.Attribute.{Attribute}
 pub use Rattle.picky_asn1_x509_parts.specs.declared.attribute.AttributeValues.{AttributeValues}
 pub use Rattle.picky_asn1_x509_parts.specs.declared.attribute.AttributeValues.TheVariants as attribute_values
-pub use Rattle.picky_asn1_x509_parts.specs.declared.extension.ExtensionKind.{ExtensionKind}
-pub use Rattle.picky_asn1_x509_parts.specs.declared.extension.ExtensionKind.TheVariants as extension_kind
 pub use Rattle.picky_asn1_x509_parts.specs.declared.extension.ExtensionValue.{ExtensionValue}
 pub use Rattle.picky_asn1_x509_parts.specs.declared.extension.ExtensionValue.TheVariants as extension_value
 pub use Rattle.picky_asn1_x509_parts.specs.declared.extension.ExtensionView.{ExtensionView}

@@ -12,3 +12,5 @@ pub mod Certificates
 pub mod OlderCertificates
 pub mod Requests
 pub mod TbsCertificates
+pub use Rattle.picky_asn1_x509_parts.specs.facts.SameAttributes
+pub use Rattle.picky_asn1_x509_parts.specs.facts.SameExtensions

@@ -65,7 +65,7 @@ impl<A: Allocator> Certificate<A> {
     pub fn extensions(&self) -> &[Extension<A>]
         ensures { result.now ≡ self.now.tbs_certificate.extensions }
     {
-        self.tbs_certificate.extensions.0.0.as_slice()
+        self.tbs_certificate.extensions.0.as_slice()
     }
 
     /// The identifier of the certified key (RFC 5280, 4.2.1.2): what the first extension holds that has the identifier

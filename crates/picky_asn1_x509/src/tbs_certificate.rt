@@ -245,7 +245,7 @@ fn lent_bits<N: Tag, A: Allocator>(
 fn is_empty<A: Allocator>(extensions: &Extensions<A>) -> bool
     ensures { result ≡ is_nil extensions.now }
 {
-    extensions.0.0.is_empty()
+    extensions.0.is_empty()
 }
 
 /// Extensions under their tag, to be written: none where the list is empty.

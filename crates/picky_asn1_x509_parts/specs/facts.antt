@@ -7,4 +7,6 @@ pub mod ExtensionListFacts
 pub mod KeyAuthorityFacts
 pub mod KeyAuthorityLaws
 pub mod KeyUsages
+pub mod SameAttributes
 pub mod SameAuthorities
+pub mod SameExtensions

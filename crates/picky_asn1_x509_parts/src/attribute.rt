@@ -7,6 +7,7 @@ ghost use Rattle.picky_asn1_x509_parts.specs.RequestAttributes.{extension_reques
 ghost use Rattle.picky_asn1_x509_parts.specs.facts.AttributeSame.{attribute_same};
 ghost use Rattle.picky_asn1_x509_parts.specs.declared.attribute.AttributeValues.TheVariants as value;
 
+use crate::basic_constraints::BasicConstraints;
 use crate::extension::Extension;
 use crate::extensions::Extensions;
 use std::alloc::{AllocError, Allocator, Global};
@@ -15,8 +16,9 @@ use x509_der::parts::{
 };
 use x509_der::{
     Asn1RawDer, Asn1SequenceOf, Asn1SetOf, CloneEq, FromDer, ObjectIdentifierAsn1, OctetStringAsn1,
-    ReadError, ToDer, TooLong,
+    ReadError, SameEq, ToDer, TooLong,
 };
+use x509_names::{DirectoryString, GeneralName, Name};
 use x509_oids_objects as oids;
 use x509_prim::{UTCTime, UtcTimeAsn1};
 
@@ -80,6 +82,28 @@ impl<A: Allocator + Copy> CloneEq for AttributeValues<A> {
             AttributeValues::Custom(element) => Ok(AttributeValues::Custom(element.clone_eq()?)),
         }
     }
+}
+
+impl<A: Allocator> SameEq for AttributeValues<A> {
+    ghost use Rattle.std.proofs.Common.{rules};
+    ghost use Rattle.std.specs.Cmp.Lexicographic.{bytes_decides, pointwise_decides};
+    ghost use Rattle.x509_names.specs.facts.EdiPartyNames.{parties_decide};
+    ghost use Rattle.x509_names.specs.facts.OtherNames.{others_decide};
+    ghost use Rattle.x509_names.specs.facts.SameGeneralNames.{general_names_decide};
+    ghost use Rattle.picky_asn1_x509_parts.specs.facts.SameAttributes.{attribute_values_decide};
+    ghost use Rattle.picky_asn1_x509_parts.specs.facts.SameExtensions.{extensions_decide};
+
+    ghost decides = { attribute_values_decide ⟦<AttributeValues<A> as PartialEq>⟧.eq
+        {E = ⟦<Extension<A> as PartialEq>⟧.eq} {T = ⟦<UtcTimeAsn1 as PartialEq>⟧.eq}
+        (λ v w. Prim.search (rules))
+        (extensions_decide ⟦<Extension<A> as PartialEq>⟧.eq
+        {G = ⟦<GeneralName<A> as PartialEq>⟧.eq} {C = ⟦<BasicConstraints as PartialEq>⟧.eq}
+        (λ i j b c v w. Prim.search (rules)) (general_names_decide ⟦<GeneralName<A> as PartialEq>⟧.eq
+        {N = ⟦<Name<A> as PartialEq>⟧.eq} (λ x y. Prim.search (rules)) others_decide (pointwise_decides
+        (pointwise_decides (λ x y. Prim.search (rules, bytes_decides))))
+        (parties_decide {E = ⟦<DirectoryString<A> as PartialEq>⟧.eq}
+        (λ x y. Prim.search (rules, bytes_decides)))) (λ x y. Prim.search (rules)))
+        (λ x y. Prim.search (rules)) };
 }
 
 /// What an object identifier says of the values.
@@ -267,6 +291,29 @@ impl<A: Allocator + Copy> CloneEq for Attribute<A> {
         let value = self.value.clone_eq()?;
         Ok(Attribute { ty, value })
     }
+}
+
+impl<A: Allocator> SameEq for Attribute<A> {
+    ghost use Rattle.std.proofs.Common.{rules};
+    ghost use Rattle.std.specs.Cmp.Lexicographic.{bytes_decides, pointwise_decides};
+    ghost use Rattle.x509_names.specs.facts.EdiPartyNames.{parties_decide};
+    ghost use Rattle.x509_names.specs.facts.OtherNames.{others_decide};
+    ghost use Rattle.x509_names.specs.facts.SameGeneralNames.{general_names_decide};
+    ghost use Rattle.picky_asn1_x509_parts.specs.facts.SameAttributes.{attribute_values_decide, attributes_decide};
+    ghost use Rattle.picky_asn1_x509_parts.specs.facts.SameExtensions.{extensions_decide};
+
+    ghost decides = { attributes_decide {E = ⟦<AttributeValues<A> as PartialEq>⟧.eq}
+        (attribute_values_decide ⟦<AttributeValues<A> as PartialEq>⟧.eq
+        {E = ⟦<Extension<A> as PartialEq>⟧.eq} {T = ⟦<UtcTimeAsn1 as PartialEq>⟧.eq}
+        (λ v w. Prim.search (rules))
+        (extensions_decide ⟦<Extension<A> as PartialEq>⟧.eq
+        {G = ⟦<GeneralName<A> as PartialEq>⟧.eq} {C = ⟦<BasicConstraints as PartialEq>⟧.eq}
+        (λ i j b c v w. Prim.search (rules)) (general_names_decide ⟦<GeneralName<A> as PartialEq>⟧.eq
+        {N = ⟦<Name<A> as PartialEq>⟧.eq} (λ x y. Prim.search (rules)) others_decide (pointwise_decides
+        (pointwise_decides (λ x y. Prim.search (rules, bytes_decides))))
+        (parties_decide {E = ⟦<DirectoryString<A> as PartialEq>⟧.eq}
+        (λ x y. Prim.search (rules, bytes_decides)))) (λ x y. Prim.search (rules)))
+        (λ x y. Prim.search (rules))) };
 }
 
 /// A set of one item.

@@ -21,9 +21,9 @@ use x509_der::parts::{
 };
 use x509_der::{
     CloneEq, Deviation, FromDer, IntegerAsn1, ObjectIdentifierAsn1, OctetStringAsn1,
-    OctetStringAsn1Container, ReadError, ToDer, TooLong,
+    OctetStringAsn1Container, ReadError, SameEq, ToDer, TooLong,
 };
-use x509_names::{GeneralName, GeneralNames};
+use x509_names::{DirectoryString, GeneralName, GeneralNames, Name};
 use x509_oids_objects as oids;
 
 /// The value of an extension, in an OCTET STRING.
@@ -100,6 +100,23 @@ impl<A: Allocator + Copy> CloneEq for ExtensionValue<A> {
             ExtensionValue::CrlNumber(number) => Ok(ExtensionValue::CrlNumber(number.clone_eq()?)),
         }
     }
+}
+
+impl<A: Allocator> SameEq for ExtensionValue<A> {
+    ghost use Rattle.std.proofs.Common.{rules};
+    ghost use Rattle.std.specs.Cmp.Lexicographic.{bytes_decides, pointwise_decides};
+    ghost use Rattle.x509_names.specs.facts.EdiPartyNames.{parties_decide};
+    ghost use Rattle.x509_names.specs.facts.OtherNames.{others_decide};
+    ghost use Rattle.x509_names.specs.facts.SameGeneralNames.{general_names_decide};
+    ghost use Rattle.picky_asn1_x509_parts.specs.facts.SameExtensions.{values_decide};
+
+    ghost decides = { values_decide ⟦<ExtensionValue<A> as PartialEq>⟧.eq
+        {G = ⟦<GeneralName<A> as PartialEq>⟧.eq} {C = ⟦<BasicConstraints as PartialEq>⟧.eq}
+        (λ v w. Prim.search (rules)) (general_names_decide ⟦<GeneralName<A> as PartialEq>⟧.eq
+        {N = ⟦<Name<A> as PartialEq>⟧.eq} (λ x y. Prim.search (rules)) others_decide (pointwise_decides
+        (pointwise_decides (λ x y. Prim.search (rules, bytes_decides))))
+        (parties_decide {E = ⟦<DirectoryString<A> as PartialEq>⟧.eq}
+        (λ x y. Prim.search (rules, bytes_decides)))) (λ x y. Prim.search (rules)) };
 }
 
 /// What an object identifier says of the value.
@@ -621,6 +638,23 @@ impl<A: Allocator + Copy> CloneEq for Extension<A> {
             extn_value,
         })
     }
+}
+
+impl<A: Allocator> SameEq for Extension<A> {
+    ghost use Rattle.std.proofs.Common.{rules};
+    ghost use Rattle.std.specs.Cmp.Lexicographic.{bytes_decides, pointwise_decides};
+    ghost use Rattle.x509_names.specs.facts.EdiPartyNames.{parties_decide};
+    ghost use Rattle.x509_names.specs.facts.OtherNames.{others_decide};
+    ghost use Rattle.x509_names.specs.facts.SameGeneralNames.{general_names_decide};
+    ghost use Rattle.picky_asn1_x509_parts.specs.facts.SameExtensions.{extensions_decide};
+
+    ghost decides = { extensions_decide ⟦<Extension<A> as PartialEq>⟧.eq
+        {G = ⟦<GeneralName<A> as PartialEq>⟧.eq} {C = ⟦<BasicConstraints as PartialEq>⟧.eq}
+        (λ i j b c v w. Prim.search (rules)) (general_names_decide ⟦<GeneralName<A> as PartialEq>⟧.eq
+        {N = ⟦<Name<A> as PartialEq>⟧.eq} (λ x y. Prim.search (rules)) others_decide (pointwise_decides
+        (pointwise_decides (λ x y. Prim.search (rules, bytes_decides))))
+        (parties_decide {E = ⟦<DirectoryString<A> as PartialEq>⟧.eq}
+        (λ x y. Prim.search (rules, bytes_decides)))) (λ x y. Prim.search (rules)) };
 }
 
 /// The fields, owned.

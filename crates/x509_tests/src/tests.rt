@@ -6,6 +6,7 @@ mod certificates;
 mod character_strings;
 mod clones;
 mod elements;
+mod extension_lists;
 mod extensions;
 mod fields;
 mod forms;

@@ -6,6 +6,7 @@ ghost use Rattle.x509_tool.specs.Output.{Answers, AnswersAs, served_name, listed
 
 use crate::fault::ToolFault;
 use crate::report::report;
+use picky_asn1_x509::Extensions;
 use std::alloc::Allocator;
 use x509_der::{FromDer, read_counted, to_vec};
 use x509_keys::{
@@ -18,6 +19,8 @@ use x509_names::Name;
 pub enum Served {
     /// `algorithm`.
     Algorithm,
+    /// `extensions`.
+    Extensions,
     /// `name`.
     Name,
     /// `private-key`.
@@ -36,6 +39,7 @@ impl Served {
     {
         match type_name {
             "algorithm" => Some(Served::Algorithm),
+            "extensions" => Some(Served::Extensions),
             "name" => Some(Served::Name),
             "private-key" => Some(Served::PrivateKey),
             "public-key" => Some(Served::PublicKey),
@@ -57,6 +61,7 @@ impl Served {
     {
         match self {
             Served::Algorithm => answer::<AlgorithmIdentifier<A>, A>(alloc, bytes),
+            Served::Extensions => answer::<Extensions<A>, A>(alloc, bytes),
             Served::Name => answer::<Name<A>, A>(alloc, bytes),
             Served::PrivateKey => answer::<PrivateKeyInfo<A>, A>(alloc, bytes),
             Served::PublicKey => answer::<SubjectPublicKeyInfo<A>, A>(alloc, bytes),

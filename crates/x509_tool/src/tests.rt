@@ -59,6 +59,21 @@ fn names_print(rt: HostRuntime) {
 }
 
 #[test]
+fn extensions_print(rt: HostRuntime) {
+    let heap = Refusing::new(rt.alloc());
+    let empty = "3000\n0 0 0 0 0 0 0 0 0 0\n";
+    prints_as(&rt, &heap, "extensions", b"3000\n", empty);
+    let spelled = b"300E300C0603551D1301010004023000\n";
+    let written = "300b30090603551d1304023000\n0 0 0 0 0 0 1 0 0 0\n";
+    prints_as(&rt, &heap, "extensions", spelled, written);
+    let disordered = b"3011300f0603551d2304083006820101800100";
+    let ordered = "3011300f0603551d2304083006800100820101\n0 0 0 0 0 0 0 1 0 0\n";
+    prints_as(&rt, &heap, "extensions", disordered, ordered);
+    let left_over = b"300d300b0603551d13040430000500";
+    faults_as(&rt, &heap, "extensions", left_over, ToolFault::Refused);
+}
+
+#[test]
 fn algorithms_print(rt: HostRuntime) {
     let heap = Refusing::new(rt.alloc());
     let absent = b"300B06092A864886F70D010101\n";

@@ -20,7 +20,11 @@ same_parts {A} x y h =
     ap (λ k. let v : KeyAuthority A = record { key_identifier = y.key_identifier; issuer = k; serial_number = x.serial_number } in v) h.1.0 in
     by_key ∙ by_issuer ∙ ap (λ k. let v : KeyAuthority A = record { key_identifier = y.key_identifier; issuer = y.issuer; serial_number = k } in v) h.1.1
 
-pub authorities_decide : {A : Type 0} {E : GeneralName A → GeneralName A → Bool} → ((a b : GeneralName A) → Decides (E a b) (a ≡ b)) → (x y : KeyAuthority A) → Decides (option_eq (pointwise nat_eq) x.key_identifier y.key_identifier && (option_eq E x.issuer y.issuer && option_eq (pointwise nat_eq) x.serial_number y.serial_number)) (x ≡ y)
+-- the same three parts
+abbrev pub authority_eq : {A : Type 0} → (GeneralName A → GeneralName A → Bool) → KeyAuthority A → KeyAuthority A → Bool
+authority_eq E x y = option_eq (pointwise nat_eq) x.key_identifier y.key_identifier && (option_eq E x.issuer y.issuer && option_eq (pointwise nat_eq) x.serial_number y.serial_number)
+
+pub authorities_decide : {A : Type 0} {E : GeneralName A → GeneralName A → Bool} → ((a b : GeneralName A) → Decides (E a b) (a ≡ b)) → (x y : KeyAuthority A) → Decides (authority_eq E x y) (x ≡ y)
 authorities_decide {E = E} d x y =
     let k = option_eq (pointwise nat_eq) x.key_identifier y.key_identifier in
     let n = option_eq E x.issuer y.issuer in

@@ -4,7 +4,7 @@
 use std::alloc::Global;
 use std::fmt::Debug;
 use std::process::Abort;
-use x509_der::ObjectIdentifier;
+use x509_der::{ObjectIdentifier, ToDer, write_to_slice};
 
 /// The two are equal.
 pub(super) fn same<T: PartialEq + Debug>(rt: &impl Abort, left: &T, right: &T, what: &str) {
@@ -19,6 +19,15 @@ pub(super) fn same_bytes(rt: &impl Abort, bytes: &[u8], stated: &[u8], what: &st
 /// It is so.
 pub(super) fn is_so(rt: &impl Abort, is_right: bool, what: &str) {
     assert!(rt; is_right, "{what}");
+}
+
+/// Whether the value is written as these bytes, 64 at most. Takes no memory.
+pub(super) fn is_written<T: ToDer>(value: &T, stated: &[u8]) -> bool {
+    let mut room = [0u8; 64];
+    match write_to_slice(value, room.as_mut_slice()) {
+        Ok(len) => len == stated.len() && room.starts_with(stated),
+        Err(_refused) => false,
+    }
 }
 
 /// What the text spells in hexadecimal.

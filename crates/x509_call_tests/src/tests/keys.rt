@@ -9,7 +9,10 @@ use x509_der::{
     BitString, IntegerAsn1, ObjectIdentifier, OctetStringAsn1, OidError, ReadError, ToDer,
     from_bytes, write_to_slice,
 };
-use x509_keys::{PrivateKeyInfo, RsaPrivateKey, SubjectPublicKeyInfo};
+use x509_keys::{
+    PRIVATE_KEY_INFO_VERSION_1, PRIVATE_KEY_INFO_VERSION_2, PrivateKeyInfo, RsaPrivateKey,
+    SubjectPublicKeyInfo,
+};
 
 /// An RSA key of 5 and 3, with its algorithm.
 const RSA_SUBJECT: &[u8] = &[
@@ -179,19 +182,35 @@ fn rsa_info<A: Allocator + Copy>(
     )
 }
 
-/// What a run showed that should read the numbers and make the key.
-fn rsa_turn<A: Allocator + Copy>(alloc: A) -> Turn {
-    match from_bytes::<RsaPrivateKey<A>, A>(alloc, RSA_KEY) {
-        Ok(key) => made_turn(rsa_info(alloc, key), RSA_INFO),
+/// An RSA key of the version 0 and eight numbers 1.
+const RSA_KEY_OF_ONES: &[u8] = &[
+    0x30, 0x1B, 0x02, 0x01, 0x00, 0x02, 0x01, 0x01, 0x02, 0x01, 0x01, 0x02, 0x01, 0x01, 0x02, 0x01,
+    0x01, 0x02, 0x01, 0x01, 0x02, 0x01, 0x01, 0x02, 0x01, 0x01, 0x02, 0x01, 0x01,
+];
+
+/// The same with its algorithm.
+const RSA_INFO_OF_ONES: &[u8] = &[
+    0x30, 0x31, 0x02, 0x01, 0x00, 0x30, 0x0D, 0x06, 0x09, 0x2A, 0x86, 0x48, 0x86, 0xF7, 0x0D, 0x01,
+    0x01, 0x01, 0x05, 0x00, 0x04, 0x1D, 0x30, 0x1B, 0x02, 0x01, 0x00, 0x02, 0x01, 0x01, 0x02, 0x01,
+    0x01, 0x02, 0x01, 0x01, 0x02, 0x01, 0x01, 0x02, 0x01, 0x01, 0x02, 0x01, 0x01, 0x02, 0x01, 0x01,
+    0x02, 0x01, 0x01,
+];
+
+/// What a run showed that should read the numbers of a key and make what is written as these bytes.
+fn rsa_turn<A: Allocator + Copy>(alloc: A, numbers: &[u8], bytes: &[u8]) -> Turn {
+    match from_bytes::<RsaPrivateKey<A>, A>(alloc, numbers) {
+        Ok(key) => made_turn(rsa_info(alloc, key), bytes),
         Err(ReadError::OutOfMemory) => Turn::Refused,
         Err(_other) => Turn::Wrong,
     }
 }
 
-/// The test of this name, over any such allocator.
+/// The numbers are taken in their order, and both versions are 0.
 fn rsa_private_keys_are_made_over<A: Heap>(rt: &impl Abort, heap: A) {
-    let requests = heap.in_turn(|| rsa_turn(heap));
-    is_so(rt, requests.is_some(), "an RSA key");
+    let requests = heap.in_turn(|| rsa_turn(heap, RSA_KEY, RSA_INFO));
+    is_so(rt, requests.is_some(), "the numbers 1 to 8");
+    let requests = heap.in_turn(|| rsa_turn(heap, RSA_KEY_OF_ONES, RSA_INFO_OF_ONES));
+    is_so(rt, requests.is_some(), "eight numbers 1");
 }
 
 #[test]
@@ -259,45 +278,75 @@ fn bare_private_keys_take_no_memory(rt: HostRuntime) {
     );
 }
 
-/// The key of the numbers 1 to 8.
-fn numbered(rt: &impl Abort, alloc: Global) -> RsaPrivateKey {
-    from_bytes::<RsaPrivateKey, Global>(alloc, RSA_KEY).expect(rt, "an RSA key")
+/// The key of the numbers 1 to 8, behind which each request for memory is refused.
+fn numbered<A: Heap>(rt: &impl Abort, heap: A) -> RsaPrivateKey<A> {
+    heap.refuse(0);
+    let key = from_bytes::<RsaPrivateKey<A>, A>(heap, RSA_KEY).expect(rt, "an RSA key");
+    heap.refuse_all();
+    key
 }
 
 /// The integer is this byte.
-fn is_byte(rt: &impl Abort, number: &IntegerAsn1, byte: u8) {
+fn is_byte<A: Allocator>(rt: &impl Abort, number: &IntegerAsn1<A>, byte: u8) {
     same_bytes(rt, number.as_bytes(), &[byte], "a number of the key");
+}
+
+/// The test of this name, over any such allocator.
+fn numbers_of_keys_are_lent_over<A: Heap>(rt: &impl Abort, heap: A) {
+    let key = numbered(rt, heap);
+    is_byte(rt, key.modulus(), 1);
+    is_byte(rt, key.public_exponent(), 2);
+    is_byte(rt, key.private_exponent(), 3);
+    is_byte(rt, key.prime_1(), 4);
+    is_byte(rt, key.prime_2(), 5);
+    is_byte(rt, key.exponent_1(), 6);
+    is_byte(rt, key.exponent_2(), 7);
+    is_byte(rt, key.coefficient(), 8);
+    is_so(rt, heap.requests() == 0, "no memory");
 }
 
 #[test]
 fn numbers_of_keys_are_lent(rt: HostRuntime) {
-    let key = numbered(&rt, rt.alloc());
-    is_byte(&rt, key.modulus(), 1);
-    is_byte(&rt, key.public_exponent(), 2);
-    is_byte(&rt, key.private_exponent(), 3);
-    is_byte(&rt, key.prime_1(), 4);
-    is_byte(&rt, key.prime_2(), 5);
-    is_byte(&rt, key.exponent_1(), 6);
-    is_byte(&rt, key.exponent_2(), 7);
-    is_byte(&rt, key.coefficient(), 8);
+    let heap = Refusing::new(rt.alloc());
+    numbers_of_keys_are_lent_over(&rt, &heap);
+}
+
+/// The test of this name, over any such allocator.
+fn pairs_of_keys_are_lent_over<A: Heap>(rt: &impl Abort, heap: A) {
+    let key = numbered(rt, heap);
+    let (prime_1, prime_2) = key.primes();
+    is_byte(rt, prime_1, 4);
+    is_byte(rt, prime_2, 5);
+    let (exponent_1, exponent_2) = key.exponents();
+    is_byte(rt, exponent_1, 6);
+    is_byte(rt, exponent_2, 7);
+    is_so(rt, heap.requests() == 0, "no memory");
 }
 
 #[test]
 fn pairs_of_keys_are_lent(rt: HostRuntime) {
-    let key = numbered(&rt, rt.alloc());
-    let (prime_1, prime_2) = key.primes();
-    is_byte(&rt, prime_1, 4);
-    is_byte(&rt, prime_2, 5);
-    let (exponent_1, exponent_2) = key.exponents();
-    is_byte(&rt, exponent_1, 6);
-    is_byte(&rt, exponent_2, 7);
+    let heap = Refusing::new(rt.alloc());
+    pairs_of_keys_are_lent_over(&rt, &heap);
+}
+
+/// The test of this name, over any such allocator.
+fn public_components_are_taken_out_over<A: Heap>(rt: &impl Abort, heap: A) {
+    let (modulus, public_exponent) = numbered(rt, heap).into_public_components();
+    is_byte(rt, &modulus, 1);
+    is_byte(rt, &public_exponent, 2);
+    is_so(rt, heap.requests() == 0, "no memory");
 }
 
 #[test]
 fn public_components_are_taken_out(rt: HostRuntime) {
-    let (modulus, public_exponent) = numbered(&rt, rt.alloc()).into_public_components();
-    is_byte(&rt, &modulus, 1);
-    is_byte(&rt, &public_exponent, 2);
+    let heap = Refusing::new(rt.alloc());
+    public_components_are_taken_out_over(&rt, &heap);
+}
+
+#[test]
+fn versions_have_their_numbers(rt: HostRuntime) {
+    is_so(&rt, PRIVATE_KEY_INFO_VERSION_1 == 0, "without a public key");
+    is_so(&rt, PRIVATE_KEY_INFO_VERSION_2 == 1, "with a public key");
 }
 
 /// What is read of an encoding with a skipped element is the same as of one without.

@@ -254,10 +254,13 @@ fn values_are_wrapped(rt: HostRuntime) {
     values_are_wrapped_over(&rt, &heap);
 }
 
-/// The letter a is printable, and the same when it is wrapped.
+/// The letter a is printable, and its byte is moved out of the wrapped string.
 fn printable_answers<A: Allocator + Copy>(made: Result<PrintableString<A>, CharSetError>) -> bool {
     match made {
-        Ok(string) => PrintableStringAsn1::from(string).as_bytes() == b"a".as_slice(),
+        Ok(string) => {
+            let bytes = PrintableStringAsn1::from(string).into_bytes();
+            bytes.as_slice() == b"a".as_slice()
+        }
         Err(_other) => false,
     }
 }

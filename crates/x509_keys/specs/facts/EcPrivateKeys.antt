@@ -20,7 +20,7 @@ pub point_apart : (c : ℕ) → eqb c 161 ≡ true → (false || eqb c 160) ≡ 
 point_apart c h = grind (arith, nat_tests)
 
 -- the fields are those of what they mean, whose version is 1
-means_ec_key : {A : Type 0} (f : EcFields A) (v : ECPrivateKey A) (ks : List Deviation) → ec_key_means f ≡ Some (v, ks) → (is_one f.0 ≡ true) × ((f ≡ ec_key_parts v) × ([] ≡ ks))
+pub means_ec_key : {A : Type 0} (f : EcFields A) (v : ECPrivateKey A) (ks : List Deviation) → ec_key_means f ≡ Some (v, ks) → (is_one f.0 ≡ true) × ((f ≡ ec_key_parts v) × ([] ≡ ks))
 means_ec_key f v ks e = let r = was_read (is_one f.0) (ec_key_of f) v [] ks e in (r.0, (ap ec_key_parts r.1.0, r.1.1))
 
 pub ec_key_is : {A : Type 0} → IsMeaning (ec_key_meaning {A = A}) ec_key_base

@@ -22,17 +22,17 @@ same_private E F (key.ED u) (key.Rsa w) = false
 same_private E F (key.ED u) (key.EC w) = false
 same_private E F (key.ED u) (key.ED w) = pointwise nat_eq u w
 
-abbrev rsa_or : {A : Type 0} → RsaPrivateKey A → PrivateKeyValue A → RsaPrivateKey A
+abbrev pub rsa_or : {A : Type 0} → RsaPrivateKey A → PrivateKeyValue A → RsaPrivateKey A
 rsa_or u (key.Rsa w) = w
 rsa_or u (key.EC w) = u
 rsa_or u (key.ED w) = u
 
-abbrev ec_or : {A : Type 0} → ECPrivateKey A → PrivateKeyValue A → ECPrivateKey A
+abbrev pub ec_or : {A : Type 0} → ECPrivateKey A → PrivateKeyValue A → ECPrivateKey A
 ec_or u (key.Rsa w) = u
 ec_or u (key.EC w) = w
 ec_or u (key.ED w) = u
 
-abbrev ed_or : {A : Type 0} → List ℕ → PrivateKeyValue A → List ℕ
+abbrev pub ed_or : {A : Type 0} → List ℕ → PrivateKeyValue A → List ℕ
 ed_or u (key.Rsa w) = u
 ed_or u (key.EC w) = u
 ed_or u (key.ED w) = w

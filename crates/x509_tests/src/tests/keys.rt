@@ -1,13 +1,16 @@
 //! Public and private keys.
 
 use super::clones::OwnClone;
-use super::fields::Field;
-use super::rows::{Heap, Row, Table, all_hold};
+use super::fields::{ANY, Field};
+use super::rows::{Heap, Row, Table, all_hold, bytes_of, copies_agree, is_written};
 use refusing::Refusing;
 use std::alloc::{AllocError, Allocator};
 use std::process::Abort;
-use x509_der::Deviation;
-use x509_keys::{ECPrivateKey, PrivateKeyInfo, RsaPrivateKey, RsaPublicKey, SubjectPublicKeyInfo};
+use x509_der::{Deviation, from_bytes};
+use x509_keys::{
+    ECPrivateKey, PrivateKeyInfo, PrivateKeyValue, PublicKey, RsaPrivateKey, RsaPublicKey,
+    SubjectPublicKeyInfo,
+};
 
 impl<A: Allocator + Copy> OwnClone for RsaPublicKey<A> {
     fn own_clone(&self) -> Result<Self, AllocError> {
@@ -22,6 +25,18 @@ impl<A: Allocator + Copy> OwnClone for RsaPrivateKey<A> {
 }
 
 impl<A: Allocator + Copy> OwnClone for ECPrivateKey<A> {
+    fn own_clone(&self) -> Result<Self, AllocError> {
+        self.clone()
+    }
+}
+
+impl<A: Allocator + Copy> OwnClone for PublicKey<A> {
+    fn own_clone(&self) -> Result<Self, AllocError> {
+        self.clone()
+    }
+}
+
+impl<A: Allocator + Copy> OwnClone for PrivateKeyValue<A> {
     fn own_clone(&self) -> Result<Self, AllocError> {
         self.clone()
     }
@@ -90,8 +105,6 @@ const SUBJECTS: Table<'static> = Table {
         ("300a300506032b656e030100", 4),
         ("300a300506032b6571030100", 4),
         ("300a300506032b656f030100", 4),
-        ("3018301306072a8648ce3d020106082a8648ce3d030107030100", 5),
-        ("3010300b0609608648016503040311030100", 4),
         ("3010300b0609608648016503040312030100", 4),
         ("3010300b0609608648016503040313030100", 4),
     ],
@@ -108,8 +121,64 @@ const SUBJECTS: Table<'static> = Table {
                     tags: &[],
                 },
                 Field {
+                    around: &[0, 2],
+                    start: 4,
+                    tags: &[],
+                },
+                Field {
                     around: &[0],
                     start: 9,
+                    tags: &[0x03],
+                },
+            ],
+        },
+        Row {
+            input: "3018301306072a8648ce3d020106082a8648ce3d030107030100",
+            strict: "3018301306072a8648ce3d020106082a8648ce3d030107030100",
+            places: &[],
+            headers: 5,
+            fields: &[
+                Field {
+                    around: &[0],
+                    start: 2,
+                    tags: &[],
+                },
+                Field {
+                    around: &[0, 2],
+                    start: 4,
+                    tags: &[],
+                },
+                Field {
+                    around: &[0, 2],
+                    start: 13,
+                    tags: &[0x06],
+                },
+                Field {
+                    around: &[0],
+                    start: 23,
+                    tags: &[0x03],
+                },
+            ],
+        },
+        Row {
+            input: "3010300b0609608648016503040311030100",
+            strict: "3010300b0609608648016503040311030100",
+            places: &[],
+            headers: 4,
+            fields: &[
+                Field {
+                    around: &[0],
+                    start: 2,
+                    tags: &[],
+                },
+                Field {
+                    around: &[0, 2],
+                    start: 4,
+                    tags: &[],
+                },
+                Field {
+                    around: &[0],
+                    start: 15,
                     tags: &[0x03],
                 },
             ],
@@ -120,6 +189,11 @@ const SUBJECTS: Table<'static> = Table {
             places: &[],
             headers: 8,
             fields: &[
+                Field {
+                    around: &[0],
+                    start: 2,
+                    tags: &[],
+                },
                 Field {
                     around: &[0],
                     start: 17,
@@ -147,7 +221,18 @@ const SUBJECTS: Table<'static> = Table {
             strict: RSA_SUBJECT,
             places: &[(Deviation::RsaParametersAbsent, 2, 15)],
             headers: 7,
-            fields: &[],
+            fields: &[
+                Field {
+                    around: &[0],
+                    start: 15,
+                    tags: &[],
+                },
+                Field {
+                    around: &[0, 15, 18],
+                    start: 20,
+                    tags: &[0x02],
+                },
+            ],
         },
     ],
     refused: &[
@@ -175,17 +260,63 @@ fn keys_with_algorithms(rt: HostRuntime) {
 
 /// Eight numbers 1, with the versions 0 and 1; seven and nine of them are refused.
 const RSA_PRIVATE_KEYS: Table<'static> = Table {
-    strict: &[
-        (
-            "301b020100020101020101020101020101020101020101020101020101",
-            10,
-        ),
-        (
-            "301b020101020101020101020101020101020101020101020101020101",
-            10,
-        ),
-    ],
-    rows: &[],
+    strict: &[(
+        "301b020101020101020101020101020101020101020101020101020101",
+        10,
+    )],
+    rows: &[Row {
+        input: "301b020100020101020101020101020101020101020101020101020101",
+        strict: "301b020100020101020101020101020101020101020101020101020101",
+        places: &[],
+        headers: 10,
+        fields: &[
+            Field {
+                around: &[0],
+                start: 2,
+                tags: &[0x02],
+            },
+            Field {
+                around: &[0],
+                start: 5,
+                tags: &[0x02],
+            },
+            Field {
+                around: &[0],
+                start: 8,
+                tags: &[0x02],
+            },
+            Field {
+                around: &[0],
+                start: 11,
+                tags: &[0x02],
+            },
+            Field {
+                around: &[0],
+                start: 14,
+                tags: &[0x02],
+            },
+            Field {
+                around: &[0],
+                start: 17,
+                tags: &[0x02],
+            },
+            Field {
+                around: &[0],
+                start: 20,
+                tags: &[0x02],
+            },
+            Field {
+                around: &[0],
+                start: 23,
+                tags: &[0x02],
+            },
+            Field {
+                around: &[0],
+                start: 26,
+                tags: &[0x02],
+            },
+        ],
+    }],
     refused: &[
         "3018020100020101020101020101020101020101020101020101",
         "301e020100020101020101020101020101020101020101020101020101020101",
@@ -219,13 +350,28 @@ const EC_PRIVATE_KEYS: Table<'static> = Table {
         fields: &[
             Field {
                 around: &[0],
+                start: 2,
+                tags: &[],
+            },
+            Field {
+                around: &[0],
                 start: 5,
                 tags: &[0x04],
+            },
+            Field {
+                around: &[0],
+                start: 8,
+                tags: &[],
             },
             Field {
                 around: &[0, 8],
                 start: 10,
                 tags: &[0x06],
+            },
+            Field {
+                around: &[0],
+                start: 20,
+                tags: &[],
             },
             Field {
                 around: &[0, 20],
@@ -271,31 +417,160 @@ const RSA_INFO_TWICE: &str =
 
 const INFOS: Table<'static> = Table {
     strict: &[
-        (RSA_INFO, 16),
-        (ED_INFO, 6),
         ("300f020101300506032b657104030401aa", 6),
+        ("300f020100300506032b656e04030401aa", 6),
+        ("300f020100300506032b656f04030401aa", 6),
         (ED_INFO_WITH_KEY, 8),
-        ("3015020101300506032b657004030401aaa104030200bb", 8),
         (
             "3022020100301306072a8648ce3d020106082a8648ce3d030107040830060201010401aa",
             9,
         ),
-        (
-            "302e020100301306072a8648ce3d020106082a8648ce3d030107041430120201010401aaa00a06082a8648ce3d030107",
-            11,
-        ),
     ],
     rows: &[
+        Row {
+            input: ED_INFO,
+            strict: ED_INFO,
+            places: &[],
+            headers: 6,
+            fields: &[
+                Field {
+                    around: &[0],
+                    start: 2,
+                    tags: &[],
+                },
+                Field {
+                    around: &[0],
+                    start: 5,
+                    tags: &[],
+                },
+                Field {
+                    around: &[0],
+                    start: 12,
+                    tags: &[],
+                },
+                Field {
+                    around: &[0, 12],
+                    start: 14,
+                    tags: &[0x04],
+                },
+            ],
+        },
+        Row {
+            input: "3015020101300506032b657004030401aaa104030200bb",
+            strict: "3015020101300506032b657004030401aaa104030200bb",
+            places: &[],
+            headers: 8,
+            fields: &[
+                Field {
+                    around: &[0],
+                    start: 17,
+                    tags: ANY,
+                },
+                Field {
+                    around: &[0, 17],
+                    start: 19,
+                    tags: &[0x03],
+                },
+            ],
+        },
+        Row {
+            input: RSA_INFO,
+            strict: RSA_INFO,
+            places: &[],
+            headers: 16,
+            fields: &[
+                Field {
+                    around: &[0],
+                    start: 2,
+                    tags: &[],
+                },
+                Field {
+                    around: &[0],
+                    start: 5,
+                    tags: &[],
+                },
+                Field {
+                    around: &[0],
+                    start: 20,
+                    tags: &[],
+                },
+                Field {
+                    around: &[0, 20],
+                    start: 22,
+                    tags: &[],
+                },
+                Field {
+                    around: &[0, 20, 22],
+                    start: 24,
+                    tags: &[0x02],
+                },
+                Field {
+                    around: &[0, 20, 22],
+                    start: 48,
+                    tags: &[0x02],
+                },
+            ],
+        },
+        Row {
+            input: "302e020100301306072a8648ce3d020106082a8648ce3d030107041430120201010401aaa00a06082a8648ce3d030107",
+            strict: "302e020100301306072a8648ce3d020106082a8648ce3d030107041430120201010401aaa00a06082a8648ce3d030107",
+            places: &[],
+            headers: 11,
+            fields: &[
+                Field {
+                    around: &[0],
+                    start: 26,
+                    tags: &[],
+                },
+                Field {
+                    around: &[0, 26],
+                    start: 28,
+                    tags: &[],
+                },
+                Field {
+                    around: &[0, 26, 28],
+                    start: 30,
+                    tags: &[],
+                },
+                Field {
+                    around: &[0, 26, 28],
+                    start: 33,
+                    tags: &[0x04],
+                },
+                Field {
+                    around: &[0, 26, 28],
+                    start: 36,
+                    tags: &[],
+                },
+                Field {
+                    around: &[0, 26, 28, 36],
+                    start: 38,
+                    tags: &[0x06],
+                },
+            ],
+        },
         Row {
             input: "3011020100300506032b657004030401aaa000",
             strict: ED_INFO,
             places: &[(Deviation::SkippedKeyElement, 0, 19)],
             headers: 7,
-            fields: &[Field {
-                around: &[0],
-                start: 12,
-                tags: &[],
-            }],
+            fields: &[
+                Field {
+                    around: &[0],
+                    start: 2,
+                    tags: &[],
+                },
+                Field {
+                    around: &[0],
+                    start: 12,
+                    tags: &[],
+                },
+                Field {
+                    around: &[0],
+                    start: 17,
+                    tags: ANY,
+                },
+            ],
         },
         Row {
             input: "3017020100300506032b657004030401aaa000a104030200bb",
@@ -309,6 +584,16 @@ const INFOS: Table<'static> = Table {
                     tags: &[0x04],
                 },
                 Field {
+                    around: &[0],
+                    start: 17,
+                    tags: ANY,
+                },
+                Field {
+                    around: &[0],
+                    start: 19,
+                    tags: &[],
+                },
+                Field {
                     around: &[0, 19],
                     start: 21,
                     tags: &[0x03],
@@ -320,7 +605,11 @@ const INFOS: Table<'static> = Table {
             strict: ED_INFO,
             places: &[(Deviation::SkippedKeyElement, 0, 21)],
             headers: 7,
-            fields: &[],
+            fields: &[Field {
+                around: &[0],
+                start: 17,
+                tags: ANY,
+            }],
         },
         Row {
             input: RSA_INFO_TWICE,
@@ -330,7 +619,18 @@ const INFOS: Table<'static> = Table {
                 (Deviation::RsaParametersAbsent, 5, 18),
             ],
             headers: 16,
-            fields: &[],
+            fields: &[
+                Field {
+                    around: &[0, 18, 20],
+                    start: 22,
+                    tags: &[0x02],
+                },
+                Field {
+                    around: &[0],
+                    start: 49,
+                    tags: ANY,
+                },
+            ],
         },
     ],
     refused: &[
@@ -339,11 +639,15 @@ const INFOS: Table<'static> = Table {
         "3013020100300506032b657004030401aaa1020500",
         "3011020100300506032b657004030401aa1f00",
         "3011020100300506032b657004030401aaa100",
+        "3017020100300506032b657004030401aaa106030200bb0500",
+        "3017020100300506032b657004030401aaa104030200bba000",
+        "301d020100300506032b657004030401aaa104030200bba104030200bb",
         "300f020102300506032b657004030401aa",
         "3031020102300d06092a864886f70d0101010500041d301b020100020101020101020101020101020101020101020101020101",
         "302e020100300d06092a864886f70d0101010500041a3018020100020101020101020101020101020101020101020101",
         "3034020100300d06092a864886f70d01010105000420301e020100020101020101020101020101020101020101020101020101020101",
         "3015020100300b060960864801650304031104030401aa",
+        "3017020100300d0609608648016503040201050004030401aa",
         "300d020100300506032b65700401aa",
         "3022020100301306072a8648ce3d020106082a8648ce3d030107040830060201000401aa",
     ],
@@ -358,4 +662,77 @@ fn private_keys_with_algorithms_over<A: Heap>(rt: &impl Abort, heap: A) {
 fn private_keys_with_algorithms(rt: HostRuntime) {
     let heap = Refusing::new(rt.alloc());
     private_keys_with_algorithms_over(&rt, &heap);
+}
+
+/// Keys with their algorithms, and what is written of each key by itself.
+const PUBLIC_KEYS: &[(&str, &str)] = &[
+    (RSA_SUBJECT, "0309003006020105020103"),
+    (
+        "3019301306072a8648ce3d020106082a8648ce3d030107030200aa",
+        "030200aa",
+    ),
+    ("300b300506032b6570030200bb", "030200bb"),
+    ("3011300b0609608648016503040311030200cc", "030200cc"),
+];
+
+/// The key of the encoding is written by itself as these bytes, and cloned as itself, also where memory is refused.
+fn public_key_alone<A: Heap>(rt: &impl Abort, heap: A, text: &str, alone: &str) {
+    let input = bytes_of(rt, heap, text);
+    let bytes = bytes_of(rt, heap, alone);
+    let value = from_bytes::<SubjectPublicKeyInfo<A>, A>(heap, &input).expect(rt, text);
+    let before = from_bytes::<SubjectPublicKeyInfo<A>, A>(heap, &input).expect(rt, text);
+    let (value, before) = (&value.subject_public_key, &before.subject_public_key);
+    is_written(rt, heap, value, &bytes);
+    copies_agree(rt, heap, value, before, text);
+}
+
+/// The test of this name, over any such allocator.
+fn public_keys_alone_over<A: Heap>(rt: &impl Abort, heap: A) {
+    for (text, alone) in PUBLIC_KEYS {
+        public_key_alone(rt, heap, *text, *alone);
+    }
+}
+
+#[test]
+fn public_keys_alone(rt: HostRuntime) {
+    let heap = Refusing::new(rt.alloc());
+    public_keys_alone_over(&rt, &heap);
+}
+
+/// Keys with their algorithms, and what is written of each private key by itself.
+const PRIVATE_KEYS: &[(&str, &str)] = &[
+    (
+        RSA_INFO,
+        "041d301b020100020101020101020101020101020101020101020101020101",
+    ),
+    (
+        "302e020100301306072a8648ce3d020106082a8648ce3d030107041430120201010401aaa00a06082a8648ce3d030107",
+        "041430120201010401aaa00a06082a8648ce3d030107",
+    ),
+    (ED_INFO_WITH_KEY, "04030401aa"),
+];
+
+/// The private key of the encoding is written by itself as these bytes, and cloned as itself, also where memory is
+/// refused.
+fn private_key_alone<A: Heap>(rt: &impl Abort, heap: A, text: &str, alone: &str) {
+    let input = bytes_of(rt, heap, text);
+    let bytes = bytes_of(rt, heap, alone);
+    let value = from_bytes::<PrivateKeyInfo<A>, A>(heap, &input).expect(rt, text);
+    let before = from_bytes::<PrivateKeyInfo<A>, A>(heap, &input).expect(rt, text);
+    let (value, before) = (&value.private_key, &before.private_key);
+    is_written(rt, heap, value, &bytes);
+    copies_agree(rt, heap, value, before, text);
+}
+
+/// The test of this name, over any such allocator.
+fn private_keys_alone_over<A: Heap>(rt: &impl Abort, heap: A) {
+    for (text, alone) in PRIVATE_KEYS {
+        private_key_alone(rt, heap, *text, *alone);
+    }
+}
+
+#[test]
+fn private_keys_alone(rt: HostRuntime) {
+    let heap = Refusing::new(rt.alloc());
+    private_keys_alone_over(&rt, &heap);
 }

@@ -316,9 +316,14 @@ pub(super) fn writes<A: Heap, T: FromDer<A>>(
     strict: &[u8],
 ) {
     let value = from_bytes::<T, _>(heap, input).expect(rt, "a value");
+    is_written(rt, heap, &value, strict);
+}
+
+/// Every call that writes the value gives these bytes, and takes memory as above.
+pub(super) fn is_written<A: Heap, T: ToDer>(rt: &impl Abort, heap: A, value: &T, strict: &[u8]) {
     let mut room = Vec::from_elem(heap, 0xEEu8, strict.len() + 6).expect(rt, "memory");
-    makes(rt, heap, &value, strict);
-    fills_alone(rt, heap, &value, strict, room.as_mut_slice());
+    makes(rt, heap, value, strict);
+    fills_alone(rt, heap, value, strict, room.as_mut_slice());
 }
 
 /// `to_vec` gives these bytes, and takes memory once.
@@ -388,7 +393,7 @@ fn copies<A: Heap, T: FromDer<A> + OwnClone + PartialEq>(rt: &impl Abort, heap: 
 }
 
 /// Both clones make as many requests.
-fn copies_agree<'v, A: Heap, T: OwnClone + PartialEq>(
+pub(super) fn copies_agree<'v, A: Heap, T: OwnClone + PartialEq>(
     rt: &impl Abort,
     heap: A,
     value: &'v T,

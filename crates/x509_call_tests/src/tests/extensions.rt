@@ -1,7 +1,7 @@
 //! What extensions hold: makers, getters, setters and look-ups.
 
 use super::Heap;
-use super::checks::{is_so, same, same_bytes};
+use super::checks::{is_so, is_written, same, same_bytes};
 use picky_asn1_x509::{AuthorityKeyIdentifier, BasicConstraints, ExtendedKeyUsage, KeyUsage};
 use refusing::{Refusing, Turn};
 use std::alloc::{AllocError, Allocator};
@@ -31,33 +31,13 @@ fn usages_are_made(rt: HostRuntime) {
     usages_are_made_over(&rt, &heap);
 }
 
-/// What a run showed in which the ninth bit of seven should be cleared, which stay as they were where memory is
-/// refused.
-fn lengthened_turn<A: Allocator>(usage: Result<KeyUsage<A>, AllocError>) -> Turn {
-    let Ok(mut usage) = usage else {
-        return Turn::Refused;
-    };
-    match usage.set_decipher_only(false) {
-        Ok(()) => Turn::right(usage.as_bytes() == b"\x00\x00".as_slice()),
-        Err(AllocError) => Turn::stands(usage.as_bytes() == b"\x00".as_slice()),
-    }
-}
-
-/// A setter past the end takes memory, also to clear a bit.
-fn usages_are_lengthened_over<A: Heap>(rt: &impl Abort, heap: A) {
-    let requests = heap.in_turn(|| lengthened_turn(KeyUsage::new(heap, 7)));
-    same(rt, &requests, &Some(2), "requests");
-}
-
-#[test]
-fn usages_are_lengthened(rt: HostRuntime) {
-    let heap = Refusing::new(rt.alloc());
-    usages_are_lengthened_over(&rt, &heap);
-}
-
 /// Sets or clears the bit at a place by the setter of its name.
-fn is_set_to<A: Allocator>(usage: &mut KeyUsage<A>, bit: usize, value: bool) -> bool {
-    let answer = match bit {
+fn set_to<A: Allocator>(
+    usage: &mut KeyUsage<A>,
+    bit: usize,
+    value: bool,
+) -> Result<(), AllocError> {
+    match bit {
         0 => usage.set_digital_signature(value),
         1 => usage.set_content_commitment(value),
         2 => usage.set_key_encipherment(value),
@@ -67,8 +47,79 @@ fn is_set_to<A: Allocator>(usage: &mut KeyUsage<A>, bit: usize, value: bool) -> 
         6 => usage.set_crl_sign(value),
         7 => usage.set_encipher_only(value),
         _ => usage.set_decipher_only(value),
+    }
+}
+
+/// No bits.
+const NONE: &[u8] = b"\x03\x01\x00";
+
+/// What a run showed in which a bit past the end should be changed, after which the usage is written as these bytes; no
+/// bits stand as they were where memory is refused.
+fn lengthened_turn<A: Allocator>(
+    usage: Result<KeyUsage<A>, AllocError>,
+    bit: usize,
+    value: bool,
+    bytes: &[u8],
+) -> Turn {
+    let Ok(mut usage) = usage else {
+        return Turn::Refused;
     };
-    answer.is_ok()
+    match set_to(&mut usage, bit, value) {
+        Ok(()) => Turn::right(is_written(&usage, bytes)),
+        Err(AllocError) => Turn::stands(is_written(&usage, NONE)),
+    }
+}
+
+/// No bits, after the one at a place is set, and after it is cleared.
+const LENGTHENED: &[(usize, &[u8], &[u8])] = &[
+    (0, b"\x03\x02\x07\x80", b"\x03\x02\x07\x00"),
+    (1, b"\x03\x02\x06\x40", b"\x03\x02\x06\x00"),
+    (2, b"\x03\x02\x05\x20", b"\x03\x02\x05\x00"),
+    (3, b"\x03\x02\x04\x10", b"\x03\x02\x04\x00"),
+    (4, b"\x03\x02\x03\x08", b"\x03\x02\x03\x00"),
+    (5, b"\x03\x02\x02\x04", b"\x03\x02\x02\x00"),
+    (6, b"\x03\x02\x01\x02", b"\x03\x02\x01\x00"),
+    (7, b"\x03\x02\x00\x01", b"\x03\x02\x00\x00"),
+    (8, b"\x03\x03\x07\x00\x80", b"\x03\x03\x07\x00\x00"),
+];
+
+/// A setter past the end lengthens to its bit and no further, also to clear it, and takes memory once.
+fn usages_are_lengthened_over<A: Heap>(rt: &impl Abort, heap: A) {
+    for (bit, set, cleared) in LENGTHENED {
+        let requests = heap.in_turn(|| lengthened_turn(KeyUsage::new(heap, 0), *bit, true, *set));
+        same(rt, &requests, &Some(1), "set");
+        let requests = heap.in_turn(|| lengthened_turn(
+            KeyUsage::new(heap, 0),
+            *bit,
+            false,
+            *cleared,
+        ));
+        same(rt, &requests, &Some(1), "cleared");
+    }
+}
+
+#[test]
+fn usages_are_lengthened(rt: HostRuntime) {
+    let heap = Refusing::new(rt.alloc());
+    usages_are_lengthened_over(&rt, &heap);
+}
+
+/// Of seven bits the first and the third are set, within the length.
+fn seven_bits_over<A: Heap>(rt: &impl Abort, heap: A) {
+    let mut usage = KeyUsage::new(heap, 7).expect(rt, "memory");
+    heap.refuse_all();
+    is_so(rt, usage.set_digital_signature(true).is_ok(), "the first");
+    is_so(rt, usage.set_key_encipherment(true).is_ok(), "the third");
+    same_bytes(rt, usage.as_bytes(), b"\xA0", "two of seven");
+    is_so(rt, is_written(&usage, b"\x03\x02\x01\xA0"), "written");
+    same(rt, &heap.requests(), &0, "no request");
+    heap.refuse(0);
+}
+
+#[test]
+fn seven_bits(rt: HostRuntime) {
+    let heap = Refusing::new(rt.alloc());
+    seven_bits_over(&rt, &heap);
 }
 
 /// The bit at a place by the getter of its name.
@@ -101,10 +152,10 @@ const BITS: &[(usize, &[u8])] = &[
 
 /// Of unset bits the one at the place is set, seen and cleared.
 fn is_changed<A: Allocator>(rt: &impl Abort, usage: &mut KeyUsage<A>, bit: usize, bytes: &[u8]) {
-    is_so(rt, is_set_to(usage, bit, true), "set");
+    is_so(rt, set_to(usage, bit, true).is_ok(), "set");
     same_bytes(rt, usage.as_bytes(), bytes, "a bit");
     is_so(rt, bit_of(usage, bit), "seen");
-    is_so(rt, is_set_to(usage, bit, false), "cleared");
+    is_so(rt, set_to(usage, bit, false).is_ok(), "cleared");
     is_so(rt, !bit_of(usage, bit), "gone");
 }
 
@@ -195,6 +246,37 @@ fn purposes_are_looked_up_over<A: Heap>(rt: &impl Abort, heap: A) {
 fn purposes_are_looked_up(rt: HostRuntime) {
     let heap = Refusing::new(rt.alloc());
     purposes_are_looked_up_over(&rt, &heap);
+}
+
+/// A list that was moved is the same as one that was made.
+fn purposes_are_moved_over<A: Heap>(rt: &impl Abort, heap: A) {
+    let list = two_purposes(rt, heap);
+    heap.refuse_all();
+    let usage = ExtendedKeyUsage::from(list);
+    is_so(rt, are_ended_by(&usage, &[1, 2]), "in order");
+    same(rt, &heap.requests(), &0, "no request");
+    heap.refuse(0);
+}
+
+#[test]
+fn purposes_are_moved(rt: HostRuntime) {
+    let heap = Refusing::new(rt.alloc());
+    purposes_are_moved_over(&rt, &heap);
+}
+
+/// A FALSE that is spelled isn't the same as none.
+fn false_is_seen_over<A: Heap>(rt: &impl Abort, heap: A) {
+    heap.refuse_all();
+    let bytes = b"\x30\x03\x01\x01\x00".as_slice();
+    let value = from_bytes::<BasicConstraints, A>(heap, bytes).expect(rt, "constraints");
+    is_so(rt, value.ca() == Some(false), "no authority");
+    same(rt, &heap.requests(), &0, "no request");
+}
+
+#[test]
+fn false_is_seen(rt: HostRuntime) {
+    let heap = Refusing::new(rt.alloc());
+    false_is_seen_over(&rt, &heap);
 }
 
 #[test]

@@ -2,16 +2,16 @@
 //! lent of them.
 
 use super::Heap;
-use super::checks::{is_so, same};
+use super::checks::{is_so, is_written, same};
 use picky_asn1_x509::{
-    Attribute, ExtendedKeyUsage, Extension, ExtensionView, KeyUsage,
+    Attribute, ExtendedKeyUsage, Extension, ExtensionView, Extensions, KeyUsage,
 };
 use refusing::{Refusing, Turn};
 use std::alloc::{AllocError, Allocator};
 use std::process::Abort;
 use x509_der::{
     Asn1SequenceOf, IntegerAsn1, ObjectIdentifier, ObjectIdentifierAsn1, OctetStringAsn1,
-    OctetStringAsn1Container, OidError, ToDer, from_bytes, write_to_slice,
+    OctetStringAsn1Container, OidError, from_bytes,
 };
 use x509_names::GeneralName;
 use x509_prim::{Ia5StringAsn1, UTCTime};
@@ -24,22 +24,13 @@ fn made_turn(is_right: Result<bool, AllocError>) -> Turn {
     }
 }
 
-/// The value is written as these bytes. Takes no memory.
-fn writes<T: ToDer>(value: &T, stated: &[u8]) -> bool {
-    let mut room = [0u8; 64];
-    let Ok(len) = write_to_slice(value, &mut room) else {
-        return false;
-    };
-    &room[..len] == stated
-}
-
 /// Bits 0 and 2 of seven: 2.5.29.15 is critical.
 fn key_usage_is_right<A: Allocator + Copy>(alloc: A) -> Result<bool, AllocError> {
     let mut usage = KeyUsage::new(alloc, 7)?;
     usage.set_digital_signature(true)?;
     usage.set_key_encipherment(true)?;
     let made = Extension::new_key_usage(alloc, usage)?;
-    Ok(writes(
+    Ok(is_written(
         &made,
         b"\x30\x0E\x06\x03\x55\x1D\x0F\x01\x01\xFF\x04\x04\x03\x02\x01\xA0",
     ))
@@ -49,7 +40,7 @@ fn key_usage_is_right<A: Allocator + Copy>(alloc: A) -> Result<bool, AllocError>
 fn subject_key_is_right<A: Allocator + Copy>(alloc: A) -> Result<bool, AllocError> {
     let octets = Vec::from_slice(alloc, &[0xAA])?;
     let made = Extension::new_subject_key_identifier(alloc, octets)?;
-    Ok(writes(&made, b"\x30\x0A\x06\x03\x55\x1D\x0E\x04\x03\x04\x01\xAA"))
+    Ok(is_written(&made, b"\x30\x0A\x06\x03\x55\x1D\x0E\x04\x03\x04\x01\xAA"))
 }
 
 /// The number 1.
@@ -62,7 +53,7 @@ fn authority_key_is_right<A: Allocator + Copy>(alloc: A) -> Result<bool, AllocEr
     let key = OctetStringAsn1(Vec::from_slice(alloc, &[0xAA])?);
     let serial = one(alloc)?;
     let made = Extension::new_authority_key_identifier(alloc, Some(key), None, Some(serial))?;
-    Ok(writes(
+    Ok(is_written(
         &made,
         b"\x30\x0F\x06\x03\x55\x1D\x23\x04\x08\x30\x06\x80\x01\xAA\x82\x01\x01",
     ))
@@ -71,7 +62,7 @@ fn authority_key_is_right<A: Allocator + Copy>(alloc: A) -> Result<bool, AllocEr
 /// An authority with a path length of 3: 2.5.29.19 is critical.
 fn basic_constraints_are_right<A: Allocator + Copy>(alloc: A) -> Result<bool, AllocError> {
     let made = Extension::new_basic_constraints(alloc, Some(true), Some(3))?;
-    Ok(writes(
+    Ok(is_written(
         &made,
         b"\x30\x12\x06\x03\x55\x1D\x13\x01\x01\xFF\x04\x08\x30\x06\x01\x01\xFF\x02\x01\x03",
     ))
@@ -97,7 +88,7 @@ fn purpose_is_right<A: Allocator + Copy>(
     let mut purposes = Vec::with_capacity(alloc, 1)?;
     purposes.push(identifier(alloc, arcs)?)?;
     let made = Extension::new_extended_key_usage(alloc, ExtendedKeyUsage::new(purposes))?;
-    Ok(writes(&made, stated))
+    Ok(is_written(&made, stated))
 }
 
 /// The one DNS name `a`.
@@ -116,7 +107,7 @@ fn dns_names<A: Allocator + Copy>(
 /// Names of the subject are critical.
 fn subject_names_are_right<A: Allocator + Copy>(alloc: A) -> Result<bool, AllocError> {
     let made = Extension::new_subject_alt_name(alloc, dns_names(alloc)?)?;
-    Ok(writes(
+    Ok(is_written(
         &made,
         b"\x30\x0F\x06\x03\x55\x1D\x11\x01\x01\xFF\x04\x05\x30\x03\x82\x01\x61",
     ))
@@ -125,7 +116,7 @@ fn subject_names_are_right<A: Allocator + Copy>(alloc: A) -> Result<bool, AllocE
 /// Names of the issuer aren't.
 fn issuer_names_are_right<A: Allocator + Copy>(alloc: A) -> Result<bool, AllocError> {
     let made = Extension::new_issuer_alt_name(alloc, dns_names(alloc)?)?;
-    Ok(writes(
+    Ok(is_written(
         &made,
         b"\x30\x0C\x06\x03\x55\x1D\x12\x04\x05\x30\x03\x82\x01\x61",
     ))
@@ -134,7 +125,7 @@ fn issuer_names_are_right<A: Allocator + Copy>(alloc: A) -> Result<bool, AllocEr
 /// The number of a revocation list is 1.
 fn crl_number_is_right<A: Allocator + Copy>(alloc: A) -> Result<bool, AllocError> {
     let made = Extension::new_crl_number(alloc, OctetStringAsn1Container(one(alloc)?))?;
-    Ok(writes(&made, b"\x30\x0A\x06\x03\x55\x1D\x14\x04\x03\x02\x01\x01"))
+    Ok(is_written(&made, b"\x30\x0A\x06\x03\x55\x1D\x14\x04\x03\x02\x01\x01"))
 }
 
 /// Each maker of keys and constraints gives what is stated, also where memory is refused.
@@ -160,8 +151,13 @@ fn purposes_are_made_over<A: Heap>(rt: &impl Abort, heap: A) {
     let any = b"\x30\x0F\x06\x03\x55\x1D\x25\x04\x08\x30\x06\x06\x04\x55\x1D\x25\x00".as_slice();
     let made = heap.in_turn(|| made_turn(purpose_is_right(heap, &[2, 5, 29, 37, 0], any)));
     is_so(rt, made.is_some(), "any purpose");
-    let server = b"\x30\x16\x06\x03\x55\x1D\x25\x01\x01\xFF\x04\x0C\x30\x0A\x06\x08\x2B\x06\x01\x05\x05\x07\x03\x01".as_slice();
-    let made = heap.in_turn(|| made_turn(purpose_is_right(heap, &[1, 3, 6, 1, 5, 5, 7, 3, 1], server)));
+    let server =
+        b"\x30\x16\x06\x03\x55\x1D\x25\x01\x01\xFF\x04\x0C\x30\x0A\x06\x08\x2B\x06\x01\x05\x05\x07\x03\x01".as_slice();
+    let made = heap.in_turn(|| made_turn(purpose_is_right(
+        heap,
+        &[1, 3, 6, 1, 5, 5, 7, 3, 1],
+        server,
+    )));
     is_so(rt, made.is_some(), "a server's purpose");
 }
 
@@ -190,7 +186,7 @@ fn names_are_made(rt: HostRuntime) {
 /// A request for no extensions.
 fn request_is_right<A: Allocator + Copy>(alloc: A) -> Result<bool, AllocError> {
     let made = Attribute::new_extension_request(alloc, Vec::new(alloc))?;
-    Ok(writes(
+    Ok(is_written(
         &made,
         b"\x30\x0F\x06\x09\x2A\x86\x48\x86\xF7\x0D\x01\x09\x0E\x31\x02\x30\x00",
     ))
@@ -199,7 +195,7 @@ fn request_is_right<A: Allocator + Copy>(alloc: A) -> Result<bool, AllocError> {
 /// The content type of data.
 fn content_type_is_right<A: Allocator + Copy>(alloc: A) -> Result<bool, AllocError> {
     let made = Attribute::new_content_type_pkcs7(alloc)?;
-    Ok(writes(
+    Ok(is_written(
         &made,
         b"\x30\x18\x06\x09\x2A\x86\x48\x86\xF7\x0D\x01\x09\x03\x31\x0B\x06\x09\x2A\x86\x48\x86\xF7\x0D\x01\x07\x01",
     ))
@@ -211,7 +207,7 @@ fn signing_time_is_right<A: Allocator + Copy>(alloc: A) -> Result<bool, AllocErr
         return Ok(false);
     };
     let made = Attribute::new_signing_time(alloc, time)?;
-    Ok(writes(
+    Ok(is_written(
         &made,
         b"\x30\x1C\x06\x09\x2A\x86\x48\x86\xF7\x0D\x01\x09\x05\x31\x0F\x17\x0D191017174128Z",
     ))
@@ -221,7 +217,7 @@ fn signing_time_is_right<A: Allocator + Copy>(alloc: A) -> Result<bool, AllocErr
 fn digest_is_right<A: Allocator + Copy>(alloc: A) -> Result<bool, AllocError> {
     let octets = Vec::from_slice(alloc, &[0xAA])?;
     let made = Attribute::new_message_digest(alloc, octets)?;
-    Ok(writes(
+    Ok(is_written(
         &made,
         b"\x30\x10\x06\x09\x2A\x86\x48\x86\xF7\x0D\x01\x09\x04\x31\x03\x04\x01\xAA",
     ))
@@ -246,9 +242,9 @@ fn attributes_are_made(rt: HostRuntime) {
 }
 
 /// Octets DE AD BE EF of 2.5.29.32, which isn't known, not critical and critical.
-const GENERIC: &[u8] = b"\x30\x0B\x06\x03\x55\x1D\x20\x04\x04\xDE\xAD\xBE\xEF".as_slice();
+const GENERIC: &[u8] = b"\x30\x0B\x06\x03\x55\x1D\x20\x04\x04\xDE\xAD\xBE\xEF";
 
-const CRITICAL: &[u8] = b"\x30\x0E\x06\x03\x55\x1D\x20\x01\x01\xFF\x04\x04\xDE\xAD\xBE\xEF".as_slice();
+const CRITICAL: &[u8] = b"\x30\x0E\x06\x03\x55\x1D\x20\x01\x01\xFF\x04\x04\xDE\xAD\xBE\xEF";
 
 /// Whether the extension is critical is told, and changed with nothing else; no memory is asked for.
 fn critical_is_changed_over<A: Heap>(rt: &impl Abort, heap: A) {
@@ -256,13 +252,17 @@ fn critical_is_changed_over<A: Heap>(rt: &impl Abort, heap: A) {
     heap.refuse_all();
     is_so(rt, !extension.critical(), "not critical");
     extension.set_critical(true);
-    is_so(rt, extension.critical() && writes(&extension, CRITICAL), "critical");
+    is_so(
+        rt,
+        extension.critical() && is_written(&extension, CRITICAL),
+        "critical",
+    );
     extension.set_critical(false);
-    is_so(rt, writes(&extension, GENERIC), "no more");
+    is_so(rt, is_written(&extension, GENERIC), "no more");
     let extension = extension.into_critical();
-    is_so(rt, writes(&extension, CRITICAL), "critical again");
+    is_so(rt, is_written(&extension, CRITICAL), "critical again");
     let extension = extension.into_non_critical();
-    is_so(rt, writes(&extension, GENERIC), "no more again");
+    is_so(rt, is_written(&extension, GENERIC), "no more again");
     same(rt, &heap.requests(), &0, "requests");
 }
 
@@ -272,28 +272,100 @@ fn critical_is_changed(rt: HostRuntime) {
     critical_is_changed_over(&rt, &heap);
 }
 
-/// The value is lent in this way.
-fn lends<A: Allocator + Copy>(extension: &Extension<A>, constraints: bool) -> bool {
-    match extension.extn_value() {
-        ExtensionView::BasicConstraints(value) => constraints && value.ca().is_none(),
-        ExtensionView::Generic(octets) => !constraints && octets.0.len() == 4,
-        _ => false,
+/// An extension of each variant of the view, in the variants' order.
+const VARIANTS: &[(u8, &[u8])] = &[
+    (
+        0,
+        b"\x30\x0F\x06\x03\x55\x1D\x23\x04\x08\x30\x06\x80\x01\xAA\x82\x01\x01",
+    ),
+    (1, b"\x30\x0A\x06\x03\x55\x1D\x0E\x04\x03\x04\x01\xAA"),
+    (2, b"\x30\x0B\x06\x03\x55\x1D\x0F\x04\x04\x03\x02\x01\xA0"),
+    (
+        3,
+        b"\x30\x0C\x06\x03\x55\x1D\x11\x04\x05\x30\x03\x82\x01\x61",
+    ),
+    (
+        4,
+        b"\x30\x0C\x06\x03\x55\x1D\x12\x04\x05\x30\x03\x82\x01\x61",
+    ),
+    (5, b"\x30\x09\x06\x03\x55\x1D\x13\x04\x02\x30\x00"),
+    (
+        6,
+        b"\x30\x0F\x06\x03\x55\x1D\x25\x04\x08\x30\x06\x06\x04\x55\x1D\x25\x00",
+    ),
+    (7, GENERIC),
+    (8, b"\x30\x0A\x06\x03\x55\x1D\x14\x04\x03\x02\x01\x01"),
+];
+
+/// The place of a variant, where what it lends is what stands in `VARIANTS`.
+fn place_of<A: Allocator>(view: ExtensionView<'_, A>) -> Option<u8> {
+    let (place, is_right) = match view {
+        ExtensionView::AuthorityKeyIdentifier(key) => (0, key.authority_cert_issuer().is_none()),
+        ExtensionView::SubjectKeyIdentifier(key) => (1, key.0.len() == 1),
+        ExtensionView::KeyUsage(usage) => (2, usage.key_encipherment()),
+        ExtensionView::SubjectAltName(names) => (3, names.0.len() == 1),
+        ExtensionView::IssuerAltName(names) => (4, names.0.len() == 1),
+        ExtensionView::BasicConstraints(constraints) => (5, constraints.ca().is_none()),
+        ExtensionView::ExtendedKeyUsage(usage) => (6, usage.iter().next().is_some()),
+        ExtensionView::Generic(octets) => (7, octets.0.len() == 4),
+        ExtensionView::CrlNumber(number) => (8, is_written(&number.0, b"\x02\x01\x01")),
+    };
+    if is_right { Some(place) } else { None }
+}
+
+/// The value of the extension is lent in the variant at this place, and lending it takes no memory.
+fn is_lent<A: Heap>(rt: &impl Abort, heap: A, place: u8, bytes: &[u8]) {
+    let extension = from_bytes::<Extension<A>, A>(heap, bytes).expect(rt, "an extension");
+    heap.refuse_all();
+    let lent = place_of(extension.extn_value());
+    same(rt, &lent, &Some(place), "the variant");
+    same(rt, &heap.requests(), &0, "requests");
+    heap.refuse(0);
+}
+
+/// The variant is the one that the identifier says.
+#[test]
+fn values_are_lent(rt: HostRuntime) {
+    let heap = Refusing::new(rt.alloc());
+    for (place, bytes) in VARIANTS {
+        is_lent(&rt, &heap, *place, *bytes);
     }
 }
 
-/// The variant is the one that the identifier says, and lending it takes no memory.
-fn values_are_lent_over<A: Heap>(rt: &impl Abort, heap: A) {
-    let generic = from_bytes::<Extension<A>, A>(heap, GENERIC).expect(rt, "an extension");
-    let known = Extension::new_basic_constraints(heap, None, Some(3)).expect(rt, "memory");
+/// The identifier is lent.
+fn identifiers_are_lent_over<A: Heap>(rt: &impl Abort, heap: A) {
+    let extension = from_bytes::<Extension<A>, A>(heap, GENERIC).expect(rt, "an extension");
     heap.refuse_all();
-    is_so(rt, lends(&generic, false), "octets");
-    is_so(rt, lends(&known, true), "constraints");
-    is_so(rt, known.extn_id().0.is_arcs(&[2, 5, 29, 19]), "identifier");
+    is_so(
+        rt,
+        extension.extn_id().0.is_arcs(&[2, 5, 29, 32]),
+        "certificate policies",
+    );
     same(rt, &heap.requests(), &0, "requests");
 }
 
 #[test]
-fn values_are_lent(rt: HostRuntime) {
+fn identifiers_are_lent(rt: HostRuntime) {
     let heap = Refusing::new(rt.alloc());
-    values_are_lent_over(&rt, &heap);
+    identifiers_are_lent_over(&rt, &heap);
+}
+
+/// A list of the one extension that isn't known.
+const LIST: &[u8] = b"\x30\x0D\x30\x0B\x06\x03\x55\x1D\x20\x04\x04\xDE\xAD\xBE\xEF";
+
+/// A list is made of a `Vec`, which takes no memory.
+fn lists_are_made_over<A: Heap>(rt: &impl Abort, heap: A) {
+    let mut items = Vec::new(heap);
+    let extension = from_bytes::<Extension<A>, A>(heap, GENERIC).expect(rt, "an extension");
+    is_so(rt, items.push(extension).is_ok(), "memory");
+    heap.refuse_all();
+    let list = Extensions::from(items);
+    is_so(rt, is_written(&list, LIST), "the same items");
+    same(rt, &heap.requests(), &0, "requests");
+}
+
+#[test]
+fn lists_are_made(rt: HostRuntime) {
+    let heap = Refusing::new(rt.alloc());
+    lists_are_made_over(&rt, &heap);
 }
