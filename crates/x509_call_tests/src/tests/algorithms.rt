@@ -463,7 +463,10 @@ fn curve_answers<A: Allocator>(
     others: &[ObjectIdentifier<A>],
 ) -> bool {
     let is_key = value.oid() == key && value.oid_asn1().0 == *key && value.is_a(key);
-    is_key && !value.is_one_of(others) && !value.is_one_of(&[])
+    match others.get(..0) {
+        Some(none) => is_key && !value.is_one_of(others) && !value.is_one_of(none),
+        None => false,
+    }
 }
 
 /// Whether parameters are the curve of this identifier.
