@@ -7,11 +7,11 @@ ghost use Rattle.picky_asn1_x509_parts.specs.Extensions.{extension_bytes};
 
 use crate::basic_constraints::BasicConstraints;
 use crate::extension::Extension;
-use crate::slices::{clone_items, items_len, known_items, write_items};
 use std::alloc::{AllocError, Allocator, Global};
 use std::marker::Model;
 use x509_der::parts::{
-    ContentOf, Field, Reader, SEQUENCE_TAG, ToContent, element_len, write_element,
+    ContentOf, Field, Reader, SEQUENCE_TAG, ToContent, clone_items, element_len, items_len,
+    known_items, write_element, write_items,
 };
 use x509_der::{Asn1SequenceOf, CloneEq, FromDer, ReadError, SameEq, ToDer, TooLong};
 use x509_names::{DirectoryString, GeneralName, Name};

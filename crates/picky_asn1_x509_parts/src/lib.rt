@@ -10,7 +10,6 @@ pub mod extensions;
 pub mod key_identifier;
 pub mod key_usage;
 pub mod laws;
-mod slices;
 
 pub use crate::attribute::{Attribute, AttributeValues, Attributes};
 pub use crate::authority_key_identifier::AuthorityKeyIdentifier;

@@ -50,6 +50,9 @@ pub enum ReadError {
     /// An object identifier or a choice is not one that is understood.
     #[error("the algorithm or the choice is not supported")]
     Unsupported,
+    /// A unique identifier stands in a certificate of version 1.
+    #[error("unique identifiers need version 2")]
+    UniqueIdNeedsV2,
     /// Extensions stand in a certificate that is not of version 3.
     #[error("extensions need version 3")]
     ExtensionsNeedV3,

@@ -8,8 +8,8 @@ ghost use Rattle.x509_keys.specs.facts.EcPrivateKeys.{ec_key_is, ec_key_one, poi
 use crate::public_key::EncapsulatedEcPoint;
 use std::alloc::{AllocError, Allocator, Global};
 use x509_der::parts::{
-    Explicit0, Explicit1, Field, Found, Join, Optional, Reader, SEQUENCE_TAG, Sequence, Tagged,
-    View, known_there, read_viewed,
+    Explicit0, Explicit1, Field, Found, Join, Optional, Reader, Refusal, SEQUENCE_TAG, Sequence,
+    Tagged, View, known_there, read_viewed_or,
 };
 use x509_der::{CloneEq, FromDer, IntegerAsn1, OctetStringAsn1, ReadError, SameEq, ToDer, TooLong};
 use x509_keys_parts::EcParameters;
@@ -148,6 +148,12 @@ impl<A: Allocator + Copy> View<Fields<A>, A> for ECPrivateKey<A> {
         ec_key_is ec_key_one };
 }
 
+impl<A: Allocator + Copy> Refusal<Fields<A>> for ECPrivateKey<A> {
+    fn refusal(_parts: &Fields<A>) -> ReadError {
+        ReadError::BadVersion
+    }
+}
+
 impl<A: Allocator + Copy> Field<A> for ECPrivateKey<A> {
     ghost shape = { ec_private_key };
 
@@ -176,7 +182,7 @@ impl<A: Allocator + Copy> Field<A> for ECPrivateKey<A> {
     }
 
     fn read(alloc: A, reader: &mut Reader<'_, A>) -> Result<Self, ReadError> {
-        read_viewed::<Self, Fields<A>, A>(alloc, reader)
+        read_viewed_or::<Self, Fields<A>, Self, A>(alloc, reader)
     }
 }
 

@@ -19,7 +19,8 @@ use crate::rsa_private_key::RsaPrivateKey;
 use std::alloc::{AllocError, Allocator, Global};
 use x509_der::parts::{
     AnyDefinedBy, BIT_STRING_TAG, DefinedBy, Explicit1, Field, Found, Join, Optional, Reader,
-    SEQUENCE_TAG, Sequence, Tagged, View, element_len, read_viewed, write_bytes, write_element,
+    Refusal, SEQUENCE_TAG, Sequence, Tagged, View, element_len, read_viewed_or, write_bytes,
+    write_element,
 };
 use x509_der::{
     BitString, BitStringAsn1, CloneEq, Deviation, FromDer, IntegerAsn1, ObjectIdentifier,
@@ -454,6 +455,12 @@ impl<A: Allocator + Copy> View<Fields<A>, A> for PrivateKeyInfo<A> {
         info_one };
 }
 
+impl<A: Allocator + Copy> Refusal<Fields<A>> for PrivateKeyInfo<A> {
+    fn refusal(_parts: &Fields<A>) -> ReadError {
+        ReadError::BadVersion
+    }
+}
+
 impl<A: Allocator + Copy> Field<A> for PrivateKeyInfo<A> {
     ghost shape = { private_key_info };
 
@@ -486,7 +493,7 @@ impl<A: Allocator + Copy> Field<A> for PrivateKeyInfo<A> {
     }
 
     fn read(alloc: A, reader: &mut Reader<'_, A>) -> Result<Self, ReadError> {
-        read_viewed::<Self, Fields<A>, A>(alloc, reader)
+        read_viewed_or::<Self, Fields<A>, Self, A>(alloc, reader)
     }
 }
 

@@ -125,11 +125,12 @@ impl<A: Allocator + Copy> CloneEq for SubjectPublicKeyInfo<A> {
 impl<A: Allocator> SameEq for SubjectPublicKeyInfo<A> {
     ghost use Rattle.std.proofs.Common.{rules};
     ghost use Rattle.std.specs.Cmp.Lexicographic.{bytes_decides};
-    ghost use Rattle.x509_keys.specs.facts.SameFields.{two_decide, decides_as};
+    ghost use Rattle.x509_der.specs.facts.SameEq.{fields_decide};
+    ghost use Rattle.x509_keys.specs.facts.SameFields.{decides_as};
     ghost use Rattle.x509_keys.specs.facts.SamePublicKeys.{same_public, public_decides};
     ghost use Rattle.x509_keys_parts.specs.facts.SameAlgorithms.{algorithms_decide, parameters_decide, pss_params_decide};
 
-    ghost decides = { two_decide {E = ⟦<AlgorithmIdentifier<A> as PartialEq>⟧.eq}
+    ghost decides = { fields_decide {E = ⟦<AlgorithmIdentifier<A> as PartialEq>⟧.eq}
         {F = ⟦<PublicKey<A> as PartialEq>⟧.eq} (λ v. v.algorithm) (λ v. v.subject_public_key) subject_of
         (λ v. refl) (algorithms_decide (parameters_decide ⟦<AlgorithmIdentifierParameters<A> as PartialEq>⟧.eq
         {aes = ⟦<AesParameters<A> as PartialEq>⟧.eq} {ec = ⟦<EcParameters<A> as PartialEq>⟧.eq}

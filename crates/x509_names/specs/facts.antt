@@ -9,3 +9,4 @@ pub mod NameFacts
 pub mod NameTexts
 pub mod OtherNames
 pub mod SameGeneralNames
+pub use Rattle.x509_names_parts.specs.facts.Validities

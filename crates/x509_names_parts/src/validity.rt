@@ -51,7 +51,7 @@ impl CloneEq for Validity {
 impl SameEq for Validity {
     ghost use Rattle.std.specs.Prelude.{refl};
     ghost use Rattle.std.proofs.Common.{rules};
-    ghost use Rattle.x509_names_parts.specs.facts.SameFields.{fields_decide};
+    ghost use Rattle.x509_der.specs.facts.SameEq.{fields_decide};
     ghost use Rattle.x509_names_parts.specs.facts.Validities.{validity_of};
 
     ghost decides = { fields_decide {E = ⟦<Time as PartialEq>⟧.eq} {F = ⟦<Time as PartialEq>⟧.eq}

@@ -6,7 +6,7 @@ ghost use Rattle.x509_names_parts.specs.Versions.{version_number, version_of, ve
 ghost use Rattle.x509_names_parts.specs.facts.Versions.{version_is, version_seen};
 
 use std::alloc::{AllocError, Allocator};
-use x509_der::parts::{Field, Found, INTEGER_TAG, Reader, View, read_viewed};
+use x509_der::parts::{Field, Found, INTEGER_TAG, Reader, Refusal, View, read_viewed_or};
 use x509_der::{CloneEq, FromDer, ReadError, SameEq, ToDer, TooLong};
 
 /// The version of a certificate (RFC 5280, 4.1.2.1).
@@ -91,6 +91,12 @@ impl<A: Allocator + Copy> View<u8, A> for Version {
     ghost is_seen = { λ f. version_seen };
 }
 
+impl Refusal<u8> for Version {
+    fn refusal(_parts: &u8) -> ReadError {
+        ReadError::BadVersion
+    }
+}
+
 impl<A: Allocator + Copy> Field<A> for Version {
     ghost shape = { version };
 
@@ -109,11 +115,7 @@ impl<A: Allocator + Copy> Field<A> for Version {
     fn known(&self) {}
 
     fn read(alloc: A, reader: &mut Reader<'_, A>) -> Result<Self, ReadError> {
-        match read_viewed::<Self, u8, A>(alloc, reader) {
-            // The number is none of a version.
-            Err(ReadError::Unsupported) => Err(ReadError::BadVersion),
-            result => result,
-        }
+        read_viewed_or::<Self, u8, Self, A>(alloc, reader)
     }
 }
 

@@ -4,6 +4,7 @@ use Rattle.std.specs.Bool.{Decides}
 use Rattle.std.specs.Option.{option_eq}
 use Rattle.std.proofs.Common.{refl, ap, sym}
 use Rattle.std.proofs.lemmas.Bool.Decides.{Decides-like}
+use Rattle.x509_der_parts.specs.facts.Lists.{same_pair}
 use mathlib.Core.Bool.{true≢false}
 
 -- two tests together decide two facts together
@@ -25,3 +26,11 @@ options_decide d None None = (λ h. refl, λ e. refl)
 options_decide d None (Some y) = (λ h. absurd (true≢false (sym h)), λ e. absurd (true≢false (sym (ap is_there e))))
 options_decide d (Some x) None = (λ h. absurd (true≢false (sym h)), λ e. absurd (true≢false (ap is_there e)))
 options_decide {E = E} d (Some x) (Some y) = Decides-like (E x y) (λ e. ap (λ z. Some z) e) (λ e. ap (there_or x) e) (d x y)
+
+-- tests of both fields of a structure decide the same of the structure
+pub fields_decide : {V K L : Type 0} {E : K → K → Bool} {F : L → L → Bool} (first : V → K) (second : V → L) (make : K → L → V) → ((v : V) → make (first v) (second v) ≡ v) → ((x y : K) → Decides (E x y) (x ≡ y)) → ((x y : L) → Decides (F x y) (x ≡ y)) → (x y : V) → Decides (E (first x) (first y) && F (second x) (second y)) (x ≡ y)
+fields_decide {E = E} {F = F} first second make made d e x y =
+    Decides-like (E (first x) (first y) && F (second x) (second y))
+    (λ h. same_pair first second make made x y h.0 h.1)
+    (λ h. (ap first h, ap second h))
+    (and_decides (E (first x) (first y)) (F (second x) (second y)) (d (first x) (first y)) (e (second x) (second y)))

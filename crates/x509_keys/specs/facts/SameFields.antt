@@ -3,23 +3,9 @@ use Rattle.std.specs.Prelude.{◌≡◌, Bool, ◌&&◌}
 use Rattle.std.specs.Bool.{Decides}
 use Rattle.std.proofs.Common.{ap, sym, ◌∙◌}
 use Rattle.std.proofs.lemmas.Bool.Decides.{Decides-like}
-use Rattle.x509_der.specs.facts.Lists.{same_pair}
 use Rattle.x509_der.specs.facts.SameEq.{and_decides}
 
--- of two fields
-pub two_decide :
-    {X V W : Type 0} {E : V → V → Bool} {F : W → W → Bool} (fst : X → V) (snd : X → W) (make : V → W → X) →
-    ((x : X) → make (fst x) (snd x) ≡ x) →
-    ((v w : V) → Decides (E v w) (v ≡ w)) →
-    ((v w : W) → Decides (F v w) (v ≡ w)) →
-    (x y : X) → Decides (E (fst x) (fst y) && F (snd x) (snd y)) (x ≡ y)
-two_decide {E} {F} fst snd make h d e x y =
-    Decides-like (E (fst x) (fst y) && F (snd x) (snd y))
-    (λ f. same_pair fst snd make h x y f.0 f.1)
-    (λ f. (ap fst f, ap snd f))
-    (and_decides (E (fst x) (fst y)) (F (snd x) (snd y)) (d (fst x) (fst y)) (e (snd x) (snd y)))
-
--- and of four
+-- of four fields
 pub four_decide :
     {X S T V W : Type 0} {C : S → S → Bool} {D : T → T → Bool} {E : V → V → Bool} {F : W → W → Bool}
     (first : X → S) (second : X → T) (third : X → V) (fourth : X → W) (make : S → T → V → W → X) →

@@ -4,9 +4,8 @@ use Rattle.std.specs.Prelude.{◌&&◌}
 use Rattle.std.specs.Bool.{Decides}
 use Rattle.std.specs.Option.{option_eq}
 use Rattle.std.proofs.lemmas.Bool.Decides.{nat_tests}
-use Rattle.x509_der.specs.facts.SameEq.{options_decide}
+use Rattle.x509_der.specs.facts.SameEq.{fields_decide, options_decide}
 use Rattle.x509_names_parts.specs.declared.directory_string.DirectoryString.{DirectoryString}
-use Rattle.x509_names_parts.specs.facts.SameFields.{fields_decide}
 use Rattle.x509_names.specs.declared.edi_party_name.EdiPartyName.{EdiPartyName}
 use Rattle.x509_names.specs.EdiPartyNames.{Fields, edi_parts}
 

@@ -4,7 +4,7 @@ use Rattle.std.specs.Prelude.{◌&&◌, nat_eq}
 use Rattle.std.specs.Bool.{Decides}
 use Rattle.std.specs.Cmp.Lexicographic.{pointwise, bytes_decides}
 use Rattle.x509_names.specs.declared.other_name.OtherName.{OtherName}
-use Rattle.x509_names_parts.specs.facts.SameFields.{fields_decide}
+use Rattle.x509_der.specs.facts.SameEq.{fields_decide}
 use Rattle.x509_names.specs.OtherNames.{Fields, other_parts}
 
 abbrev pub other_of : {A : Type 0} → Fields → OtherName A
