@@ -23,7 +23,7 @@ BUDGETS = [
     (30, ["x509_keys_parts"]),
     (20, ["x509_keys"]),
     (30, ["picky_asn1_x509_parts"]),
-    (30, ["picky_asn1_x509"]),
+    (20, ["picky_asn1_x509"]),
     (10, ["x509_der_structures", "x509_der_structures_parts"]),
 ]
 

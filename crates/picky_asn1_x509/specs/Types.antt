@@ -1,4 +1,4 @@
--- The types of the crate below, and their variants, for clauses and proofs of crates above.
+-- The types of the crates below, and their variants, for clauses and proofs of crates above.
 pub use Rattle.picky_asn1_x509_parts.specs.declared.attribute.Attribute.{Attribute}
 pub use Rattle.picky_asn1_x509_parts.specs.declared.attribute.AttributeValues.{AttributeValues}
 pub use Rattle.picky_asn1_x509_parts.specs.declared.attribute.AttributeValues.TheVariants as attribute_values
@@ -6,3 +6,9 @@ pub use Rattle.picky_asn1_x509_parts.specs.declared.extension.ExtensionValue.{Ex
 pub use Rattle.picky_asn1_x509_parts.specs.declared.extension.ExtensionValue.TheVariants as extension_value
 pub use Rattle.picky_asn1_x509_parts.specs.declared.extension.ExtensionView.{ExtensionView}
 pub use Rattle.picky_asn1_x509_parts.specs.declared.extension.ExtensionView.TheVariants as extension_view
+pub use Rattle.x509_der.specs.Types.{Deviation}
+pub use Rattle.x509_der.specs.Types.deviation
+pub use Rattle.x509_der.specs.Types.{ReadError}
+pub use Rattle.x509_der.specs.Types.read_error
+pub use Rattle.x509_der.specs.Types.{WriteError}
+pub use Rattle.x509_der.specs.Types.write_error

@@ -2,6 +2,7 @@
 
 mod algorithms;
 mod bit_strings;
+mod certificates;
 mod character_strings;
 mod checks;
 mod directory_strings;

@@ -11,4 +11,5 @@ pub mod GeneralNames
 pub mod NameTexts
 pub mod Names
 pub mod OtherNames
+pub mod Types
 pub mod facts

@@ -2,6 +2,7 @@
 
 mod algorithms;
 mod attributes;
+mod certificates;
 mod character_strings;
 mod clones;
 mod elements;

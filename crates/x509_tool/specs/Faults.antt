@@ -1,12 +1,12 @@
 -- What the program answers where it gives no output.
 use Rattle.std.specs.Prelude.{ℕ, List, codes}
 use Rattle.hex.specs.declared.error.FromHexError.{FromHexError}
-use Rattle.x509_der.specs.Types.{ReadError, WriteError}
+use Rattle.picky_asn1_x509.specs.Types.{ReadError, WriteError}
 use Rattle.x509_tool.specs.declared.fault.ToolFault.{ToolFault}
 use Rattle.x509_tool.specs.declared.fault.ToolFault.TheVariants.{Refused, Usage, OutOfMemory, TooLong}
 use Rattle.hex.specs.declared.error.FromHexError.TheVariants as hex_error
-use Rattle.x509_der.specs.Types.read_error
-use Rattle.x509_der.specs.Types.write_error
+use Rattle.picky_asn1_x509.specs.Types.read_error
+use Rattle.picky_asn1_x509.specs.Types.write_error
 
 abbrev pub status_of : ToolFault → ℕ
 status_of Refused = 1

@@ -6,15 +6,17 @@ use Rattle.hex.specs.Hex.{encode_lower}
 use Rattle.x509_tool.specs.declared.fault.ToolFault.{ToolFault}
 use Rattle.x509_tool.specs.declared.fault.ToolFault.TheVariants.{Refused, Usage, OutOfMemory, TooLong}
 use Rattle.x509_tool.specs.declared.served.Served.{Served}
-use Rattle.x509_tool.specs.declared.served.Served.TheVariants.{Algorithm, Extensions, Name, PrivateKey, PublicKey, RawAlgorithm}
-use Rattle.x509_der.specs.Tally.{Tally, counts_of}
-use Rattle.x509_der.specs.Shape.{Shape}
-use Rattle.x509_keys.specs.RawAlgorithm.{raw_algorithm}
-use Rattle.x509_keys.specs.AlgorithmIdentifier.{algorithm_identifier}
-use Rattle.x509_keys.specs.PrivateKeyInfos.{private_key_info}
-use Rattle.x509_keys.specs.SubjectPublicKeyInfos.{subject_public_key_info}
-use Rattle.x509_names.specs.Names.{name}
+use Rattle.x509_tool.specs.declared.served.Served.TheVariants.{Algorithm, Certificate, Extensions, Name, PrivateKey, PublicKey, RawAlgorithm, Request}
+use Rattle.picky_asn1_x509.specs.Tally.{Tally, counts_of}
+use Rattle.picky_asn1_x509.specs.Shape.{Shape}
+use Rattle.picky_asn1_x509.specs.RawAlgorithm.{raw_algorithm}
+use Rattle.picky_asn1_x509.specs.AlgorithmIdentifier.{algorithm_identifier}
+use Rattle.picky_asn1_x509.specs.PrivateKeyInfos.{private_key_info}
+use Rattle.picky_asn1_x509.specs.SubjectPublicKeyInfos.{subject_public_key_info}
+use Rattle.picky_asn1_x509.specs.Names.{name}
+use Rattle.picky_asn1_x509.specs.Certificates.{certificate}
 use Rattle.picky_asn1_x509.specs.ExtensionLists.{extensions}
+use Rattle.picky_asn1_x509.specs.Requests.{request}
 
 -- numbers in decimal, joined by single spaces
 abbrev pub spaced : List ℕ → List ℕ
@@ -49,11 +51,13 @@ Answers s bytes (Err TooLong) = IsTooLong s bytes
 -- the names of the types that are served
 abbrev pub served_name : Served → List ℕ
 served_name Algorithm = codes "algorithm"
+served_name Certificate = codes "certificate"
 served_name Extensions = codes "extensions"
 served_name Name = codes "name"
 served_name PrivateKey = codes "private-key"
 served_name PublicKey = codes "public-key"
 served_name RawAlgorithm = codes "raw-algorithm"
+served_name Request = codes "request"
 
 abbrev pub IsServed : List ℕ → Type 0
 IsServed type_name = (served : Served) × (type_name ≡ served_name served)
@@ -61,11 +65,13 @@ IsServed type_name = (served : Served) × (type_name ≡ served_name served)
 -- the answer to bytes as a value of a type that is served
 abbrev pub AnswersAs : (A : Type 0) → Served → List ℕ → Result (List ℕ) ToolFault → Type 0
 AnswersAs A Algorithm bytes r = Answers (algorithm_identifier {A = A}) bytes r
+AnswersAs A Certificate bytes r = Answers (certificate {A = A}) bytes r
 AnswersAs A Extensions bytes r = Answers (extensions {A = A}) bytes r
 AnswersAs A Name bytes r = Answers (name {A = A}) bytes r
 AnswersAs A PrivateKey bytes r = Answers (private_key_info {A = A}) bytes r
 AnswersAs A PublicKey bytes r = Answers (subject_public_key_info {A = A}) bytes r
 AnswersAs A RawAlgorithm bytes r = Answers raw_algorithm bytes r
+AnswersAs A Request bytes r = Answers (request {A = A}) bytes r
 
 -- the answer to the bytes of the type of a name
 abbrev pub AnswersNamed : (A : Type 0) → List ℕ → List ℕ → Result (List ℕ) ToolFault → Type 0

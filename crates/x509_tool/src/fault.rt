@@ -4,9 +4,9 @@ ghost use Rattle.std.specs.Prelude.{◌≡◌};
 ghost use Rattle.x509_tool.specs.Faults.{status_of, line_of};
 
 use hex::FromHexError;
+use picky_asn1_x509::{ReadError, SameEq, WriteError};
 use std::alloc::AllocError;
 use thiserror::Error;
-use x509_der::{ReadError, SameEq, WriteError};
 
 /// Why a text gives no output.
 #[derive(Clone, Copy, Debug, PartialEq, Eq, Error)]

@@ -6,19 +6,19 @@ ghost use Rattle.x509_tool.specs.Output.{Answers, AnswersAs, served_name, listed
 
 use crate::fault::ToolFault;
 use crate::report::report;
-use picky_asn1_x509::Extensions;
-use std::alloc::Allocator;
-use x509_der::{FromDer, read_counted, to_vec};
-use x509_keys::{
-    AlgorithmIdentifier, PrivateKeyInfo, RawAlgorithmIdentifier, SubjectPublicKeyInfo,
+use picky_asn1_x509::{
+    AlgorithmIdentifier, Certificate, CertificationRequest, Extensions, FromDer, Name,
+    PrivateKeyInfo, RawAlgorithmIdentifier, SubjectPublicKeyInfo, read_counted, to_vec,
 };
-use x509_names::Name;
+use std::alloc::Allocator;
 
 /// A type that the program serves.
 #[derive(Drop, Clone, Copy)]
 pub enum Served {
     /// `algorithm`.
     Algorithm,
+    /// `certificate`.
+    Certificate,
     /// `extensions`.
     Extensions,
     /// `name`.
@@ -29,6 +29,8 @@ pub enum Served {
     PublicKey,
     /// `raw-algorithm`.
     RawAlgorithm,
+    /// `request`.
+    Request,
 }
 
 impl Served {
@@ -39,11 +41,13 @@ impl Served {
     {
         match type_name {
             "algorithm" => Some(Served::Algorithm),
+            "certificate" => Some(Served::Certificate),
             "extensions" => Some(Served::Extensions),
             "name" => Some(Served::Name),
             "private-key" => Some(Served::PrivateKey),
             "public-key" => Some(Served::PublicKey),
             "raw-algorithm" => Some(Served::RawAlgorithm),
+            "request" => Some(Served::Request),
             _ => None,
         }
     }
@@ -61,11 +65,13 @@ impl Served {
     {
         match self {
             Served::Algorithm => answer::<AlgorithmIdentifier<A>, A>(alloc, bytes),
+            Served::Certificate => answer::<Certificate<A>, A>(alloc, bytes),
             Served::Extensions => answer::<Extensions<A>, A>(alloc, bytes),
             Served::Name => answer::<Name<A>, A>(alloc, bytes),
             Served::PrivateKey => answer::<PrivateKeyInfo<A>, A>(alloc, bytes),
             Served::PublicKey => answer::<SubjectPublicKeyInfo<A>, A>(alloc, bytes),
             Served::RawAlgorithm => answer::<RawAlgorithmIdentifier<A>, A>(alloc, bytes),
+            Served::Request => answer::<CertificationRequest<A>, A>(alloc, bytes),
         }
     }
 }

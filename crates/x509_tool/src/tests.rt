@@ -104,6 +104,22 @@ fn keys_print(rt: HostRuntime) {
 }
 
 #[test]
+fn certificates_print(rt: HostRuntime) {
+    let heap = Refusing::new(rt.alloc());
+    let plain =
+        b"304c303a020101300506032b65703000301e170d3139313031373137343132385a170d3232313031363137343132385a3000300a300506032b6570030100300b06092a864886f70d01010b030100";
+    let written =
+        "304e303a020101300506032b65703000301e170d3139313031373137343132385a170d3232313031363137343132385a3000300a300506032b6570030100300d06092a864886f70d01010b0500030100\n1 0 0 0 0 0 0 0 0 0\n";
+    prints_as(&rt, &heap, "certificate", plain, written);
+    let request = b"301f30130201003000300a300506032b6570030100a000300506032b6570030100";
+    let same =
+        "301f30130201003000300a300506032b6570030100a000300506032b6570030100\n0 0 0 0 0 0 0 0 0 0\n";
+    prints_as(&rt, &heap, "request", request, same);
+    let absent = b"301d30110201003000300a300506032b6570030100300506032b6570030100";
+    faults_as(&rt, &heap, "request", absent, ToolFault::Refused);
+}
+
+#[test]
 fn rows_print(rt: HostRuntime) {
     let heap = Refusing::new(rt.alloc());
     let absent = "300c06082a864886f70d02090500\n0 1 0 0 0 0 0 0 0 0\n";

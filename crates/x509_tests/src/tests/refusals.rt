@@ -4,11 +4,12 @@
 //! an alternative or to tell whether an optional field is there, is none. The numbers follow from that and from the
 //! order in which elements are read: the outer one first, and then what stands in it, from front to back.
 
+use picky_asn1_x509::TbsCertificate;
 use std::alloc::Global;
 use std::process::Abort;
 use x509_der::ReadError::{
-    BadBits, BadBoolean, BadLength, BadNumber, BadOid, BadText, BadTime, LeftOver, Truncated,
-    Unsupported, WrongTag,
+    BadBits, BadBoolean, BadLength, BadNumber, BadOid, BadText, BadTime, BadVersion,
+    ExtensionsNeedV3, LeftOver, Truncated, UniqueIdNeedsV2, Unsupported, WrongTag,
 };
 use x509_der::{
     Asn1RawDer, Asn1SequenceOf, Asn1SetOf, BitStringAsn1, BitStringAsn1Container, FromDer,
@@ -16,7 +17,7 @@ use x509_der::{
     read_metered,
 };
 use x509_der_structures::{Contact, Optionals, Preference, Reply, Stamp, Validity};
-use x509_keys::RawAlgorithmIdentifier;
+use x509_keys::{ECPrivateKey, PrivateKeyInfo, RawAlgorithmIdentifier};
 use x509_prim::{
     BmpStringAsn1, GeneralizedTimeAsn1, Ia5StringAsn1, PrintableStringAsn1, UtcTimeAsn1, Utf8String,
 };
@@ -612,4 +613,68 @@ fn algorithms(rt: HostRuntime) {
 fn stamps(rt: HostRuntime) {
     let alloc = rt.alloc();
     all_refused::<Stamp>(&rt, alloc, STAMPS);
+}
+
+/// No signed parts of a certificate, for what their version doesn't have.
+const SIGNED_PARTS: &[Refusal<'static>] = &[
+    // an issuer's identifier without a version
+    (
+        "303e020101300506032b65703000301e170d3139313031373137343132385a170d3232313031363137343132385a3000300a300506032b6570030100810200aa",
+        14,
+        Some(UniqueIdNeedsV2),
+    ),
+    // a subject's identifier without a version
+    (
+        "303d020101300506032b65703000301e170d3139313031373137343132385a170d3232313031363137343132385a3000300a300506032b6570030100820100",
+        14,
+        Some(UniqueIdNeedsV2),
+    ),
+    // an issuer's identifier with version 1, spelled
+    (
+        "3043a003020100020101300506032b65703000301e170d3139313031373137343132385a170d3232313031363137343132385a3000300a300506032b6570030100810200aa",
+        16,
+        Some(UniqueIdNeedsV2),
+    ),
+    // extensions without a version
+    (
+        "3049020101300506032b65703000301e170d3139313031373137343132385a170d3232313031363137343132385a3000300a300506032b6570030100a30d300b30090603551d1304023000",
+        19,
+        Some(ExtensionsNeedV3),
+    ),
+    // extensions with version 2
+    (
+        "304ea003020101020101300506032b65703000301e170d3139313031373137343132385a170d3232313031363137343132385a3000300a300506032b6570030100a30d300b30090603551d1304023000",
+        21,
+        Some(ExtensionsNeedV3),
+    ),
+    // version 4
+    (
+        "303fa003020103020101300506032b65703000301e170d3139313031373137343132385a170d3232313031363137343132385a3000300a300506032b6570030100",
+        3,
+        Some(BadVersion),
+    ),
+];
+
+/// No private keys, for their version.
+const PRIVATE_KEYS: &[Refusal<'static>] = &[
+    // version 2, which is the third
+    (
+        "302e020102300506032b6570042204201111111111111111111111111111111111111111111111111111111111111111",
+        6,
+        Some(BadVersion),
+    ),
+];
+
+/// No keys on an elliptic curve, for their version.
+const CURVE_KEYS: &[Refusal<'static>] = &[
+    // version 0
+    ("30080201000403aabbcc", 3, Some(BadVersion)),
+];
+
+#[test]
+fn versions(rt: HostRuntime) {
+    let alloc = rt.alloc();
+    all_refused::<TbsCertificate>(&rt, alloc, SIGNED_PARTS);
+    all_refused::<PrivateKeyInfo>(&rt, alloc, PRIVATE_KEYS);
+    all_refused::<ECPrivateKey>(&rt, alloc, CURVE_KEYS);
 }

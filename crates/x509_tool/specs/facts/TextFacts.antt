@@ -6,17 +6,19 @@ use Rattle.std.specs.List.{AllPass}
 use Rattle.hex.specs.Hex.{decode_of, is_hex_digit}
 use Rattle.hex.specs.declared.error.FromHexError.{FromHexError}
 use Rattle.hex.proofs.HexLemmas.{decode_of-ok}
-use Rattle.x509_der.specs.Shape.{Shape}
-use Rattle.x509_keys.specs.RawAlgorithm.{raw_algorithm}
-use Rattle.x509_keys.specs.AlgorithmIdentifier.{algorithm_identifier}
-use Rattle.x509_keys.specs.PrivateKeyInfos.{private_key_info}
-use Rattle.x509_keys.specs.SubjectPublicKeyInfos.{subject_public_key_info}
-use Rattle.x509_names.specs.Names.{name}
+use Rattle.picky_asn1_x509.specs.Shape.{Shape}
+use Rattle.picky_asn1_x509.specs.RawAlgorithm.{raw_algorithm}
+use Rattle.picky_asn1_x509.specs.AlgorithmIdentifier.{algorithm_identifier}
+use Rattle.picky_asn1_x509.specs.PrivateKeyInfos.{private_key_info}
+use Rattle.picky_asn1_x509.specs.SubjectPublicKeyInfos.{subject_public_key_info}
+use Rattle.picky_asn1_x509.specs.Names.{name}
+use Rattle.picky_asn1_x509.specs.Certificates.{certificate}
 use Rattle.picky_asn1_x509.specs.ExtensionLists.{extensions}
+use Rattle.picky_asn1_x509.specs.Requests.{request}
 use Rattle.x509_tool.specs.Faults.{fault_of_hex}
 use Rattle.x509_tool.specs.Output.{Answers, AnswersAs}
 use Rattle.x509_tool.specs.declared.served.Served.{Served}
-use Rattle.x509_tool.specs.declared.served.Served.TheVariants.{Algorithm, Extensions, Name, PrivateKey, PublicKey, RawAlgorithm}
+use Rattle.x509_tool.specs.declared.served.Served.TheVariants.{Algorithm, Certificate, Extensions, Name, PrivateKey, PublicKey, RawAlgorithm, Request}
 use Rattle.x509_tool.specs.Text.{IsTextOf, IsWithoutLineFeed}
 use Rattle.hex.specs.declared.error.FromHexError.TheVariants as hex_error
 
@@ -62,8 +64,10 @@ decoded_answer s bytes d e h why = elim why [
 -- whatever the type
 pub decoded_as : (A : Type 0) (served : Served) (bytes d : List ℕ) (e : FromHexError) → decode_of d ≡ Ok bytes → (e ≡ hex_error.OutOfMemory) ⊎ (decode_of d ≡ Err e) → AnswersAs A served bytes (Err (fault_of_hex e))
 decoded_as A Algorithm = decoded_answer (algorithm_identifier {A = A})
+decoded_as A Certificate = decoded_answer (certificate {A = A})
 decoded_as A Extensions = decoded_answer (extensions {A = A})
 decoded_as A Name = decoded_answer (name {A = A})
 decoded_as A PrivateKey = decoded_answer (private_key_info {A = A})
 decoded_as A PublicKey = decoded_answer (subject_public_key_info {A = A})
 decoded_as A RawAlgorithm = decoded_answer raw_algorithm
+decoded_as A Request = decoded_answer (request {A = A})

@@ -1,0 +1,7 @@
+use Rattle.x509_der.specs.Calls.{NoWhole}
+use Rattle.picky_asn1_x509.specs.Requests.{request}
+use Rattle.picky_asn1_x509.specs.facts.Refusals.{refused_with}
+use Rattle.picky_asn1_x509.proofs.certification_request.CertificationRequest.read_with_signed_part.Goals as goal
+
+pub returns-in_err-read-clause-err : goal.returns-in_err-read-clause-err
+returns-in_err-read-clause-err g c = refused_with (NoWhole (request {A = g.row.A.Denot}) c.args.bytes.now) c.from_residual.result _ c.from_residual.ensures.1 c.in_err-read.ensures.err

@@ -1,0 +1,22 @@
+use Rattle.std.proofs.Common.{refl, subst}
+use Rattle.x509_der.specs.facts.ElementPlaces.{content_first}
+use Rattle.picky_asn1_x509.specs.CertificatePlaces.{TbsAt}
+use Rattle.picky_asn1_x509.specs.TbsCertificates.{tbs_inner}
+use Rattle.picky_asn1_x509.specs.facts.TbsCertificates.{means_tbs}
+use Rattle.picky_asn1_x509.specs.declared.tbs_certificate.TbsCertificate.{TbsCertificate}
+use Rattle.picky_asn1_x509.proofs.laws.tbs_certificate_fields.Goals as goal
+
+pub returns : goal.returns
+returns g c = λ v string y a.
+    let b = (c.fields.ensures v string y a).parts in
+    let s = content_first 48 tbs_inner b.base string y b.parts in
+    let P : TbsCertificate _ → Type 0 = λ w. TbsAt w string y in
+    subst P (means_tbs b.base v b.kinds b.means).1.0 (record {
+      content = s.content;
+      bytes = s.bytes;
+      version = b.base.0;
+      version_means = refl;
+      extensions = b.base.1.1.1.1;
+      extensions_mean = refl;
+      fields = s.inner;
+    })

@@ -1,0 +1,36 @@
+-- Extensions of a certificate by their identifiers: the first of each counts.
+use Rattle.std.specs.Prelude.{ℕ, Bool, if◌then◌else◌, List, [], ◌∷◌, Option, Some, None}
+use Rattle.picky_asn1_x509_parts.specs.Constraints.{Constraints}
+use Rattle.picky_asn1_x509_parts.specs.Extensions.{ExtensionFields, is_arcs}
+use Rattle.picky_asn1_x509_parts.specs.KeyAuthorities.{KeyAuthority}
+use Rattle.picky_asn1_x509_parts.specs.declared.extension.ExtensionValue.{ExtensionValue}
+use Rattle.picky_asn1_x509_parts.specs.declared.extension.ExtensionValue.TheVariants as value
+
+-- the extension has this identifier
+unfoldable pub has_identifier : {A : Type 0} → List ℕ → ExtensionFields A → Bool
+has_identifier arcs e = is_arcs e.extn_id arcs
+
+-- the first extension that has it
+abbrev pub first_of : {A : Type 0} → List ℕ → List (ExtensionFields A) → Option (ExtensionFields A)
+first_of arcs [] = None
+first_of arcs (e ∷ es) = if has_identifier arcs e then Some e else first_of arcs es
+
+-- the octets of a subject key identifier (RFC 5280, 4.2.1.2)
+abbrev pub subject_key_in : {A : Type 0} → ExtensionValue A → Option (List ℕ)
+subject_key_in (value.SubjectKeyIdentifier octets) = Some octets
+subject_key_in v = None
+
+-- an authority key identifier (RFC 5280, 4.2.1.1)
+abbrev pub authority_key_in : {A : Type 0} → ExtensionValue A → Option (KeyAuthority A)
+authority_key_in (value.AuthorityKeyIdentifier key) = Some key
+authority_key_in v = None
+
+-- basic constraints (RFC 5280, 4.2.1.9)
+abbrev pub constraints_in : {A : Type 0} → ExtensionValue A → Option Constraints
+constraints_in (value.BasicConstraints constraints) = Some constraints
+constraints_in v = None
+
+-- what the value of an extension holds, where there is one
+abbrev pub held_by : {A V : Type 0} → (ExtensionValue A → Option V) → Option (ExtensionFields A) → Option V
+held_by hold None = None
+held_by hold (Some e) = hold e.extn_value

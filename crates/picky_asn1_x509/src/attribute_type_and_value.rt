@@ -1,0 +1,3 @@
+//! Attributes of names.
+
+pub use x509_names::{AttributeTypeAndValue, AttributeTypeAndValueParameters};

@@ -1,0 +1,230 @@
+//! Certificates.
+
+ghost use Rattle.std.specs.Prelude.{◌≡◌, refl, IfOk, IfErr, MatchOption, None, Some};
+ghost use Rattle.x509_der.specs.Calls.{NoWhole};
+ghost use Rattle.x509_der.specs.FirstField.{FirstPart};
+ghost use Rattle.x509_der.specs.laws.Structure.{structure_lawful, structure_element};
+ghost use Rattle.picky_asn1_x509_parts.specs.Extensions.{subject_key_arcs, authority_key_arcs, constraints_arcs};
+ghost use Rattle.picky_asn1_x509.specs.Certificates.{signature_fields, certificate_parts, certificate_base, certificate, certificate_bytes};
+ghost use Rattle.picky_asn1_x509.specs.LookUps.{has_identifier, first_of, held_by, subject_key_in, authority_key_in, constraints_in};
+ghost use Rattle.picky_asn1_x509.specs.TbsCertificates.{tbs_certificate};
+ghost use Rattle.picky_asn1_x509.specs.facts.Certificates.{certificate_same, certificate_agrees};
+
+use crate::signed_read::SignedRead;
+pub use crate::tbs_certificate::TbsCertificate;
+use picky_asn1_x509_parts::{AuthorityKeyIdentifier, BasicConstraints, Extension, ExtensionView};
+use std::alloc::{AllocError, Allocator, Global};
+use x509_der::parts::{
+    Field, Join, Reader, SEQUENCE_TAG, Sequence, Structure, Tagged, read_fields, read_first_field,
+};
+use x509_der::{BitStringAsn1, CloneEq, FromDer, ReadError, ToDer, TooLong};
+use x509_keys::AlgorithmIdentifier;
+
+/// A certificate: what is signed, and the signature. Whether the signature is right isn't looked at, nor whether the
+/// algorithm beside it is the one that is named in what is signed.
+///
+/// # Encoding
+/// `Certificate ::= SEQUENCE { tbsCertificate TBSCertificate, signatureAlgorithm AlgorithmIdentifier, signatureValue
+/// BIT STRING }` (RFC 5280, 4.1.1).
+#[derive(Drop)]
+#[derive_where(Debug, PartialEq, Eq)]
+pub struct Certificate<A: Allocator = Global> {
+    /// What is signed.
+    pub tbs_certificate: TbsCertificate<A>,
+    /// The algorithm of the signature.
+    pub signature_algorithm: AlgorithmIdentifier<A>,
+    /// The signature.
+    pub signature_value: BitStringAsn1<A>,
+}
+
+/// Whether an extension has an identifier.
+fn is_identified<A: Allocator>(extension: &Extension<A>, arcs: &[u64]) -> bool
+    ensures { result ≡ has_identifier arcs.now extension.now }
+{
+    extension.extn_id().0.is_arcs(arcs)
+}
+
+/// The first extension with an identifier.
+fn first_extension<'a, A: Allocator>(
+    extensions: &'a [Extension<A>],
+    arcs: &[u64],
+) -> Option<&'a Extension<A>>
+    ensures { MatchOption result (first_of arcs.now extensions.now ≡ None)
+        (λ e. first_of arcs.now extensions.now ≡ Some e.now) }
+{
+    for extension in extensions {
+        if is_identified(extension, arcs) {
+            return Some(extension);
+        }
+    }
+    None
+}
+
+impl<A: Allocator> Certificate<A> {
+    /// The extensions, in order; none are an empty slice. Takes no memory.
+    pub fn extensions(&self) -> &[Extension<A>]
+        ensures { result.now ≡ self.now.tbs_certificate.extensions }
+    {
+        self.tbs_certificate.extensions.0.as_slice()
+    }
+
+    /// The identifier of the certified key (RFC 5280, 4.2.1.2): what the first extension holds that has the identifier
+    /// 2.5.29.14. Takes no memory.
+    pub fn subject_key_identifier(&self) -> Option<&[u8]>
+        ensures { MatchOption result
+            (held_by subject_key_in (first_of subject_key_arcs self.now.tbs_certificate.extensions) ≡ None)
+            (λ key. held_by subject_key_in
+            (first_of subject_key_arcs self.now.tbs_certificate.extensions) ≡ Some key.now) }
+    {
+        let extension = first_extension(self.extensions(), &[2, 5, 29, 14])?;
+        match extension.extn_value() {
+            ExtensionView::SubjectKeyIdentifier(key) => Some(key.0.as_slice()),
+            _ => None,
+        }
+    }
+
+    /// Which key signed (RFC 5280, 4.2.1.1): what the first extension holds that has the identifier 2.5.29.35. Takes no
+    /// memory.
+    pub fn authority_key_identifier(&self) -> Option<&AuthorityKeyIdentifier<A>>
+        ensures { MatchOption result
+            (held_by authority_key_in (first_of authority_key_arcs self.now.tbs_certificate.extensions) ≡ None)
+            (λ key. held_by authority_key_in
+            (first_of authority_key_arcs self.now.tbs_certificate.extensions) ≡ Some key.now) }
+    {
+        let extension = first_extension(self.extensions(), &[2, 5, 29, 35])?;
+        match extension.extn_value() {
+            ExtensionView::AuthorityKeyIdentifier(key) => Some(key),
+            _ => None,
+        }
+    }
+
+    /// Whether the subject is an authority (RFC 5280, 4.2.1.9): what the first extension holds that has the identifier
+    /// 2.5.29.19. Takes no memory.
+    pub fn basic_constraints(&self) -> Option<&BasicConstraints>
+        ensures { MatchOption result
+            (held_by constraints_in (first_of constraints_arcs self.now.tbs_certificate.extensions) ≡ None)
+            (λ constraints. held_by constraints_in
+            (first_of constraints_arcs self.now.tbs_certificate.extensions) ≡ Some constraints.now) }
+    {
+        let extension = first_extension(self.extensions(), &[2, 5, 29, 19])?;
+        match extension.extn_value() {
+            ExtensionView::BasicConstraints(constraints) => Some(constraints),
+            _ => None,
+        }
+    }
+}
+
+impl<A: Allocator + Copy> Certificate<A> {
+    /// Reads a certificate from the whole of the bytes, as `from_bytes` does, and answers with it the bytes of
+    /// `tbs_certificate`, which the signature covers. The deviations inside those bytes are counted apart from the others:
+    /// where there are none inside, the bytes are the DER encoding of `tbs_certificate`, and else they aren't.
+    ///
+    /// # Errors
+    /// As `from_bytes`: refused exactly where the grammar relates the bytes to no certificate, or memory is refused.
+    pub fn read_with_signed_part(alloc: A, bytes: &[u8]) -> Result<SignedRead<'_, Self>, ReadError>
+        ensures ok { IfOk result (λ r. FirstPart certificate_parts tbs_certificate signature_fields
+            bytes.now r.value r.signed.now r.inside r.outside) }
+        ensures err { IfErr result (NoWhole (certificate {A = A}) bytes.now) }
+    {
+        let read = read_first_field::<Self, TbsCertificate<A>, Signature<A>, A>(alloc, bytes)?;
+        Ok(SignedRead {
+            value: read.value,
+            signed: read.slice,
+            inside: read.inside,
+            outside: read.outside,
+        })
+    }
+
+    /// An equal certificate.
+    ///
+    /// # Errors
+    /// `AllocError` where memory is refused.
+    pub fn clone(&self) -> Result<Self, AllocError>
+        ensures { IfOk result (λ copy. copy ≡ self.now) }
+    {
+        self.clone_eq()
+    }
+}
+
+impl<A: Allocator + Copy> CloneEq for Certificate<A> {
+    fn clone_eq(&self) -> Result<Self, AllocError> {
+        let tbs_certificate = self.tbs_certificate.clone_eq()?;
+        let signature_algorithm = self.signature_algorithm.clone_eq()?;
+        let signature_value = self.signature_value.clone_eq()?;
+        Ok(Certificate {
+            tbs_certificate,
+            signature_algorithm,
+            signature_value,
+        })
+    }
+}
+
+/// The signature behind its algorithm, owned.
+pub type Signature<A> = Join<AlgorithmIdentifier<A>, BitStringAsn1<A>>;
+
+/// The fields as they stand in the SEQUENCE, owned or borrowed.
+type Nest<T, S, V> = Tagged<Sequence, Join<T, Join<S, V>>>;
+
+/// The fields, owned.
+type Fields<A> = Nest<TbsCertificate<A>, AlgorithmIdentifier<A>, BitStringAsn1<A>>;
+
+impl<A: Allocator> ToDer for Certificate<A> {
+    ghost strict = { certificate_bytes };
+
+    fn encoded_len(&self) -> Result<usize, TooLong> {
+        let signature = Join(&self.signature_algorithm, &self.signature_value);
+        Nest::new(Join(&self.tbs_certificate, signature)).encoded_len()
+    }
+
+    fn write_back(&self, out: &mut [u8]) -> usize {
+        let signature = Join(&self.signature_algorithm, &self.signature_value);
+        Nest::new(Join(&self.tbs_certificate, signature)).write_back(out)
+    }
+}
+
+impl<A: Allocator> Structure<Fields<A>> for Certificate<A> {
+    ghost fields = { certificate_parts };
+
+    fn from_fields(parts: Fields<A>) -> Self {
+        let Join(tbs_certificate, Join(signature_algorithm, signature_value)) = parts.into_inner();
+        Certificate {
+            tbs_certificate,
+            signature_algorithm,
+            signature_value,
+        }
+    }
+
+    ghost same = { certificate_same };
+}
+
+impl<A: Allocator + Copy> Field<A> for Certificate<A> {
+    ghost shape = { certificate };
+
+    ghost lawful = { λ h. structure_lawful certificate_parts certificate_base certificate_same
+        (⟦<Fields<A> as Field<A>>⟧.lawful (tt, (tt, tt, λ c h. refl), λ c h. refl)) };
+
+    ghost elements = { λ h. structure_element certificate_parts certificate_base
+        (⟦<Fields<A> as Field<A>>⟧.elements tt) };
+
+    ghost agrees = { certificate_agrees };
+
+    fn starts(byte: u8) -> bool {
+        byte == SEQUENCE_TAG
+    }
+
+    fn known(&self) {
+        self.tbs_certificate.known();
+        self.signature_algorithm.known();
+        self.signature_value.known();
+    }
+
+    fn read(alloc: A, reader: &mut Reader<'_, A>) -> Result<Self, ReadError> {
+        read_fields::<Self, Fields<A>, A>(alloc, reader)
+    }
+}
+
+impl<A: Allocator + Copy> FromDer<A> for Certificate<A> {
+    ghost always = { tt };
+
+    ghost whole = { tt };
+}

@@ -1,0 +1,420 @@
+//! Requests for certificates.
+
+ghost use Rattle.std.specs.Prelude.{◌≡◌, ◌++◌, ◌∷◌, [], refl, IfOk, IfErr, OnOk, OnErr};
+ghost use Rattle.x509_der.specs.Calls.{NoWhole};
+ghost use Rattle.x509_der.specs.FirstField.{FirstPart};
+ghost use Rattle.x509_der.specs.laws.Structure.{structure_lawful, structure_element};
+ghost use Rattle.picky_asn1_x509.specs.Certificates.{signature_fields};
+ghost use Rattle.picky_asn1_x509.specs.Requests.{request_attributes, request_attributes_bytes, info_parts, info_base, request_info, info_bytes, new_info, with_attributes, request_parts, request_base, request, request_bytes};
+ghost use Rattle.picky_asn1_x509.specs.facts.Requests.{request_attributes_agree, info_same, info_agrees, request_same, request_agrees};
+
+use crate::certificate::Signature;
+use crate::signed_read::SignedRead;
+use picky_asn1_x509_parts::{Attribute, Attributes};
+use std::alloc::{AllocError, Allocator, Global};
+use std::marker::Model;
+use x509_der::parts::{
+    ContentOf, Explicit0, Field, Join, Reader, SEQUENCE_TAG, Sequence, Structure, Tagged,
+    read_fields, read_first_field,
+};
+use x509_der::{Asn1SequenceOf, BitStringAsn1, CloneEq, FromDer, ReadError, ToDer, TooLong};
+use x509_keys::{AlgorithmIdentifier, SubjectPublicKeyInfo};
+use x509_names::Name;
+
+/// The attributes of a request, in a list whose order is kept. Contracts see the list.
+///
+/// # Encoding
+/// `attributes [0] IMPLICIT SET OF Attribute` (RFC 2986, 4.1): tag A0, and the attributes one behind another. The tag is
+/// asked for, also where there are no attributes.
+#[derive(Drop)]
+#[derive_where(Debug, PartialEq, Eq)]
+pub struct OpenSslAttributes<A: Allocator = Global>(pub Attributes<A>);
+
+impl<A: Allocator> Model for OpenSslAttributes<A> {
+    ghost use Rattle.std.specs.Prelude.{List};
+    ghost use Rattle.picky_asn1_x509_parts.specs.declared.attribute.Attribute.{Attribute};
+
+    ghost Value = { List (Attribute A) };
+
+    ghost view = { λ v. v.0 };
+
+    ghost inverse = { λ list. record { 0 = list } };
+}
+
+impl<A: Allocator> From<Attributes<A>> for OpenSslAttributes<A> {
+    ghost from_gives = { λ list v. v ≡ list };
+
+    fn from(attributes: Attributes<A>) -> Self {
+        OpenSslAttributes(attributes)
+    }
+}
+
+impl<A: Allocator + Copy> OpenSslAttributes<A> {
+    /// An equal list.
+    ///
+    /// # Errors
+    /// `AllocError` where memory is refused.
+    pub fn clone(&self) -> Result<Self, AllocError>
+        ensures { IfOk result (λ copy. copy ≡ self.now) }
+    {
+        self.clone_eq()
+    }
+}
+
+impl<A: Allocator + Copy> CloneEq for OpenSslAttributes<A> {
+    fn clone_eq(&self) -> Result<Self, AllocError> {
+        Ok(OpenSslAttributes(self.0.clone_eq()?))
+    }
+}
+
+impl<A: Allocator> OpenSslAttributes<A> {
+    /// Adds an attribute at the list's end.
+    ///
+    /// # Errors
+    /// The attribute, where memory is refused. The list is as it was.
+    fn push(&mut self, attribute: Attribute<A>) -> Result<(), Attribute<A>>
+        ensures ok { OnOk result (self.new ≡ self.old ++ attribute ∷ []) }
+        ensures err { OnErr result (self.new ≡ self.old) }
+        ensures back { IfErr result (λ a. a ≡ attribute) }
+    {
+        match self.0.0.push(attribute) {
+            Ok(()) => Ok(()),
+            Err(refused) => Err(refused.value),
+        }
+    }
+}
+
+/// The list under its tag, owned or borrowed.
+type ListNest<L> = Tagged<Explicit0, ContentOf<L>>;
+
+impl<A: Allocator> ToDer for OpenSslAttributes<A> {
+    ghost strict = { request_attributes_bytes };
+
+    fn encoded_len(&self) -> Result<usize, TooLong> {
+        ListNest::new(ContentOf(&self.0)).encoded_len()
+    }
+
+    fn write_back(&self, out: &mut [u8]) -> usize {
+        ListNest::new(ContentOf(&self.0)).write_back(out)
+    }
+}
+
+impl<A: Allocator + Copy> Field<A> for OpenSslAttributes<A> {
+    ghost shape = { request_attributes };
+
+    ghost lawful = { λ h. ⟦<ListNest<Attributes<A>> as Field<A>>⟧.lawful (tt, tt) };
+
+    ghost elements = { λ h. ⟦<ListNest<Attributes<A>> as Field<A>>⟧.elements tt };
+
+    ghost agrees = { request_attributes_agree };
+
+    fn starts(byte: u8) -> bool {
+        byte == 0xA0
+    }
+
+    fn known(&self) {
+        self.0.known();
+    }
+
+    fn read(alloc: A, reader: &mut Reader<'_, A>) -> Result<Self, ReadError> {
+        let list = ListNest::<Attributes<A>>::read(alloc, reader)?;
+        Ok(OpenSslAttributes(list.into_value()))
+    }
+}
+
+impl<A: Allocator + Copy> FromDer<A> for OpenSslAttributes<A> {
+    ghost always = { tt };
+
+    ghost whole = { tt };
+}
+
+/// The part of a request that is signed.
+///
+/// # Encoding
+/// `CertificationRequestInfo ::= SEQUENCE { version INTEGER, subject Name, subjectPKInfo SubjectPublicKeyInfo,
+/// attributes [0] IMPLICIT SET OF Attribute }` (RFC 2986, 4.1). The version is any from 0 to 255.
+#[derive(Drop)]
+#[derive_where(Debug, PartialEq, Eq)]
+pub struct CertificationRequestInfo<A: Allocator = Global> {
+    /// The version: 0 in RFC 2986.
+    pub version: u8,
+    /// Whose key is to be certified.
+    pub subject: Name<A>,
+    /// The key.
+    pub subject_public_key_info: SubjectPublicKeyInfo<A>,
+    /// What else is asked for.
+    pub attributes: OpenSslAttributes<A>,
+}
+
+impl<A: Allocator> CertificationRequestInfo<A> {
+    /// A request of version 0 without attributes. Takes no memory; attributes that are added take it from `alloc`.
+    pub fn new(alloc: A, subject: Name<A>, subject_public_key_info: SubjectPublicKeyInfo<A>) -> Self
+        ensures { result ≡ new_info subject subject_public_key_info }
+    {
+        CertificationRequestInfo {
+            version: 0,
+            subject,
+            subject_public_key_info,
+            attributes: OpenSslAttributes(Asn1SequenceOf(Vec::new(alloc))),
+        }
+    }
+
+    /// The request with an attribute more, at the list's end.
+    ///
+    /// # Errors
+    /// The request and the attribute as they were given, where memory is refused.
+    pub fn with_attribute(mut self, attribute: Attribute<A>) -> Result<Self, (Self, Attribute<A>)>
+        ensures ok { IfOk result (λ v. v ≡ with_attributes self (self.attributes ++ attribute ∷ [])) }
+        ensures err { IfErr result (λ back. back ≡ (self, attribute)) }
+    {
+        match self.add_attribute(attribute) {
+            Ok(()) => Ok(self),
+            Err(attribute) => Err((self, attribute)),
+        }
+    }
+
+    /// Adds an attribute at the list's end.
+    ///
+    /// # Errors
+    /// The attribute, where memory is refused. The request is as it was.
+    pub fn add_attribute(&mut self, attribute: Attribute<A>) -> Result<(), Attribute<A>>
+        ensures ok { OnOk result (self.new ≡ with_attributes self.old
+            (self.old.attributes ++ attribute ∷ [])) }
+        ensures err { OnErr result (self.new ≡ self.old) }
+        ensures back { IfErr result (λ a. a ≡ attribute) }
+    {
+        self.attributes.push(attribute)
+    }
+}
+
+impl<A: Allocator + Copy> CertificationRequestInfo<A> {
+    /// An equal value.
+    ///
+    /// # Errors
+    /// `AllocError` where memory is refused.
+    pub fn clone(&self) -> Result<Self, AllocError>
+        ensures { IfOk result (λ copy. copy ≡ self.now) }
+    {
+        self.clone_eq()
+    }
+}
+
+impl<A: Allocator + Copy> CloneEq for CertificationRequestInfo<A> {
+    fn clone_eq(&self) -> Result<Self, AllocError> {
+        let subject = self.subject.clone_eq()?;
+        let subject_public_key_info = self.subject_public_key_info.clone_eq()?;
+        let attributes = self.attributes.clone_eq()?;
+        Ok(CertificationRequestInfo {
+            version: self.version,
+            subject,
+            subject_public_key_info,
+            attributes,
+        })
+    }
+}
+
+/// The fields as they stand in the SEQUENCE, owned or borrowed.
+type InfoNest<V, S, K, L> = Tagged<Sequence, Join<V, Join<S, Join<K, L>>>>;
+
+/// The fields, owned.
+type InfoFields<A> = InfoNest<u8, Name<A>, SubjectPublicKeyInfo<A>, OpenSslAttributes<A>>;
+
+impl<A: Allocator> ToDer for CertificationRequestInfo<A> {
+    ghost strict = { info_bytes };
+
+    fn encoded_len(&self) -> Result<usize, TooLong> {
+        let key = Join(&self.subject_public_key_info, &self.attributes);
+        InfoNest::new(Join(&self.version, Join(&self.subject, key))).encoded_len()
+    }
+
+    fn write_back(&self, out: &mut [u8]) -> usize {
+        let key = Join(&self.subject_public_key_info, &self.attributes);
+        InfoNest::new(Join(&self.version, Join(&self.subject, key))).write_back(out)
+    }
+}
+
+impl<A: Allocator> Structure<InfoFields<A>> for CertificationRequestInfo<A> {
+    ghost fields = { info_parts };
+
+    fn from_fields(parts: InfoFields<A>) -> Self {
+        let Join(version, Join(subject, Join(subject_public_key_info, attributes))) =
+            parts.into_inner();
+        CertificationRequestInfo {
+            version,
+            subject,
+            subject_public_key_info,
+            attributes,
+        }
+    }
+
+    ghost same = { info_same };
+}
+
+impl<A: Allocator + Copy> Field<A> for CertificationRequestInfo<A> {
+    ghost shape = { request_info };
+
+    ghost lawful = { λ h. structure_lawful info_parts info_base info_same
+        (⟦<InfoFields<A> as Field<A>>⟧.lawful (tt, (tt, (tt, tt, λ c h. refl), λ c h. refl), λ c h. refl)) };
+
+    ghost elements = { λ h. structure_element info_parts info_base
+        (⟦<InfoFields<A> as Field<A>>⟧.elements tt) };
+
+    ghost agrees = { info_agrees };
+
+    fn starts(byte: u8) -> bool {
+        byte == SEQUENCE_TAG
+    }
+
+    fn known(&self) {
+        let _version = self.version;
+        self.subject.known();
+        self.subject_public_key_info.known();
+        self.attributes.known();
+    }
+
+    fn read(alloc: A, reader: &mut Reader<'_, A>) -> Result<Self, ReadError> {
+        read_fields::<Self, InfoFields<A>, A>(alloc, reader)
+    }
+}
+
+impl<A: Allocator + Copy> FromDer<A> for CertificationRequestInfo<A> {
+    ghost always = { tt };
+
+    ghost whole = { tt };
+}
+
+/// A request for a certificate: what is signed, and the signature. Whether the signature is right isn't looked at.
+///
+/// # Encoding
+/// `CertificationRequest ::= SEQUENCE { certificationRequestInfo CertificationRequestInfo, signatureAlgorithm
+/// AlgorithmIdentifier, signature BIT STRING }` (RFC 2986, 4.2).
+#[derive(Drop)]
+#[derive_where(Debug, PartialEq, Eq)]
+pub struct CertificationRequest<A: Allocator = Global> {
+    /// What is signed.
+    pub certification_request_info: CertificationRequestInfo<A>,
+    /// The algorithm of the signature.
+    pub signature_algorithm: AlgorithmIdentifier<A>,
+    /// The signature.
+    pub signature: BitStringAsn1<A>,
+}
+
+impl<A: Allocator + Copy> CertificationRequest<A> {
+    /// Reads a request from the whole of the bytes, as `from_bytes` does, and answers with it the bytes of
+    /// `certification_request_info`, which the signature covers. The deviations inside those bytes are counted apart from
+    /// the others: where there are none inside, the bytes are the DER encoding of `certification_request_info`, and else
+    /// they aren't.
+    ///
+    /// # Errors
+    /// As `from_bytes`: refused exactly where the grammar relates the bytes to no request, or memory is refused.
+    pub fn read_with_signed_part(alloc: A, bytes: &[u8]) -> Result<SignedRead<'_, Self>, ReadError>
+        ensures ok { IfOk result (λ r. FirstPart request_parts request_info signature_fields bytes.now
+            r.value r.signed.now r.inside r.outside) }
+        ensures err { IfErr result (NoWhole (request {A = A}) bytes.now) }
+    {
+        let read = read_first_field::<Self, CertificationRequestInfo<A>, Signature<A>, A>(
+            alloc, bytes,
+        )?;
+        Ok(SignedRead {
+            value: read.value,
+            signed: read.slice,
+            inside: read.inside,
+            outside: read.outside,
+        })
+    }
+
+    /// An equal request.
+    ///
+    /// # Errors
+    /// `AllocError` where memory is refused.
+    pub fn clone(&self) -> Result<Self, AllocError>
+        ensures { IfOk result (λ copy. copy ≡ self.now) }
+    {
+        self.clone_eq()
+    }
+}
+
+impl<A: Allocator + Copy> CloneEq for CertificationRequest<A> {
+    fn clone_eq(&self) -> Result<Self, AllocError> {
+        let certification_request_info = self.certification_request_info.clone_eq()?;
+        let signature_algorithm = self.signature_algorithm.clone_eq()?;
+        let signature = self.signature.clone_eq()?;
+        Ok(CertificationRequest {
+            certification_request_info,
+            signature_algorithm,
+            signature,
+        })
+    }
+}
+
+/// The fields as they stand in the SEQUENCE, owned or borrowed.
+type RequestNest<I, S, V> = Tagged<Sequence, Join<I, Join<S, V>>>;
+
+/// The fields, owned.
+type RequestFields<A> = RequestNest<
+    CertificationRequestInfo<A>,
+    AlgorithmIdentifier<A>,
+    BitStringAsn1<A>,
+>;
+
+impl<A: Allocator> ToDer for CertificationRequest<A> {
+    ghost strict = { request_bytes };
+
+    fn encoded_len(&self) -> Result<usize, TooLong> {
+        let signature = Join(&self.signature_algorithm, &self.signature);
+        RequestNest::new(Join(&self.certification_request_info, signature)).encoded_len()
+    }
+
+    fn write_back(&self, out: &mut [u8]) -> usize {
+        let signature = Join(&self.signature_algorithm, &self.signature);
+        RequestNest::new(Join(&self.certification_request_info, signature)).write_back(out)
+    }
+}
+
+impl<A: Allocator> Structure<RequestFields<A>> for CertificationRequest<A> {
+    ghost fields = { request_parts };
+
+    fn from_fields(parts: RequestFields<A>) -> Self {
+        let Join(certification_request_info, Join(signature_algorithm, signature)) =
+            parts.into_inner();
+        CertificationRequest {
+            certification_request_info,
+            signature_algorithm,
+            signature,
+        }
+    }
+
+    ghost same = { request_same };
+}
+
+impl<A: Allocator + Copy> Field<A> for CertificationRequest<A> {
+    ghost shape = { request };
+
+    ghost lawful = { λ h. structure_lawful request_parts request_base request_same
+        (⟦<RequestFields<A> as Field<A>>⟧.lawful (tt, (tt, tt, λ c h. refl), λ c h. refl)) };
+
+    ghost elements = { λ h. structure_element request_parts request_base
+        (⟦<RequestFields<A> as Field<A>>⟧.elements tt) };
+
+    ghost agrees = { request_agrees };
+
+    fn starts(byte: u8) -> bool {
+        byte == SEQUENCE_TAG
+    }
+
+    fn known(&self) {
+        self.certification_request_info.known();
+        self.signature_algorithm.known();
+        self.signature.known();
+    }
+
+    fn read(alloc: A, reader: &mut Reader<'_, A>) -> Result<Self, ReadError> {
+        read_fields::<Self, RequestFields<A>, A>(alloc, reader)
+    }
+}
+
+impl<A: Allocator + Copy> FromDer<A> for CertificationRequest<A> {
+    ghost always = { tt };
+
+    ghost whole = { tt };
+}

@@ -1,0 +1,3 @@
+//! Strings of names.
+
+pub use x509_names::DirectoryString;

@@ -1,0 +1,16 @@
+//! A value that was read with the bytes of the part that is signed.
+
+use x509_der::Deviations;
+
+/// A certificate or a request that was read, with the bytes that its signature covers.
+#[derive(Debug, Drop)]
+pub struct SignedRead<'a, T> {
+    /// The certificate or the request.
+    pub value: T,
+    /// The bytes of its first element, as they stand in what was read.
+    pub signed: &'a [u8],
+    /// How many deviations of each kind stand inside those bytes.
+    pub inside: Deviations,
+    /// How many stand outside of them.
+    pub outside: Deviations,
+}

@@ -1,0 +1,3 @@
+//! The version of a certificate.
+
+pub use x509_names::Version;

@@ -1,0 +1,4 @@
+-- The types of the crate below, and their variants, for clauses and proofs of crates above.
+pub use Rattle.x509_names_parts.specs.declared.validity.Validity.{Validity}
+pub use Rattle.x509_names_parts.specs.declared.version.Version.{Version}
+pub use Rattle.x509_names_parts.specs.declared.version.Version.TheVariants as version
