@@ -1,4 +1,5 @@
 pub mod Faults
+pub mod Input
 pub mod Output
 pub mod Stops
 pub mod Text

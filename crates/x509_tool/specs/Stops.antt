@@ -1,5 +1,5 @@
--- What the program answers where it ends without output.
-use Rattle.std.specs.Prelude.{ℕ, List, codes}
+-- What the program shows: its output, or a line and a status.
+use Rattle.std.specs.Prelude.{ℕ, List, [], Option, Some, None, Result, Ok, Err, codes}
 use Rattle.std.specs.declared.io.ErrorKind.{ErrorKind}
 use Rattle.x509_tool.specs.declared.console.Stop.{Stop}
 use Rattle.x509_tool.specs.declared.console.Stop.TheVariants.{Fault, Console}
@@ -19,3 +19,16 @@ line_of_stop Console = codes "input or output failed"
 abbrev pub stop_of_kind : ErrorKind → Stop
 stop_of_kind kind.OutOfMemory = Fault OutOfMemory
 stop_of_kind _ = Console
+
+-- what the program shows of an outcome
+abbrev pub output_of : {V : Type 0} → Result V Stop → Option V
+output_of (Ok output) = Some output
+output_of (Err stop) = None
+
+abbrev pub line_of_outcome : {V : Type 0} → Result V Stop → List ℕ
+line_of_outcome (Ok output) = []
+line_of_outcome (Err stop) = line_of_stop stop
+
+abbrev pub status_of_outcome : {V : Type 0} → Result V Stop → ℕ
+status_of_outcome (Ok output) = 0
+status_of_outcome (Err stop) = status_of_stop stop

@@ -1,7 +1,9 @@
 //! The program's argument, its standard input and its standard output.
 
-ghost use Rattle.std.specs.Prelude.{◌≡◌};
-ghost use Rattle.x509_tool.specs.Stops.{status_of_stop, line_of_stop};
+ghost use Rattle.std.specs.Prelude.{◌≡◌, false, IfOk, OnOk, IfErr, IfSome};
+ghost use Rattle.std.specs.Io.KnownBytes.{IsAtEnd};
+ghost use Rattle.x509_tool.specs.Input.{Grows, IsGivenUp, only_of};
+ghost use Rattle.x509_tool.specs.Stops.{status_of_stop, line_of_stop, output_of, line_of_outcome, status_of_outcome};
 
 use crate::fault::ToolFault;
 use crate::run_text::run_text;
@@ -85,7 +87,17 @@ impl From<io::Error> for Stop {
     }
 }
 
-/// The one argument.
+/// The one argument: the first, where there is no second.
+pub(crate) fn only<T: Drop>(first: Option<T>, second: Option<T>) -> Result<T, Stop>
+    ensures { result ≡ only_of first second }
+{
+    match (first, second) {
+        (Some(name), None) => Ok(name),
+        (Some(_), Some(_)) | (None, _) => Err(Stop::Fault(ToolFault::Usage)),
+    }
+}
+
+/// The program's one argument.
 fn type_name(rt: &HostRuntime) -> Result<String, Stop> {
     let mut arguments = match env::args(rt) {
         Ok(arguments) => arguments,
@@ -95,38 +107,91 @@ fn type_name(rt: &HostRuntime) -> Result<String, Stop> {
         Err(_not_text) => return Err(Stop::Fault(ToolFault::Usage)),
     };
     let _program = arguments.next();
-    match (arguments.next(), arguments.next()) {
-        (Some(name), None) => Ok(name),
-        _ => Err(Stop::Fault(ToolFault::Usage)),
+    let first = arguments.next();
+    only(first, arguments.next())
+}
+
+/// Reads once, and adds what was read to the input. Answers whether there may be more.
+fn read_more<A: Allocator, R: Read>(reader: &mut R, input: &mut Vec<u8, A>) -> Result<bool, Stop>
+    ensures bytes { OnOk result (Grows (R.remaining reader.old) (R.remaining reader.new) input.old.items
+        input.new.items) }
+    ensures end { IfOk result (λ more. more ≡ false → IsAtEnd (R.remaining reader.new)) }
+    ensures err { IfErr result IsGivenUp }
+{
+    let mut buffer = [0u8; READ_SIZE];
+    match reader.read(&mut buffer) {
+        Ok(0) => Ok(false),
+        Ok(count) => {
+            input.extend_from_slice(&buffer[..count])?;
+            Ok(true)
+        }
+        Err(error) if error.kind() == ErrorKind::Interrupted => Ok(true),
+        Err(error) => Err(Stop::from(error)),
     }
 }
 
-/// All of a reader's bytes, in at most `MOST_READS` reads.
+/// All of a reader's bytes up to its end.
+///
+/// # Errors
+/// A read failed, memory was refused, or the input hadn't ended after `MOST_READS` reads.
 pub(crate) fn read_input<A: Allocator, R: Read + Drop>(
     alloc: A,
     mut reader: R,
-) -> Result<Vec<u8, A>, Stop> {
+) -> Result<Vec<u8, A>, Stop>
+    ensures ok { IfOk result (λ input. IfSome (R.remaining reader) (λ bytes. input.items ≡ bytes)) }
+    ensures err { IfErr result IsGivenUp }
+{
     let mut input = Vec::new(alloc);
-    let mut buffer = [0u8; READ_SIZE];
     for _ in 0..MOST_READS {
-        match reader.read(&mut buffer) {
-            Ok(0) => return Ok(input),
-            Ok(count) => input.extend_from_slice(&buffer[..count])?,
-            Err(error) if error.kind() == ErrorKind::Interrupted => {}
-            Err(error) => return Err(Stop::from(error)),
+        if !read_more(&mut reader, &mut input)? {
+            return Ok(input);
         }
     }
     Err(Stop::Console)
 }
 
-/// Runs the program: looks at the argument, reads the input, and prints the answer. Nothing is printed where anything
-/// before that fails.
-pub fn run(rt: &HostRuntime) -> Result<(), Stop> {
+/// What the program shows.
+#[derive(Drop)]
+pub struct Shown<A: Allocator> {
+    /// What goes to standard output, where anything does.
+    pub output: Option<Vec<u8, A>>,
+    /// The line that goes to standard error; none is empty.
+    pub line: &'static str,
+    /// The exit status.
+    pub status: u8,
+}
+
+/// What the program shows of its outcome: the output alone, or a line and a status.
+pub fn show<A: Allocator>(outcome: Result<Vec<u8, A>, Stop>) -> Shown<A>
+    ensures output { result.output ≡ output_of outcome }
+    ensures line { result.line.now ≡ line_of_outcome outcome }
+    ensures status { result.status ≡ status_of_outcome outcome }
+{
+    match outcome {
+        Ok(output) => Shown {
+            output: Some(output),
+            line: "",
+            status: 0,
+        },
+        Err(stop) => Shown {
+            output: None,
+            line: stop.line(),
+            status: stop.status(),
+        },
+    }
+}
+
+/// The program's outcome: looks at the argument, reads the input, and answers it.
+pub fn outcome(rt: &HostRuntime) -> Result<Vec<u8>, Stop> {
     let name = type_name(rt)?;
     let input = read_input(rt.alloc(), rt.reader())?;
-    let answer = run_text(rt.alloc(), name.as_str(), &input)?;
+    Ok(run_text(rt.alloc(), name.as_str(), &input)?)
+}
+
+/// Writes to standard output.
+pub fn print(rt: &HostRuntime, output: &[u8]) -> Result<(), Stop> {
     let mut out = io::writer(rt);
-    out.write_all(&answer)?;
+    out.write_all(output)?;
     out.flush()?;
     Ok(())
 }

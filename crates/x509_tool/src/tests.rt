@@ -1,6 +1,6 @@
 //! Worked inputs of the program, and the faults of its work.
 
-use crate::console::{Stop, read_input};
+use crate::console::{Stop, only, read_input, show};
 use crate::fault::ToolFault;
 use crate::run_text::run_text;
 use refusing::{Refusing, Turn};
@@ -212,4 +212,62 @@ fn inputs_are_read(rt: HostRuntime) {
     assert!(rt; requests > Some(0));
     let requests = heap.in_turn(|| input_turn(read_input(&heap, b"".as_slice()), b""));
     assert!(rt; requests == Some(0));
+}
+
+/// A reader that gives one byte, and then fails.
+#[derive(Drop)]
+struct Failing {
+    is_read: bool,
+    kind: ErrorKind,
+}
+
+impl io::Read for Failing {
+    fn read(&mut self, buf: &mut [u8]) -> io::Result<usize> {
+        if self.is_read {
+            return Err(io::Error::from(self.kind));
+        }
+        self.is_read = true;
+        match buf.first_mut() {
+            Some(first) => {
+                *first = b'3';
+                Ok(1)
+            }
+            None => Ok(0),
+        }
+    }
+}
+
+/// What a reader that fails in this way midway is refused with.
+fn stop_of(heap: Global, kind: ErrorKind) -> Option<Stop> {
+    let reader = Failing {
+        is_read: false,
+        kind,
+    };
+    read_input(heap, reader).err()
+}
+
+#[test]
+fn failed_reads_are_refused(rt: HostRuntime) {
+    let broken = stop_of(rt.alloc(), ErrorKind::BrokenPipe);
+    assert!(rt; matches!(broken, Some(Stop::Console)));
+    let refused = stop_of(rt.alloc(), ErrorKind::OutOfMemory);
+    assert!(rt; matches!(refused, Some(Stop::Fault(ToolFault::OutOfMemory))));
+}
+
+#[test]
+fn one_argument_is_taken(rt: HostRuntime) {
+    assert!(rt; matches!(only(Some(5u8), None), Ok(5)));
+    assert!(rt; matches!(only(Some(5u8), Some(6)), Err(Stop::Fault(ToolFault::Usage))));
+    assert!(rt; matches!(only::<u8>(None, None), Err(Stop::Fault(ToolFault::Usage))));
+}
+
+#[test]
+fn outcomes_are_shown(rt: HostRuntime) {
+    let output = Vec::new(rt.alloc());
+    let shown = show::<Global>(Ok(output));
+    assert!(rt; shown.output.is_some() && shown.line.is_empty() && shown.status == 0);
+    let shown = show::<Global>(Err(Stop::Console));
+    assert!(rt;
+        shown.output.is_none() && shown.line == "input or output failed" && shown.status == 5
+    );
 }
