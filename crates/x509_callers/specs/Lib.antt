@@ -1,0 +1,3 @@
+-- What callers promise.
+pub mod Requested
+pub mod facts

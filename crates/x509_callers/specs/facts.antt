@@ -1,0 +1,2 @@
+-- Lemmas about what callers promise.
+pub mod Rewriting

@@ -1,0 +1,44 @@
+//! A checker: what it asks of a certificate before it verifies the signature.
+
+ghost use Rattle.std.specs.Prelude.{◌≡◌, IfOk, IfErr, sum};
+ghost use Rattle.std.specs.Bool.{Decides};
+ghost use Rattle.picky_asn1_x509.specs.Calls.{NoWhole};
+ghost use Rattle.picky_asn1_x509.specs.Certificates.{signature_fields, certificate_parts, certificate};
+ghost use Rattle.picky_asn1_x509.specs.FirstField.{FirstPart};
+ghost use Rattle.picky_asn1_x509.specs.TbsCertificates.{tbs_certificate};
+
+use picky_asn1_x509::laws::equality_is_sameness;
+use picky_asn1_x509::{Certificate, Name, ReadError, SignedRead};
+use std::alloc::Allocator;
+
+/// Reads a certificate: its fields, the bytes that the signature covers, and what was forgiven inside and outside of
+/// these bytes.
+///
+/// # Errors
+/// The bytes encode no certificate, or memory is refused.
+pub fn read<A: Allocator + Copy>(
+    alloc: A,
+    bytes: &[u8],
+) -> Result<SignedRead<'_, Certificate<A>>, ReadError>
+    ensures ok { IfOk result (λ r. FirstPart certificate_parts tbs_certificate signature_fields
+        bytes.now r.value r.signed.now r.inside r.outside) }
+    ensures err { IfErr result (NoWhole (certificate {A = A}) bytes.now) }
+{
+    Certificate::read_with_signed_part(alloc, bytes)
+}
+
+/// Whether nothing was forgiven inside the bytes that the signature covers: then they are the DER encoding of the
+/// fields. Takes no memory.
+pub fn is_signed_in_der<A: Allocator>(read: &SignedRead<'_, Certificate<A>>) -> bool
+    ensures { Decides result (sum read.now.inside ≡ 0) }
+{
+    read.inside.total() == 0
+}
+
+/// Whether a certificate names one party as issuer and as subject: it is self-issued (RFC 5280, 3.2). Takes no memory.
+pub fn is_self_issued<A: Allocator>(certificate: &Certificate<A>) -> bool
+    ensures { Decides result (certificate.now.tbs_certificate.issuer ≡ certificate.now.tbs_certificate.subject) }
+{
+    equality_is_sameness::<Name<A>>();
+    certificate.tbs_certificate.issuer == certificate.tbs_certificate.subject
+}

@@ -1,0 +1,77 @@
+//! A request builder: a name, a key and its usages become the bytes to sign, and with the signature the request.
+
+ghost use Rattle.std.specs.Prelude.{◌≡◌, [], ◌∷◌, IfOk};
+ghost use Rattle.picky_asn1_x509.specs.Requests.{new_info, with_attributes, info_bytes, request_bytes};
+ghost use Rattle.x509_callers.specs.Requested.{asked, signed};
+
+use picky_asn1_x509::{
+    AlgorithmIdentifier, Attribute, BitString, BitStringAsn1, CertificationRequest,
+    CertificationRequestInfo, Extension, KeyUsage, Name, SubjectPublicKeyInfo, WriteError, to_vec,
+};
+use std::alloc::{AllocError, Allocator};
+
+/// A request that a key usage stands in the certificate.
+fn extension_request<A: Allocator + Copy>(
+    alloc: A,
+    usage: KeyUsage<A>,
+) -> Result<Attribute<A>, AllocError>
+    ensures { IfOk result (λ attribute. attribute ≡ asked usage) }
+{
+    let extension = Extension::new_key_usage(alloc, usage)?;
+    let mut extensions = Vec::with_capacity(alloc, 1)?;
+    extensions.push(extension)?;
+    Attribute::new_extension_request(alloc, extensions)
+}
+
+/// What is asked for: a certificate of this key, under this name, for these usages.
+///
+/// # Errors
+/// `AllocError` where memory is refused.
+pub fn requested<A: Allocator + Copy>(
+    alloc: A,
+    subject: Name<A>,
+    key: SubjectPublicKeyInfo<A>,
+    usage: KeyUsage<A>,
+) -> Result<CertificationRequestInfo<A>, AllocError>
+    ensures { IfOk result (λ info. info ≡ with_attributes (new_info subject key) (asked usage ∷ [])) }
+{
+    let attribute = extension_request(alloc, usage)?;
+    let mut info = CertificationRequestInfo::new(alloc, subject, key);
+    match info.add_attribute(attribute) {
+        Ok(()) => Ok(info),
+        Err(_given_back) => Err(AllocError),
+    }
+}
+
+/// The bytes that are to be signed.
+///
+/// # Errors
+/// Their length is above the greatest `usize`, or memory is refused.
+pub fn bytes_to_sign<A: Allocator + Copy>(
+    alloc: A,
+    info: &CertificationRequestInfo<A>,
+) -> Result<Vec<u8, A>, WriteError>
+    ensures { IfOk result (λ bytes. bytes.items ≡ info_bytes info.now) }
+{
+    to_vec(alloc, info)
+}
+
+/// The finished request.
+///
+/// # Errors
+/// Its length is above the greatest `usize`, or memory is refused.
+pub fn finished<A: Allocator + Copy>(
+    alloc: A,
+    info: CertificationRequestInfo<A>,
+    algorithm: AlgorithmIdentifier<A>,
+    signature: BitString<A>,
+) -> Result<Vec<u8, A>, WriteError>
+    ensures { IfOk result (λ bytes. bytes.items ≡ request_bytes (signed info algorithm signature)) }
+{
+    let request = CertificationRequest {
+        certification_request_info: info,
+        signature_algorithm: algorithm,
+        signature: BitStringAsn1(signature),
+    };
+    to_vec(alloc, &request)
+}

@@ -1,0 +1,128 @@
+//! The callers over a certificate and a request that OpenSSL 3.0 wrote.
+
+use crate::checker::{is_self_issued, is_signed_in_der, read};
+use crate::inspector::{common_name, describe, located};
+use crate::requester::{bytes_to_sign, finished, requested};
+use crate::signer::{RewriteError, rewrite};
+use picky_asn1_x509::{
+    AlgorithmIdentifier, BitString, CertificationRequestInfo, Deviation, DirectoryString, KeyUsage,
+    Name, SubjectPublicKeyInfo, Utf8String, oids,
+};
+use std::alloc::Global;
+use std::process::Abort;
+
+/// `openssl req -x509 -newkey ed25519 -subj /CN=example.org -addext
+/// subjectAltName=DNS:example.org,DNS:www.example.org`.
+const CERTIFICATE: &str =
+    "3082016c3082011ea003020102021414bb4cad8585d1ea295b7c111ad4edda6ecb64e5300506032b657030163114301206035504030c0b6578616d706c652e6f72673020170d3236313132333137353833365a180f32303532313132363137353833365a30163114301206035504030c0b6578616d706c652e6f7267302a300506032b6570032100ba84c7798a75156907599828af317a1edd687e5fef585051081ddb2d081eaa8ca37c307a301d0603551d0e04160414c419ed6d3f911a0ba5bf773fbd1bab940148d62a301f0603551d23041830168014c419ed6d3f911a0ba5bf773fbd1bab940148d62a300f0603551d130101ff040530030101ff30270603551d110420301e820b6578616d706c652e6f7267820f7777772e6578616d706c652e6f7267300506032b6570034100f57cb93dfa81e4fe974f6d1bd1a0905c1317741d386fda5bf3c470e1aff1467f14d940b119ead0a08467b33e77d841cf8d062e3426ac9caca4a478094ade970f";
+
+/// `openssl req -new -key KEY -subj /CN=example.org -addext keyUsage=critical,digitalSignature`.
+const REQUEST: &str =
+    "3081b6306a02010030163114301206035504030c0b6578616d706c652e6f7267302a300506032b6570032100ba84c7798a75156907599828af317a1edd687e5fef585051081ddb2d081eaa8ca021301f06092a864886f70d01090e31123010300e0603551d0f0101ff040403020780300506032b6570034100c6a1c21b52774e218f26a561d871068f16bf88cd5af2050f24011acc7f15d5939ec4a8a28dbd48a0b8759ce5762d0aab813929c9ea4de923d067cbe069148900";
+
+/// Its part that is signed.
+const SIGNED: &str =
+    "306a02010030163114301206035504030c0b6578616d706c652e6f7267302a300506032b6570032100ba84c7798a75156907599828af317a1edd687e5fef585051081ddb2d081eaa8ca021301f06092a864886f70d01090e31123010300e0603551d0f0101ff040403020780";
+
+/// Its key.
+const KEY: &str = "ba84c7798a75156907599828af317a1edd687e5fef585051081ddb2d081eaa8c";
+
+/// Its signature.
+const SIGNATURE: &str =
+    "c6a1c21b52774e218f26a561d871068f16bf88cd5af2050f24011acc7f15d5939ec4a8a28dbd48a0b8759ce5762d0aab813929c9ea4de923d067cbe069148900";
+
+/// A certificate whose signature's algorithm lacks the NULL of RSA.
+const WITHOUT_NULL: &str =
+    "304c303a020101300506032b65703000301e170d3139313031373137343132385a170d3232313031363137343132385a3000300a300506032b6570030100300b06092a864886f70d01010b030100";
+
+/// The bytes of these digits.
+fn bytes_of(rt: &impl Abort, alloc: Global, digits: &str) -> Vec<u8> {
+    hex::decode(alloc, digits).expect(rt, "digits")
+}
+
+#[test]
+fn a_certificate_is_checked(rt: HostRuntime) {
+    let bytes = bytes_of(&rt, rt.alloc(), CERTIFICATE);
+    let read = read(rt.alloc(), &bytes).expect(&rt, "a certificate");
+    assert!(rt; bytes.get(4..294) == Some(read.signed));
+    assert!(rt; is_signed_in_der(&read) && is_self_issued(&read.value));
+    let bytes = bytes_of(&rt, rt.alloc(), REQUEST);
+    let refused = crate::checker::read(rt.alloc(), &bytes);
+    assert!(rt; refused.is_err());
+}
+
+#[test]
+fn a_certificate_is_described(rt: HostRuntime) {
+    let bytes = bytes_of(&rt, rt.alloc(), CERTIFICATE);
+    let (certificate, places) = located(rt.alloc(), &bytes).expect(&rt, "a certificate");
+    assert!(rt; places.is_empty());
+    assert!(rt; common_name(&certificate).is_some());
+    let mut text = String::new(rt.alloc());
+    assert!(rt; describe(&mut text, &certificate).is_ok());
+    let lines =
+        "subject: CN=example.org\nvalid: 2026-11-23 17:58:36 to 2052-11-26 17:58:36\nhost: example.org\nhost: www.example.org\n";
+    assert_eq!(rt; text.as_str(), lines);
+}
+
+#[test]
+fn a_deviation_is_located(rt: HostRuntime) {
+    let bytes = bytes_of(&rt, rt.alloc(), WITHOUT_NULL);
+    let (_certificate, places) = located(rt.alloc(), &bytes).expect(&rt, "a certificate");
+    let found = places
+        .first()
+        .map(|place| (place.kind, place.start, place.end));
+    assert!(rt; found == Some((Deviation::RsaParametersAbsent, 62, 75)) && places.len() == 1);
+}
+
+/// The name of the request's subject.
+fn subject(rt: &impl Abort, alloc: Global) -> Name {
+    let text = String::from_str(alloc, "example.org").expect(rt, "memory");
+    let text = DirectoryString::Utf8String(Utf8String::from(text));
+    Name::new_common_name(alloc, text).expect(rt, "memory")
+}
+
+/// The request's key.
+fn key(rt: &impl Abort, alloc: Global) -> SubjectPublicKeyInfo {
+    let algorithm = oids::ed25519(alloc).expect(rt, "memory");
+    SubjectPublicKeyInfo::new_ed_key(algorithm, BitString::with_bytes(bytes_of(rt, alloc, KEY)))
+}
+
+/// What is asked for: a signing key.
+fn asked_for(rt: &impl Abort, alloc: Global) -> CertificationRequestInfo {
+    let mut usage = KeyUsage::new(alloc, 1).expect(rt, "memory");
+    usage.set_digital_signature(true).expect(rt, "memory");
+    let name = subject(rt, alloc);
+    requested(alloc, name, key(rt, alloc), usage).expect(rt, "memory")
+}
+
+#[test]
+fn a_request_is_built(rt: HostRuntime) {
+    let info = asked_for(&rt, rt.alloc());
+    let signed = bytes_to_sign(rt.alloc(), &info).expect(&rt, "memory");
+    assert!(rt; signed.as_slice() == bytes_of(&rt, rt.alloc(), SIGNED).as_slice());
+}
+
+#[test]
+fn a_request_is_finished(rt: HostRuntime) {
+    let info = asked_for(&rt, rt.alloc());
+    let algorithm = AlgorithmIdentifier::new_ed25519(rt.alloc()).expect(&rt, "memory");
+    let signature = BitString::with_bytes(bytes_of(&rt, rt.alloc(), SIGNATURE));
+    let request = finished(rt.alloc(), info, algorithm, signature).expect(&rt, "memory");
+    assert!(rt; request.as_slice() == bytes_of(&rt, rt.alloc(), REQUEST).as_slice());
+}
+
+#[test]
+fn a_certificate_is_rewritten(rt: HostRuntime) {
+    let bytes = bytes_of(&rt, rt.alloc(), CERTIFICATE);
+    let rewritten = rewrite(rt.alloc(), &bytes).expect(&rt, "a certificate");
+    assert!(rt; rewritten.is_same && rewritten.encoding.as_slice() == bytes.as_slice());
+}
+
+#[test]
+fn other_bytes_are_told(rt: HostRuntime) {
+    let bytes = bytes_of(&rt, rt.alloc(), WITHOUT_NULL);
+    let rewritten = rewrite(rt.alloc(), &bytes).expect(&rt, "a certificate");
+    assert!(rt; !rewritten.is_same && rewritten.encoding.len() == 80);
+    let refused = rewrite(rt.alloc(), b"\x30\x00");
+    assert!(rt; matches!(refused, Err(RewriteError::Read(_))));
+}
