@@ -1,5 +1,5 @@
 -- Counts of deviations.
-use Rattle.std.specs.Prelude.{◌≡◌, ℕ, ◌+◌, ◌<◌, ◌^◌, List, length, sum, slice_index}
+use Rattle.std.specs.Prelude.{◌≡◌, ℕ, ◌+◌, ◌<◌, ◌^◌, List, [], ◌∷◌, length, map, sum, slice_index, codes}
 use Rattle.x509_der_parts.specs.declared.deviation.Deviation.{Deviation}
 use Rattle.x509_der_parts.specs.declared.deviation.Deviation.TheVariants.{RsaParametersAbsent, RawParametersAbsent, HashNullAbsent, SaltTooLarge, VersionZeroSpelled, EmptyExtensionsSpelled, CriticalFalseSpelled, AuthorityKeyFieldOrder, GeneralNameForm, SkippedKeyElement}
 
@@ -24,3 +24,26 @@ kind_index CriticalFalseSpelled = 6
 kind_index AuthorityKeyFieldOrder = 7
 kind_index GeneralNameForm = 8
 kind_index SkippedKeyElement = 9
+
+-- a kind's name in plain words
+abbrev pub kind_name : Deviation → List ℕ
+kind_name RsaParametersAbsent = codes "RSA parameters absent"
+kind_name RawParametersAbsent = codes "algorithm parameters absent"
+kind_name HashNullAbsent = codes "hash parameters absent"
+kind_name SaltTooLarge = codes "salt length too large"
+kind_name VersionZeroSpelled = codes "default version encoded"
+kind_name EmptyExtensionsSpelled = codes "empty extensions encoded"
+kind_name CriticalFalseSpelled = codes "default criticality encoded"
+kind_name AuthorityKeyFieldOrder = codes "authority key fields repeated or out of order"
+kind_name GeneralNameForm = codes "general name under the other kind of tag"
+kind_name SkippedKeyElement = codes "element skipped behind a private key"
+
+-- the ten kinds, in the order of their numbers
+abbrev pub kinds : List Deviation
+kinds =
+    RsaParametersAbsent ∷ RawParametersAbsent ∷ HashNullAbsent ∷ SaltTooLarge ∷ VersionZeroSpelled
+    ∷ EmptyExtensionsSpelled ∷ CriticalFalseSpelled ∷ AuthorityKeyFieldOrder ∷ GeneralNameForm ∷ SkippedKeyElement ∷ []
+
+-- each of them with its count
+abbrev pub paired : List ℕ → List (Deviation × ℕ)
+paired counts = map (λ kind. (kind, slice_index counts (kind_index kind))) kinds

@@ -1,9 +1,10 @@
 //! Encodings that are read and not written: which there are, how many of each were met, and where.
 
-ghost use Rattle.std.specs.Prelude.{◌≡◌, ◌+◌, ◌<◌, ◌≤◌, ◌^◌, ◌↔◌, ℕ, IsTrue, sum, slice_set, slice_index, replicate, length};
-ghost use Rattle.x509_der_parts.specs.Deviations.{Together};
-ghost use Rattle.x509_der_parts.specs.Deviations.{kind_index};
+ghost use Rattle.std.specs.Prelude.{◌≡◌, ◌+◌, ◌<◌, ◌≤◌, ◌^◌, ◌↔◌, ℕ, IsTrue, Some, sum, slice_set, slice_index, replicate, length};
+ghost use Rattle.x509_der_parts.specs.Deviations.{Together, kind_index, kind_name, paired};
+ghost use Rattle.x509_der_parts.specs.Tally.{counts_of};
 
+use std::fmt;
 use std::marker::Model;
 
 /// The ten loose encodings that are read and not written. The list is closed.
@@ -34,6 +35,45 @@ pub enum Deviation {
 }
 
 impl Deviation {
+    /// The ten kinds, in the order of their numbers.
+    pub const ALL: [Deviation; 10] = [
+        Deviation::RsaParametersAbsent,
+        Deviation::RawParametersAbsent,
+        Deviation::HashNullAbsent,
+        Deviation::SaltTooLarge,
+        Deviation::VersionZeroSpelled,
+        Deviation::EmptyExtensionsSpelled,
+        Deviation::CriticalFalseSpelled,
+        Deviation::AuthorityKeyFieldOrder,
+        Deviation::GeneralNameForm,
+        Deviation::SkippedKeyElement,
+    ];
+
+    /// The kind's number, from 1 to 10.
+    pub fn number(self) -> usize
+        ensures { result ≡ kind_index self + 1 }
+    {
+        self.index() + 1
+    }
+
+    /// The kind's name in plain words.
+    pub fn name(self) -> &'static str
+        ensures { result.now ≡ kind_name self }
+    {
+        match self {
+            Deviation::RsaParametersAbsent => "RSA parameters absent",
+            Deviation::RawParametersAbsent => "algorithm parameters absent",
+            Deviation::HashNullAbsent => "hash parameters absent",
+            Deviation::SaltTooLarge => "salt length too large",
+            Deviation::VersionZeroSpelled => "default version encoded",
+            Deviation::EmptyExtensionsSpelled => "empty extensions encoded",
+            Deviation::CriticalFalseSpelled => "default criticality encoded",
+            Deviation::AuthorityKeyFieldOrder => "authority key fields repeated or out of order",
+            Deviation::GeneralNameForm => "general name under the other kind of tag",
+            Deviation::SkippedKeyElement => "element skipped behind a private key",
+        }
+    }
+
     /// The kind's place among the ten, from 0.
     pub(crate) fn index(self) -> usize
         ensures value { result ≡ kind_index self }
@@ -51,6 +91,14 @@ impl Deviation {
             Deviation::GeneralNameForm => 8,
             Deviation::SkippedKeyElement => 9,
         }
+    }
+}
+
+impl fmt::Display for Deviation {
+    ghost output = { λ kind. Some (kind_name kind) };
+
+    fn fmt<W: fmt::Write>(&self, f: &mut fmt::Formatter<W>) -> fmt::Result {
+        f.write_str(self.name())
     }
 }
 
@@ -112,6 +160,17 @@ impl Deviations {
         Deviations { counts }
     }
 
+    /// The counts of the deviations that stand at some places.
+    pub fn of_places(places: &[Place]) -> Deviations
+        ensures { result ≡ counts_of places.now }
+    {
+        let mut counts = Deviations::none();
+        for place in places {
+            counts.add(place.kind);
+        }
+        counts
+    }
+
     /// How many of a kind were met.
     pub fn count(&self, kind: Deviation) -> usize
         ensures { result ≡ slice_index self.now (kind_index kind) }
@@ -125,6 +184,17 @@ impl Deviations {
         ensures { result.now ≡ self.now }
     {
         &self.counts
+    }
+
+    /// The ten kinds, each with its count, in the order of the kinds.
+    pub fn pairs(&self) -> [(Deviation, usize); 10]
+        ensures { result ≡ paired self.now }
+    {
+        let mut pairs = [(Deviation::RsaParametersAbsent, 0); 10];
+        for index in 0..10 {
+            pairs[index] = (Deviation::ALL[index], self.counts[index]);
+        }
+        pairs
     }
 
     /// How many were met in all.

@@ -9,7 +9,6 @@ use crate::attribute_type_and_value::{AttributeTypeAndValue, AttributeTypeAndVal
 use crate::name::{Name, RelativeDistinguishedName};
 use std::alloc::{Allocator, Global};
 use std::{fmt, str};
-use x509_names_parts::ascii::ia5_text;
 
 /// A name that prints all its attributes in order, with commas between them: of each the label of its value, `=` and
 /// its text, of which nothing is escaped.
@@ -57,7 +56,7 @@ fn write_attribute<W: fmt::Write, A: Allocator>(
         AttributeTypeAndValueParameters::OrganizationName(text) => write!(f, "O={text}"),
         AttributeTypeAndValueParameters::OrganizationalUnitName(text) => write!(f, "OU={text}"),
         AttributeTypeAndValueParameters::EmailAddress(address) => {
-            write!(f, "EMAIL={}", ia5_text(address))
+            write!(f, "EMAIL={}", address.as_str())
         }
         AttributeTypeAndValueParameters::GivenName(text) => write!(f, "GIVENNAME={text}"),
         AttributeTypeAndValueParameters::Phone(text) => write!(f, "PHONE={text}"),

@@ -1,18 +1,8 @@
 -- The text of a directory string.
-use Rattle.std.specs.Prelude.{ℕ, ◌+◌, ◌*◌, List, [], ◌∷◌, encode_utf8_all}
-use Rattle.std.specs.Char.Utf16.{utf16_lossy_chars}
+use Rattle.std.specs.Prelude.{ℕ, List, encode_utf8_all}
+use Rattle.x509_prim.specs.Utf16.{lossy_chars}
 use Rattle.x509_names_parts.specs.declared.directory_string.DirectoryString.{DirectoryString}
 use Rattle.x509_names_parts.specs.declared.directory_string.DirectoryString.TheVariants.{PrintableString, Utf8String, BmpString}
-
--- the units of UTF-16 that bytes spell, the high byte of each first
-abbrev pub units_in : List ℕ → List ℕ
-units_in [] = []
-units_in (high ∷ []) = []
-units_in (high ∷ low ∷ rest) = (high * 256 + low) ∷ units_in rest
-
--- their characters (RFC 2781, 2.2): a pair of surrogates is one, and for each surrogate without a partner there is U+FFFD
-unfoldable pub lossy_chars : List ℕ → List ℕ
-lossy_chars bytes = utf16_lossy_chars (units_in bytes)
 
 -- the text, in UTF-8: the characters of a printable or UTF-8 string, which are spelled so already, and those of a BMP string
 abbrev pub directory_text : {A : Type 0} → DirectoryString A → List ℕ

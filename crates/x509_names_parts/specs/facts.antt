@@ -1,6 +1,5 @@
 -- Lemmas about the definitions.
 pub mod DirectoryStrings
-pub mod DirectoryTexts
 pub mod Times
 pub mod Validities
 pub mod Versions

@@ -6,9 +6,7 @@ ghost use Rattle.std.specs.String.{string_bytes};
 ghost use Rattle.x509_names_parts.specs.declared.directory_string.DirectoryString.TheVariants as directory;
 ghost use Rattle.x509_names_parts.specs.DirectoryTexts.{directory_text, directory_bytes, HoldsText};
 
-use crate::ascii::{into_printable_text, printable_text};
 use crate::directory_string::DirectoryString;
-use crate::utf16::write_utf16;
 use std::alloc::{AllocError, Allocator};
 use std::borrow::CowStr;
 use std::fmt;
@@ -47,7 +45,7 @@ impl<A: Allocator> DirectoryString<A> {
         ensures lent { HoldsText self.now → IsOkAnd result IsBorrowedStr }
     {
         match self {
-            DirectoryString::PrintableString(text) => Ok(CowStr::Borrowed(printable_text(text))),
+            DirectoryString::PrintableString(text) => Ok(CowStr::Borrowed(text.as_str())),
             DirectoryString::Utf8String(text) => Ok(CowStr::Borrowed(text.as_str())),
             DirectoryString::BmpString(_) => Ok(CowStr::Owned(self.to_string(alloc)?)),
         }
@@ -63,7 +61,7 @@ impl<A: Allocator> DirectoryString<A> {
         ensures moved { HoldsText self → IsOk result }
     {
         match self {
-            DirectoryString::PrintableString(text) => Ok(into_printable_text(text)),
+            DirectoryString::PrintableString(text) => Ok(text.into_string()),
             DirectoryString::Utf8String(text) => Ok(String::from(text)),
             string => match string.to_string(alloc) {
                 Ok(text) => Ok(text),
@@ -78,9 +76,9 @@ impl<A: Allocator> fmt::Display for DirectoryString<A> {
 
     fn fmt<W: fmt::Write>(&self, f: &mut fmt::Formatter<W>) -> fmt::Result {
         match self {
-            DirectoryString::PrintableString(text) => f.write_str(printable_text(text)),
+            DirectoryString::PrintableString(text) => f.write_str(text.as_str()),
             DirectoryString::Utf8String(text) => f.write_str(text.as_str()),
-            DirectoryString::BmpString(text) => write_utf16(f, text.as_bytes()),
+            DirectoryString::BmpString(text) => text.fmt(f),
         }
     }
 }

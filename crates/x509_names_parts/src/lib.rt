@@ -1,12 +1,10 @@
 //! Directory strings, times, validity and version of certificates; `x509_names` passes them on.
 #![tactic(auto)]
 
-pub mod ascii;
 pub mod directory_string;
 pub mod directory_text;
 pub mod laws;
 pub mod time;
-mod utf16;
 pub mod validity;
 pub mod version;
 

@@ -1,1 +1,2 @@
+pub mod FirstUnits
 pub mod Units

@@ -1,6 +1,7 @@
 -- A number has one minimal content.
 use Rattle.std.proofs.Common.{◌≡◌, ℕ, zero, suc, ◌+◌, ◌-◌, ◌*◌, ◌/◌, ◌%◌, ◌^◌, ◌<◌, ◌≤◌, Bool, true, false, List, [], ◌∷◌, length, get_or, ◌⊎◌, inl, inr, ⊎_elim, refl, sym, ap, ◌∙◌, arith}
-use Rattle.std.specs.Prelude.{ℤ, pos, ◌+ℤ◌, ◌-ℤ◌, IsTrue, if◌then◌else◌}
+use Rattle.std.specs.Bool.{Decides}
+use Rattle.std.specs.Prelude.{ℤ, pos, negsuc, ◌+ℤ◌, ◌-ℤ◌, ◌<ℤ◌, nat_le, IsTrue, if◌then◌else◌}
 use Rattle.std.proofs.Math.Nat.{pow-suc}
 use Rattle.std.proofs.lemmas.Int.{ints}
 use Rattle.std.proofs.lemmas.Nat.{mul-le}
@@ -145,3 +146,18 @@ minimal_once s t h k m q e =
 -- where the first bit is set, the number is negative
 pub sign_negative : (s : List ℕ) → AreBytes s → sign_bit s ≡ true → (n : ℕ) → signed_value s ≡ pos n → ⊥
 sign_negative s h e n p = mixed (signed_value s) (256 ^ length s) n (unsigned_value s) p (signed_value-high s h e) (unsigned_below s h)
+
+-- and nowhere else
+not_natural : (z : ℤ) → ((n : ℕ) → z ≡ pos n → ⊥) → z <ℤ pos 0
+not_natural (pos n) h = absurd (h n refl)
+not_natural (negsuc n) h = omega (arith, ints)
+
+sign_below : (s : List ℕ) → AreBytes s → Decides (sign_bit s) (signed_value s <ℤ pos 0)
+sign_below s h = (
+  λ e. not_natural (signed_value s) (sign_negative s h e),
+  λ l. ⊎_elim (λ e. e) (λ e. absurd (omega (arith, ints, l, signed_value-low s e))) (sign_cases (sign_bit s)),
+)
+
+pub first_below : (s : List ℕ) → 1 ≤ length s → AreBytes s → Decides (nat_le 128 (get_or s 0 0)) (signed_value s <ℤ pos 0)
+first_below [] n h = absurd (omega (arith, n))
+first_below (b ∷ r) n h = sign_below (b ∷ r) h

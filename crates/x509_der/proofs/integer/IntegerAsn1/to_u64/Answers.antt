@@ -8,11 +8,11 @@ pub returns-then-has_sign_bit-clause-none : goal.returns-then-has_sign_bit-claus
 returns-then-has_sign_bit-clause-none g c =
     let i : c.deref-2.result.now ≡ c.args.self.now = c.deref-2.ensures.value ∙ c.self.view_is in
     let j : c.deref.result.now ≡ c.args.self.now = c.deref.ensures.value ∙ c.self.view_is in
-    λ n l e. sign_negative c.args.self.now (rw j at c.value_of-value.ensures.bytes) (ap sign_bit (sym i) ∙ sym c.has_sign_bit.ensures ∙ c.if-has_sign_bit.true) n e
+    λ n l e. sign_negative c.args.self.now (rw j at c.value_of-value.ensures.bytes) (ap sign_bit (sym i) ∙ sym c.has_sign_bit.ensures.sign ∙ c.if-has_sign_bit.true) n e
 
 pub returns-else-has_sign_bit-clause-content : goal.returns-else-has_sign_bit-clause-content
 returns-else-has_sign_bit-clause-content g c =
     let i : c.deref-2.result.now ≡ c.args.self.now = c.deref-2.ensures.value ∙ c.self.view_is in
     let j : c.deref.result.now ≡ c.args.self.now = c.deref.ensures.value ∙ c.self.view_is in
     let v = c.value_of-value in
-    read_some c.args.self.now v.result (rw j at v.ensures.bytes) (rw c.self.view_is at c.self.invariant) (ap sign_bit (sym i) ∙ sym c.has_sign_bit.ensures ∙ c.if-has_sign_bit.false) (rw j at v.ensures.some)
+    read_some c.args.self.now v.result (rw j at v.ensures.bytes) (rw c.self.view_is at c.self.invariant) (ap sign_bit (sym i) ∙ sym c.has_sign_bit.ensures.sign ∙ c.if-has_sign_bit.false) (rw j at v.ensures.some)

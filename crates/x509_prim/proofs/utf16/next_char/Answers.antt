@@ -1,7 +1,7 @@
 use Rattle.std.proofs.Common.{sym, ◌∙◌}
 use Rattle.std.proofs.lemmas.List.{take_rest}
-use Rattle.x509_names_parts.proofs.Units.{pair_step, lone_step}
-use Rattle.x509_names_parts.proofs.utf16.next_char.Goals as goal
+use Rattle.x509_prim.proofs.FirstUnits.{pair_step, lone_step}
+use Rattle.x509_prim.proofs.utf16.next_char.Goals as goal
 
 pub returns-then-is_pair-clause-text : goal.returns-then-is_pair-clause-text
 returns-then-is_pair-clause-text c =

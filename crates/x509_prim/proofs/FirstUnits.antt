@@ -4,7 +4,7 @@ use Rattle.std.specs.Option.{unwrap_or}
 use Rattle.std.specs.Char.Utf16.{is_high_surrogate, is_low_surrogate, utf16_chars, utf16_lossy_chars, lone_unit_char, surrogate_pair_char}
 use Rattle.std.proofs.lemmas.Bool.Decides.{nat_tests}
 use Rattle.std.proofs.lemmas.Str.{utf16_chars-nil}
-use Rattle.x509_names_parts.specs.DirectoryTexts.{units_in, lossy_chars}
+use Rattle.x509_prim.specs.Utf16.{units_in, lossy_chars}
 
 -- the first unit, 0 where there is none
 abbrev pub first_unit : List ℕ → ℕ

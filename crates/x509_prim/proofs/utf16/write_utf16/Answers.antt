@@ -1,7 +1,7 @@
 use Rattle.std.proofs.Common.{◌++◌, encode_utf8, encode_utf8_all, sym, ap, ◌∙◌, append_assoc, append-nil, rules, arith, List, ℕ}
 use Rattle.std.proofs.Output.{has_written_append, has_written_of_eq}
-use Rattle.x509_names_parts.proofs.Units.{lossy_end}
-use Rattle.x509_names_parts.proofs.utf16.write_utf16.Goals as goal
+use Rattle.x509_prim.proofs.FirstUnits.{lossy_end}
+use Rattle.x509_prim.proofs.utf16.write_utf16.Goals as goal
 
 pub loop-rest-preserved : goal.loop-rest-preserved
 loop-rest-preserved g c =

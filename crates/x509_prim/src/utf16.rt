@@ -4,7 +4,7 @@ ghost use Rattle.std.specs.Prelude.{◌≡◌, ◌<◌, ◌≤◌, ◌&&◌, ◌
 ghost use Rattle.std.specs.Fmt.{WritesOnOk};
 ghost use Rattle.std.specs.Option.{unwrap_or};
 ghost use Rattle.std.specs.Char.Utf16.{is_high_surrogate, is_low_surrogate, lone_unit_char, surrogate_pair_char};
-ghost use Rattle.x509_names_parts.specs.DirectoryTexts.{units_in, lossy_chars};
+ghost use Rattle.x509_prim.specs.Utf16.{units_in, lossy_chars};
 
 use std::fmt;
 

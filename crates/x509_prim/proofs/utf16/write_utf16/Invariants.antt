@@ -1,7 +1,7 @@
 use Rattle.std.proofs.Common.{◌≡◌, ℕ, List, ◌++◌, length, encode_utf8_all}
 use Rattle.std.specs.Fmt.{HasWritten, IsPlainFormatter}
-use Rattle.x509_names_parts.specs.DirectoryTexts.{lossy_chars}
-use Rattle.x509_names_parts.proofs.utf16.write_utf16.Given as goal
+use Rattle.x509_prim.specs.Utf16.{lossy_chars}
+use Rattle.x509_prim.proofs.utf16.write_utf16.Given as goal
 
 abbrev pub invariant-loop-rest : goal.invariant-loop-rest
 invariant-loop-rest g l =
