@@ -5,6 +5,7 @@ mod bit_strings;
 mod certificates;
 mod character_strings;
 mod checks;
+mod deviations;
 mod directory_strings;
 mod elements;
 mod equality;

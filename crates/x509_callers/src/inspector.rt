@@ -81,13 +81,7 @@ fn write_validity<W: Write>(out: &mut W, validity: &Validity) -> fmt::Result {
 /// Writes a general name, where it is that of a host.
 fn write_host<W: Write, A: Allocator>(out: &mut W, name: &GeneralName<A>) -> fmt::Result {
     match name {
-        GeneralName::DnsName(text) => {
-            write!(out, "host: ")?;
-            for byte in text.as_bytes() {
-                out.write_char(char::from(*byte))?;
-            }
-            writeln!(out)
-        }
+        GeneralName::DnsName(text) => writeln!(out, "host: {text}"),
         _ => Ok(()),
     }
 }
@@ -105,6 +99,17 @@ pub fn describe<W: Write, A: Allocator>(out: &mut W, certificate: &Certificate<A
                 write_host(out, name)?;
             }
         }
+    }
+    Ok(())
+}
+
+/// Writes a line for each deviation: its name, and the bytes that it covers.
+///
+/// # Errors
+/// The writer refuses.
+pub fn write_deviations<W: Write>(out: &mut W, places: &[Place]) -> fmt::Result {
+    for place in places {
+        writeln!(out, "{}: bytes {}..{}", place.kind, place.start, place.end)?;
     }
     Ok(())
 }

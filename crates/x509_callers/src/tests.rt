@@ -1,7 +1,7 @@
 //! The callers over a certificate and a request that OpenSSL 3.0 wrote.
 
 use crate::checker::{is_self_issued, is_signed_in_der, read};
-use crate::inspector::{common_name, describe, located};
+use crate::inspector::{common_name, describe, located, write_deviations};
 use crate::requester::{bytes_to_sign, finished, requested};
 use crate::signer::{RewriteError, rewrite};
 use picky_asn1_x509::{
@@ -72,6 +72,9 @@ fn a_deviation_is_located(rt: HostRuntime) {
         .first()
         .map(|place| (place.kind, place.start, place.end));
     assert!(rt; found == Some((Deviation::RsaParametersAbsent, 62, 75)) && places.len() == 1);
+    let mut text = String::new(rt.alloc());
+    assert!(rt; write_deviations(&mut text, &places).is_ok());
+    assert_eq!(rt; text.as_str(), "RSA parameters absent: bytes 62..75\n");
 }
 
 /// The name of the request's subject.

@@ -1,7 +1,16 @@
 //! Printable, IA5 and BMP strings.
 
 use super::checks::{bytes_of, is_so, same_bytes};
-use x509_prim::{BmpString, Ia5String, Ia5StringAsn1, PrintableString};
+use std::alloc::Global;
+use std::fmt;
+use std::process::Abort;
+use x509_prim::{BmpString, Ia5String, Ia5StringAsn1, PrintableString, Utf8String};
+
+/// The value prints as the text.
+fn prints<T: fmt::Display>(rt: &impl Abort, alloc: Global, value: &T, text: &str) {
+    let printed = value.to_string(alloc).expect(rt, "memory");
+    is_so(rt, printed.as_str() == text, text);
+}
 
 /// The characters of PrintableString (X.680, 41.4, table 10).
 const PRINTABLE: &'static str =
@@ -23,6 +32,9 @@ fn printable_texts(rt: HostRuntime) {
         .ok()
         .expect(&rt, "printable");
     same_bytes(&rt, string.as_bytes(), PRINTABLE.as_bytes(), "text");
+    is_so(&rt, string.as_str() == PRINTABLE, "text");
+    prints(&rt, rt.alloc(), &string, PRINTABLE);
+    is_so(&rt, string.into_string().as_str() == PRINTABLE, "moved");
     let other = String::from_str(rt.alloc(), "a*b").expect(&rt, "memory");
     assert!(rt; PrintableString::from_string(other).is_err());
 }
@@ -41,6 +53,9 @@ fn ia5_texts(rt: HostRuntime) {
     let string = Ia5String::from_string(text).ok().expect(&rt, "IA5");
     let string = Ia5StringAsn1::from(string);
     same_bytes(&rt, string.as_bytes(), b"test1@rsa.com", "text");
+    is_so(&rt, string.as_str() == "test1@rsa.com", "text");
+    prints(&rt, rt.alloc(), &string, "test1@rsa.com");
+    is_so(&rt, string.into_string().as_str() == "test1@rsa.com", "moved");
     let other = String::from_str(rt.alloc(), "\u{E9}").expect(&rt, "memory");
     assert!(rt; Ia5String::from_string(other).is_err());
 }
@@ -63,6 +78,26 @@ fn units_of_texts(rt: HostRuntime) {
         same_bytes(&rt, string.as_bytes(), &units, *text);
         let same = BmpString::from_bytes(units).ok().expect(&rt, "units");
         is_so(&rt, same == string, *text);
+        prints(&rt, alloc, &string, *text);
+        let string = String::from_str(alloc, *text).expect(&rt, "memory");
+        prints(&rt, alloc, &Utf8String(string), *text);
+    }
+}
+
+/// Units with a surrogate that has no partner, and their text (RFC 2781, 2.2).
+const LONE: &[(&str, &str)] = &[
+    ("d83d", "\u{FFFD}"),
+    ("de000061", "\u{FFFD}a"),
+    ("d83d0061", "\u{FFFD}a"),
+    ("d83dd83dde00", "\u{FFFD}\u{1F600}"),
+];
+
+#[test]
+fn lone_surrogates_are_replaced(rt: HostRuntime) {
+    for (units, text) in LONE {
+        let units = bytes_of(&rt, rt.alloc(), *units);
+        let string = BmpString::from_bytes(units).ok().expect(&rt, "units");
+        prints(&rt, rt.alloc(), &string, *text);
     }
 }
 

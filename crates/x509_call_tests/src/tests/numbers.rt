@@ -102,3 +102,25 @@ fn other_numbers_are_not_told(rt: HostRuntime) {
         same(&rt, &number.to_u64(), &None, *content);
     }
 }
+
+/// Contents, and whether their numbers are below 0.
+const SIGNS: &[(&str, bool)] = &[
+    ("00", false),
+    ("7f", false),
+    ("0080", false),
+    ("010000000000000000", false),
+    ("ff", true),
+    ("80", true),
+    ("ff7f", true),
+];
+
+#[test]
+fn signs_are_told(rt: HostRuntime) {
+    for (content, is_negative) in SIGNS {
+        let bytes = bytes_of(&rt, rt.alloc(), *content);
+        let number = IntegerAsn1::from_signed_content(bytes)
+            .ok()
+            .expect(&rt, "a number");
+        same(&rt, &number.is_negative(), is_negative, *content);
+    }
+}
