@@ -14,9 +14,7 @@ pub use crate::bmp_string::{BmpCharSet, BmpString, BmpStringAsn1};
 pub use crate::errors::CharSetError;
 pub use crate::ia5_string::{Ia5CharSet, Ia5String, Ia5StringAsn1};
 pub use crate::printable_string::{PrintableCharSet, PrintableString, PrintableStringAsn1};
-pub use crate::restricted_string::{
-    AsciiCharSet, CharSet, RestrictedString, RestrictedStringAsn1,
-};
+pub use crate::restricted_string::{AsciiCharSet, CharSet, RestrictedString, RestrictedStringAsn1};
 pub use crate::utf8_string::Utf8String;
 pub use x509_prim_parts::generalized_time::{GeneralizedTime, GeneralizedTimeAsn1};
 pub use x509_prim_parts::utc_time::{UTCTime, UtcTimeAsn1};

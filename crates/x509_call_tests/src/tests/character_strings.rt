@@ -55,7 +55,11 @@ fn ia5_texts(rt: HostRuntime) {
     same_bytes(&rt, string.as_bytes(), b"test1@rsa.com", "text");
     is_so(&rt, string.as_str() == "test1@rsa.com", "text");
     prints(&rt, rt.alloc(), &string, "test1@rsa.com");
-    is_so(&rt, string.into_string().as_str() == "test1@rsa.com", "moved");
+    is_so(
+        &rt,
+        string.into_string().as_str() == "test1@rsa.com",
+        "moved",
+    );
     let other = String::from_str(rt.alloc(), "\u{E9}").expect(&rt, "memory");
     assert!(rt; Ia5String::from_string(other).is_err());
 }

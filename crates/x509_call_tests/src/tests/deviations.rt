@@ -7,12 +7,24 @@ use x509_keys::RawAlgorithmIdentifier;
 /// The kinds, each with its number and its name.
 const KINDS: [(Deviation, usize, &'static str); 10] = [
     (Deviation::RsaParametersAbsent, 1, "RSA parameters absent"),
-    (Deviation::RawParametersAbsent, 2, "algorithm parameters absent"),
+    (
+        Deviation::RawParametersAbsent,
+        2,
+        "algorithm parameters absent",
+    ),
     (Deviation::HashNullAbsent, 3, "hash parameters absent"),
     (Deviation::SaltTooLarge, 4, "salt length too large"),
     (Deviation::VersionZeroSpelled, 5, "default version encoded"),
-    (Deviation::EmptyExtensionsSpelled, 6, "empty extensions encoded"),
-    (Deviation::CriticalFalseSpelled, 7, "default criticality encoded"),
+    (
+        Deviation::EmptyExtensionsSpelled,
+        6,
+        "empty extensions encoded",
+    ),
+    (
+        Deviation::CriticalFalseSpelled,
+        7,
+        "default criticality encoded",
+    ),
     (
         Deviation::AuthorityKeyFieldOrder,
         8,
@@ -78,6 +90,11 @@ fn places_that_are_read_are_counted(rt: HostRuntime) {
     let read = read_located::<RawAlgorithmIdentifier, _>(alloc, &bytes);
     let (_, places) = read.expect(&rt, "an algorithm");
     let counts = Deviations::of_places(&places);
-    same(&rt, &counts.pairs()[1], &(Deviation::RawParametersAbsent, 1), "pairs");
+    same(
+        &rt,
+        &counts.pairs()[1],
+        &(Deviation::RawParametersAbsent, 1),
+        "pairs",
+    );
     same(&rt, &counts.total(), &1, "in all");
 }
