@@ -1,24 +1,25 @@
 //! A value that an identifier chooses, behind a flag that is left out where it is false.
 
-ghost use Rattle.std.specs.Prelude.{◌≡◌, false, refl};
+ghost use Rattle.std.specs.Prelude.{◌≡◌, false, refl, IfOk};
 ghost use Rattle.std.proofs.Common.{eqb};
 ghost use Rattle.x509_der.specs.View.{if_found};
 ghost use Rattle.x509_der.specs.laws.Meaning.{sequence_seen, sequence_lawful, seen_element};
 ghost use Rattle.x509_der.specs.Reading.{Ready, Reads};
 ghost use Rattle.x509_der_structures_parts.specs.Features.{value_bytes, IsValue, kind_of as kind_by, by_kind, critical_of, written_critical, critical_kinds, inner, feature_base, feature_meaning, feature_bytes, feature};
 
-use std::alloc::{Allocator, Global};
+use std::alloc::{AllocError, Allocator, Global};
 use x509_der::parts::{
     AnyDefinedBy, DefinedBy, Field, Found, Join, OCTET_STRING_TAG, Optional, Reader, SEQUENCE_TAG,
     Sequence, Tagged, View, read_viewed,
 };
 use x509_der::{
-    Deviation, FromDer, ObjectIdentifierAsn1, OctetStringAsn1, OctetStringAsn1Container, ReadError,
-    ToDer, TooLong,
+    CloneEq, Deviation, FromDer, ObjectIdentifierAsn1, OctetStringAsn1, OctetStringAsn1Container,
+    ReadError, SameEq, ToDer, TooLong,
 };
 
 /// The value of a feature.
 #[derive(Drop)]
+#[derive_where(Debug, PartialEq, Eq)]
 pub enum FeatureValue<A: Allocator = Global> {
     /// Of the feature 1.2.3, a BOOLEAN.
     Flag(bool),
@@ -26,6 +27,35 @@ pub enum FeatureValue<A: Allocator = Global> {
     Number(u8),
     /// Of any other feature, octets that aren't looked into.
     Other(OctetStringAsn1<A>),
+}
+
+impl<A: Allocator + Copy> FeatureValue<A> {
+    /// An equal value.
+    ///
+    /// # Errors
+    /// `AllocError` where memory is refused.
+    pub fn clone(&self) -> Result<Self, AllocError>
+        ensures { IfOk result (λ copy. copy ≡ self.now) }
+    {
+        self.clone_eq()
+    }
+}
+
+impl<A: Allocator + Copy> CloneEq for FeatureValue<A> {
+    fn clone_eq(&self) -> Result<Self, AllocError> {
+        match self {
+            FeatureValue::Flag(flag) => Ok(FeatureValue::Flag(*flag)),
+            FeatureValue::Number(number) => Ok(FeatureValue::Number(*number)),
+            FeatureValue::Other(octets) => Ok(FeatureValue::Other(octets.clone()?)),
+        }
+    }
+}
+
+impl<A: Allocator> SameEq for FeatureValue<A> {
+    ghost use Rattle.std.proofs.Common.{rules};
+    ghost use Rattle.std.specs.Cmp.Lexicographic.{bytes_decides};
+
+    ghost decides = { Prim.search (rules, bytes_decides) };
 }
 
 /// What an object identifier says of the value.
@@ -150,10 +180,35 @@ impl<A: Allocator + Copy> AnyDefinedBy<Key<A>, A> for FeatureValue<A> {
 /// `SEQUENCE { name OBJECT IDENTIFIER, critical BOOLEAN DEFAULT FALSE, value OCTET STRING }`. A FALSE that is spelled
 /// is read with the deviation `CriticalFalseSpelled`, and written as it must be: not at all.
 #[derive(Drop)]
+#[derive_where(Debug, PartialEq, Eq)]
 pub struct Feature<A: Allocator = Global> {
     pub name: ObjectIdentifierAsn1<A>,
     pub critical: bool,
     pub value: FeatureValue<A>,
+}
+
+impl<A: Allocator + Copy> Feature<A> {
+    /// An equal feature.
+    ///
+    /// # Errors
+    /// `AllocError` where memory is refused.
+    pub fn clone(&self) -> Result<Self, AllocError>
+        ensures { IfOk result (λ copy. copy ≡ self.now) }
+    {
+        self.clone_eq()
+    }
+}
+
+impl<A: Allocator + Copy> CloneEq for Feature<A> {
+    fn clone_eq(&self) -> Result<Self, AllocError> {
+        let name = self.name.clone_eq()?;
+        let value = self.value.clone_eq()?;
+        Ok(Feature {
+            name,
+            critical: self.critical,
+            value,
+        })
+    }
 }
 
 /// The fields in the SEQUENCE, owned.

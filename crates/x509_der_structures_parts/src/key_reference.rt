@@ -1,6 +1,6 @@
 //! A list of fields, each under its own tag, of which the last of each tag counts.
 
-ghost use Rattle.std.specs.Prelude.{◌≡◌, ◌<◌};
+ghost use Rattle.std.specs.Prelude.{◌≡◌, ◌<◌, IfOk};
 ghost use Rattle.x509_der.specs.View.{if_found};
 ghost use Rattle.x509_der.specs.laws.Meaning.{sequence_seen, sequence_lawful, seen_element};
 ghost use Rattle.x509_der_structures_parts.specs.facts.FieldTags.{hints_apart, numbers_apart};
@@ -9,12 +9,14 @@ ghost use Rattle.x509_der.specs.Lasts.{ascends};
 ghost use Rattle.x509_der_structures_parts.specs.facts.KeyReferenceFacts.{reference_is, one_kind, reference_agrees};
 ghost use Rattle.x509_der.specs.Items.{items};
 
-use std::alloc::{Allocator, Global};
+use std::alloc::{AllocError, Allocator, Global};
 use x509_der::parts::{
     Choice, ContentOf, Explicit1, Field, Found, Implicit0, Implicit2, Items, Join, Optional,
     Reader, SEQUENCE_TAG, Sequence, Tagged, View, known_there, read_viewed,
 };
-use x509_der::{Deviation, FromDer, IntegerAsn1, OctetStringAsn1, ReadError, ToDer, TooLong};
+use x509_der::{
+    CloneEq, Deviation, FromDer, IntegerAsn1, OctetStringAsn1, ReadError, ToDer, TooLong,
+};
 
 /// Says which key is meant, by its identifier, or by who issued a certificate of it and the certificate's serial
 /// number. Each may be absent.
@@ -24,10 +26,35 @@ use x509_der::{Deviation, FromDer, IntegerAsn1, OctetStringAsn1, ReadError, ToDe
 /// IMPLICIT INTEGER OPTIONAL }`. Fields that repeat or stand in another order are read with the one deviation
 /// `AuthorityKeyFieldOrder`; of those with one tag the last counts.
 #[derive(Drop)]
+#[derive_where(Debug, PartialEq, Eq)]
 pub struct KeyReference<A: Allocator = Global> {
     pub identifier: Option<OctetStringAsn1<A>>,
     pub issuer: Option<u8>,
     pub serial: Option<IntegerAsn1<A>>,
+}
+
+impl<A: Allocator + Copy> KeyReference<A> {
+    /// An equal key reference.
+    ///
+    /// # Errors
+    /// `AllocError` where memory is refused.
+    pub fn clone(&self) -> Result<Self, AllocError>
+        ensures { IfOk result (λ copy. copy ≡ self.now) }
+    {
+        self.clone_eq()
+    }
+}
+
+impl<A: Allocator + Copy> CloneEq for KeyReference<A> {
+    fn clone_eq(&self) -> Result<Self, AllocError> {
+        let identifier = self.identifier.clone_eq()?;
+        let serial = self.serial.clone_eq()?;
+        Ok(KeyReference {
+            identifier,
+            issuer: self.issuer,
+            serial,
+        })
+    }
 }
 
 /// One field, by its tag.

@@ -1,10 +1,10 @@
 //! A choice of eight alternatives, and six more that are deviations.
 
-ghost use Rattle.std.specs.Prelude.{◌≡◌, refl};
+ghost use Rattle.std.specs.Prelude.{◌≡◌, refl, IfOk};
 ghost use Rattle.x509_der_structures_parts.specs.Labels.{strict_base, label_base, label_parts, strict_label, loose_label, label_meaning, label};
 ghost use Rattle.x509_der_structures_parts.specs.facts.LabelFacts.{label_seen, label_lawful, label_element};
 
-use std::alloc::{Allocator, Global};
+use std::alloc::{AllocError, Allocator, Global};
 use x509_der::parts::Choice::{First, Second};
 use x509_der::parts::{
     Choice, ContentOf, Explicit0, Explicit1, Explicit2, Explicit4, Explicit5, Explicit6, Explicit7,
@@ -12,7 +12,7 @@ use x509_der::parts::{
     Reader, Tagged, View, read_viewed,
 };
 use x509_der::{
-    Asn1SequenceOf, BitStringAsn1, Deviation, FromDer, IntegerAsn1, ObjectIdentifierAsn1,
+    Asn1SequenceOf, BitStringAsn1, CloneEq, Deviation, FromDer, IntegerAsn1, ObjectIdentifierAsn1,
     OctetStringAsn1, ReadError, ToDer, TooLong,
 };
 
@@ -26,6 +26,7 @@ use x509_der::{
 /// The forms under the tags 1, 2, 6, 7 and 8 are also read under the explicit tag, and the one under 4 under the
 /// implicit tag, each with the deviation `GeneralNameForm`.
 #[derive(Drop)]
+#[derive_where(Debug, PartialEq, Eq)]
 pub enum Label<A: Allocator = Global> {
     /// Numbers, under the tag 0.
     Codes(Asn1SequenceOf<u8, A>),
@@ -43,6 +44,33 @@ pub enum Label<A: Allocator = Global> {
     Uses(BitStringAsn1<A>),
     /// An object identifier, under the tag 8.
     Name(ObjectIdentifierAsn1<A>),
+}
+
+impl<A: Allocator + Copy> Label<A> {
+    /// An equal label.
+    ///
+    /// # Errors
+    /// `AllocError` where memory is refused.
+    pub fn clone(&self) -> Result<Self, AllocError>
+        ensures { IfOk result (λ copy. copy ≡ self.now) }
+    {
+        self.clone_eq()
+    }
+}
+
+impl<A: Allocator + Copy> CloneEq for Label<A> {
+    fn clone_eq(&self) -> Result<Self, AllocError> {
+        match self {
+            Label::Codes(codes) => Ok(Label::Codes(codes.clone()?)),
+            Label::Text(text) => Ok(Label::Text(text.clone()?)),
+            Label::Number(number) => Ok(Label::Number(*number)),
+            Label::Flag(flag) => Ok(Label::Flag(*flag)),
+            Label::Level(level) => Ok(Label::Level(*level)),
+            Label::Serial(serial) => Ok(Label::Serial(serial.clone()?)),
+            Label::Uses(uses) => Ok(Label::Uses(uses.clone()?)),
+            Label::Name(name) => Ok(Label::Name(name.clone()?)),
+        }
+    }
 }
 
 /// The alternatives that are written, owned or borrowed.

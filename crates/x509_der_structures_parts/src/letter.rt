@@ -1,18 +1,18 @@
 //! A structure with another in it, under an implicit tag.
 
-ghost use Rattle.std.specs.Prelude.{◌≡◌, refl};
+ghost use Rattle.std.specs.Prelude.{◌≡◌, refl, IfOk};
 ghost use Rattle.x509_der.specs.laws.Structure.{structure_lawful, structure_element};
 ghost use Rattle.x509_der_structures_parts.specs.facts.FieldTags.{stamp_apart};
 ghost use Rattle.x509_der_structures_parts.specs.Letters.{letter_parts, letter_base, letter};
 ghost use Rattle.x509_der_structures_parts.specs.facts.Letters.{letter_same};
 
 use crate::stamp::Stamp;
-use std::alloc::{Allocator, Global};
+use std::alloc::{AllocError, Allocator, Global};
 use x509_der::parts::{
     ContentOf, Explicit0, Field, Join, Optional, Reader, SEQUENCE_TAG, Sequence, Structure, Tagged,
     known_there, read_fields,
 };
-use x509_der::{FromDer, ReadError, ToDer, TooLong};
+use x509_der::{CloneEq, FromDer, ReadError, ToDer, TooLong};
 
 /// Which page of how many it is, with a stamp that may be absent. The stamp stands under an implicit tag; since it is
 /// constructed, the tag's byte is A0.
@@ -20,10 +20,34 @@ use x509_der::{FromDer, ReadError, ToDer, TooLong};
 /// # Encoding
 /// `SEQUENCE { stamp [0] IMPLICIT Stamp OPTIONAL, page INTEGER (0..255), pages INTEGER (0..255) }`
 #[derive(Drop)]
+#[derive_where(Debug, PartialEq, Eq)]
 pub struct Letter<A: Allocator = Global> {
     pub stamp: Option<Stamp<A>>,
     pub page: u8,
     pub pages: u8,
+}
+
+impl<A: Allocator + Copy> Letter<A> {
+    /// An equal letter.
+    ///
+    /// # Errors
+    /// `AllocError` where memory is refused.
+    pub fn clone(&self) -> Result<Self, AllocError>
+        ensures { IfOk result (λ copy. copy ≡ self.now) }
+    {
+        self.clone_eq()
+    }
+}
+
+impl<A: Allocator + Copy> CloneEq for Letter<A> {
+    fn clone_eq(&self) -> Result<Self, AllocError> {
+        let stamp = self.stamp.clone_eq()?;
+        Ok(Letter {
+            stamp,
+            page: self.page,
+            pages: self.pages,
+        })
+    }
 }
 
 /// The fields as they stand in the SEQUENCE, owned or borrowed.

@@ -1,18 +1,18 @@
 //! A value whose kind an object identifier says, with an optional field behind it.
 
-ghost use Rattle.std.specs.Prelude.{◌≡◌, true, refl};
+ghost use Rattle.std.specs.Prelude.{◌≡◌, true, refl, IfOk};
 ghost use Rattle.x509_der.specs.Reading.{Ready, Reads};
 ghost use Rattle.x509_der_structures_parts.specs.facts.FieldTags.{note_apart};
 ghost use Rattle.x509_der_structures_parts.specs.Notices.{claim_bytes, claim_avoids, kind_of as kind_by, by_kind, notice_parts, notice_bytes, notice_base, notice};
 ghost use Rattle.x509_der_structures_parts.specs.facts.Notices.{notice_same};
 ghost use Rattle.x509_der.specs.laws.Structure.{structure_lawful, structure_element};
 
-use std::alloc::{Allocator, Global};
+use std::alloc::{AllocError, Allocator, Global};
 use x509_der::parts::{
     AnyDefinedBy, DefinedBy, Explicit1, Field, Join, Optional, Reader, SEQUENCE_TAG, Sequence,
     Structure, Tagged, known_there, read_fields,
 };
-use x509_der::{FromDer, ObjectIdentifierAsn1, ReadError, ToDer, TooLong};
+use x509_der::{CloneEq, FromDer, ObjectIdentifierAsn1, ReadError, ToDer, TooLong};
 
 /// The value of a notice.
 #[derive(Debug, Drop, Clone, Copy, PartialEq, Eq)]
@@ -140,10 +140,34 @@ impl<A: Allocator + Copy> AnyDefinedBy<ObjectIdentifierAsn1<A>, A> for Claim {
 /// `SEQUENCE { name OBJECT IDENTIFIER, value ANY DEFINED BY name OPTIONAL, note [1] EXPLICIT BOOLEAN OPTIONAL }`. The
 /// name says whether there is a value.
 #[derive(Drop)]
+#[derive_where(Debug, PartialEq, Eq)]
 pub struct Notice<A: Allocator = Global> {
     pub name: ObjectIdentifierAsn1<A>,
     pub claim: Claim,
     pub note: Option<bool>,
+}
+
+impl<A: Allocator + Copy> Notice<A> {
+    /// An equal notice.
+    ///
+    /// # Errors
+    /// `AllocError` where memory is refused.
+    pub fn clone(&self) -> Result<Self, AllocError>
+        ensures { IfOk result (λ copy. copy ≡ self.now) }
+    {
+        self.clone_eq()
+    }
+}
+
+impl<A: Allocator + Copy> CloneEq for Notice<A> {
+    fn clone_eq(&self) -> Result<Self, AllocError> {
+        let name = self.name.clone_eq()?;
+        Ok(Notice {
+            name,
+            claim: self.claim,
+            note: self.note,
+        })
+    }
 }
 
 /// The fields as they stand in the SEQUENCE, owned or borrowed.

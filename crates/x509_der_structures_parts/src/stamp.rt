@@ -1,27 +1,57 @@
 //! A structure that also stands under an implicit tag.
 
-ghost use Rattle.std.specs.Prelude.{◌≡◌, true, refl};
+ghost use Rattle.std.specs.Prelude.{◌≡◌, true, refl, IfOk};
 ghost use Rattle.x509_der.specs.laws.ContentOf.{content_of_lawful, tagged_fields};
 ghost use Rattle.x509_der.specs.Structure.{structure};
 ghost use Rattle.x509_der.specs.laws.Structure.{structure_lawful, structure_element};
 ghost use Rattle.x509_der_structures_parts.specs.Stamps.{stamp_parts, stamp_inner, stamp_base, stamp, stamp_content};
 ghost use Rattle.x509_der_structures_parts.specs.facts.Stamps.{stamp_same};
 
-use std::alloc::{Allocator, Global};
+use std::alloc::{AllocError, Allocator, Global};
 use x509_der::parts::{
     Content, Field, Join, OneTag, Reader, SEQUENCE_TAG, Sequence, Structure, Tagged, ToContent,
     element_len, read_as_content, read_sequence, write_element,
 };
-use x509_der::{FromDer, ObjectIdentifierAsn1, OctetStringAsn1, ReadError, ToDer, TooLong};
+use x509_der::{
+    CloneEq, FromDer, ObjectIdentifierAsn1, OctetStringAsn1, ReadError, SameEq, ToDer, TooLong,
+};
 
 /// Octets, and what they are.
 ///
 /// # Encoding
 /// `SEQUENCE { name OBJECT IDENTIFIER, octets OCTET STRING }`
 #[derive(Drop)]
+#[derive_where(Debug, PartialEq, Eq)]
 pub struct Stamp<A: Allocator = Global> {
     pub name: ObjectIdentifierAsn1<A>,
     pub octets: OctetStringAsn1<A>,
+}
+
+impl<A: Allocator + Copy> Stamp<A> {
+    /// An equal stamp.
+    ///
+    /// # Errors
+    /// `AllocError` where memory is refused.
+    pub fn clone(&self) -> Result<Self, AllocError>
+        ensures { IfOk result (λ copy. copy ≡ self.now) }
+    {
+        self.clone_eq()
+    }
+}
+
+impl<A: Allocator + Copy> CloneEq for Stamp<A> {
+    fn clone_eq(&self) -> Result<Self, AllocError> {
+        let name = self.name.clone_eq()?;
+        let octets = self.octets.clone_eq()?;
+        Ok(Stamp { name, octets })
+    }
+}
+
+impl<A: Allocator> SameEq for Stamp<A> {
+    ghost use Rattle.std.proofs.Common.{rules};
+    ghost use Rattle.std.specs.Cmp.Lexicographic.{bytes_decides};
+
+    ghost decides = { Prim.search (rules, bytes_decides) };
 }
 
 /// The fields in the SEQUENCE, owned.
