@@ -1,6 +1,7 @@
-/* Runs the calls that calls.rt.in exports, each on inputs made here. Linked as it is, it is run under callgrind, and dumps the count
-   of each call under its name. With MEMORY, and linked with --wrap, it prints what each call asks of malloc; with ARENA, linked so
-   too, it is counted over an allocator that does next to nothing. */
+/* Runs the calls that calls.rt.in exports, each on inputs made here, and with CERTIFICATES those of certificates.rt.in, on the files
+   of inputs/. Linked as it is, it is run under callgrind, and dumps the count of each call under its name. With MEMORY, and linked
+   with --wrap, it prints what each call asks of malloc; with ARENA, linked so too, it is counted over an allocator that does next to
+   nothing. */
 #include <malloc.h>
 #include <stdint.h>
 #include <stdio.h>
@@ -261,6 +262,39 @@ static void worst(void) {
   }
 }
 
+#ifdef CERTIFICATES
+#include "inputs.h"
+enum { CERTIFICATE, REQUEST, PRIVATE_KEY, WHOLES };
+Called measured_certificate, measured_request, measured_private_key;
+size_t measured_headers(uint8_t which, const uint8_t *bytes, size_t len), measured_size_of_whole(uint8_t which);
+
+/* Such an input is written as it stood, or this fails. */
+static void whole(const char *name, const uint8_t *input, size_t n, uint8_t which) {
+  static Called *const called[WHOLES] = {measured_certificate, measured_request, measured_private_key};
+  one(input, n, measured_headers(which, input, n));
+  if (!headers) fail(name, "headers");
+  if (called[which](SLICE, input, n, room, sizeof room) != n || memcmp(room, input, n)) fail(name, "rewrite");
+  measure(name, called[which]);
+}
+
+#define WHOLE(name, input, which) whole(name, input, sizeof input, which)
+
+static void certificates(void) {
+  WHOLE("certificate", input_certificate, CERTIFICATE);
+  WHOLE("certificate-1000-names", input_certificate_1000_names, CERTIFICATE);
+  WHOLE("request", input_request, REQUEST);
+  WHOLE("private-key", input_private_key, PRIVATE_KEY);
+}
+
+static void whole_sizes(void) {
+  static const char *const of[WHOLES] = {"certificate", "request", "private-key"};
+  for (uint8_t i = 0; i < WHOLES; i++) printf("size\t%s\t%zu\n", of[i], measured_size_of_whole(i));
+}
+#else
+static void certificates(void) {}
+static void whole_sizes(void) {}
+#endif
+
 static void sizes(void) {
   static const char *const of[] = {"identifier", "algorithm", "integer", "octets", "raw", "set", "list"};
   for (uint8_t i = 0; i < 7; i++) printf("size\t%s\t%zu\n", of[i], measured_size(i));
@@ -277,9 +311,11 @@ int main(void) {
   of_sizes(1000000, "1m");
   nests();
   thousands();
+  certificates();
   if (is_memory) {
     worst();
     sizes();
+    whole_sizes();
   }
   return 0;
 }

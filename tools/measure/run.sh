@@ -1,21 +1,31 @@
 #!/bin/bash
 # Measures the library: instructions of each call by callgrind, and its requests for memory.
 # run.sh                  measures this repository
-# run.sh CHECKOUT         also measures that checkout of an earlier state, and compares
+# run.sh CHECKOUT         also measures that checkout of an earlier state, and compares; one without certificates is measured without them
 # It needs rt, gcc, valgrind and python3. It builds in $MEASURE_FOLDER (else /tmp/measure), and nothing else of the repository is written.
 set -euo pipefail
 here=$(cd "$(dirname "$0")" && pwd)
 top=$(cd "$here/../.." && pwd)
 folder=${MEASURE_FOLDER:-/tmp/measure}
 kit=$(dirname "$(dirname "$(readlink -f "$(command -v rt)")")")
+# Of these an earlier state may lack some.
 crates="x509_der_parts x509_der x509_oids_algorithms x509_keys_parts x509_keys"
+# And these, where there are certificates.
+upper="x509_prim_parts x509_prim x509_oids_objects x509_names_parts x509_names picky_asn1_x509_parts picky_asn1_x509"
 
 # Copies the crates of a checkout, and builds the calls over them as a static library.
 build() {
-  local from=$1 to=$2
+  local from=$1 to=$2 list="" uses="x509_der x509_keys"
   mkdir -p "$to/crates/measured/src" "$to/crates/measured/specs" "$to/crates/measured/proofs"
   [ -d "$to/.git" ] || git init -q "$to"
-  for crate in $crates; do
+  for crate in $crates; do [ ! -d "$from/crates/$crate" ] || list="$list $crate"; done
+  cp "$here/calls.rt.in" "$to/crates/measured/src/lib.rt"
+  if [ -d "$from/crates/picky_asn1_x509" ]; then
+    list="$list $upper"
+    uses="$uses picky_asn1_x509"
+    cat "$here/certificates.rt.in" >> "$to/crates/measured/src/lib.rt"
+  fi
+  for crate in $list; do
     mkdir -p "$to/crates/$crate"
     rm -rf "$to/crates/$crate/src" "$to/crates/$crate/specs" "$to/crates/$crate/proofs"
     for part in src specs proofs; do cp -a "$from/crates/$crate/$part" "$to/crates/$crate/"; done
@@ -23,22 +33,33 @@ build() {
     [ -d "$to/crates/$crate/out" ] || [ ! -d "$from/crates/$crate/out" ] || cp -a --reflink=auto "$from/crates/$crate/out" "$to/crates/$crate/"
   done
   cp "$from/HANDLES" "$to/"
-  for crate in $crates; do grep "^$crate:" "$from/crates.txt"; done > "$to/crates.txt"
-  echo "measured staticlib: x509_der x509_keys" >> "$to/crates.txt"
-  cp "$here/calls.rt.in" "$to/crates/measured/src/lib.rt"
+  for crate in $list; do grep "^$crate:" "$from/crates.txt"; done > "$to/crates.txt"
+  echo "measured staticlib: $uses" >> "$to/crates.txt"
   touch "$to/crates/measured/specs/Lib.antt" "$to/crates/measured/proofs/Lib.antt"
-  for crate in $crates measured; do
+  for crate in $list measured; do
     (cd "$to/crates/$crate" && rt lib --jobs 1) > "$to/$crate.log" 2>&1 || { tail "$to/$crate.log" >&2; exit 1; }
+  done
+}
+
+# The inputs that are files, as arrays of C.
+arrays() {
+  local input name
+  for input in "$here"/inputs/*.hex; do
+    name=$(basename "$input" .hex)
+    echo "static const uint8_t input_${name//-/_}[] = {"
+    sed 's/../0x&,/g' "$input"
+    echo "};"
   done
 }
 
 # Runs the drivers over the library, and writes the counts to counts.tsv.
 count() {
-  local to=$1
+  local to=$1 flags="-O2 -I$folder"
+  ! grep -q "^picky_asn1_x509:" "$to/crates.txt" || flags="$flags -DCERTIFICATES"
   local library="$to/crates/measured/out/libmeasured.a $kit/c/liblibc_c.a"
-  gcc -O2 "$here/drive.c" $library -o "$to/instructions"
-  gcc -O2 -DARENA "$here/drive.c" $library -Wl,--wrap=malloc,--wrap=realloc,--wrap=free -o "$to/arena"
-  gcc -O2 -DMEMORY "$here/drive.c" $library -Wl,--wrap=malloc,--wrap=realloc,--wrap=free -o "$to/memory"
+  gcc $flags "$here/drive.c" $library -o "$to/instructions"
+  gcc $flags -DARENA "$here/drive.c" $library -Wl,--wrap=malloc,--wrap=realloc,--wrap=free -o "$to/arena"
+  gcc $flags -DMEMORY "$here/drive.c" $library -Wl,--wrap=malloc,--wrap=realloc,--wrap=free -o "$to/memory"
   "$to/memory" > "$to/counts.tsv"
   for driver in instructions arena; do
     rm -rf "$to/$driver.dumps"
@@ -48,6 +69,8 @@ count() {
   done
 }
 
+mkdir -p "$folder"
+arrays > "$folder/inputs.h"
 build "$top" "$folder/new"
 count "$folder/new"
 if [ $# = 1 ]; then

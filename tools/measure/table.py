@@ -4,6 +4,7 @@ import re
 import sys
 
 USES = ("len", "vec", "slice")
+WHOLES = ("certificate", "certificate-1000-names", "request", "private-key")
 
 
 def dumps(driver, folder):
@@ -62,10 +63,24 @@ def part(number):
     return f"{number:.2f}" if number < 1 else f"{number:.1f}"
 
 
+def is_single(name):
+    return name not in WHOLES and not re.search(r"-\d+[km]$|^nest|^thousand", name)
+
+
+def wholes(new):
+    head("Certificates, requests and keys", "Input", "bytes", "headers", "from_bytes", "read_counted", "read_located", "encoded_len", "to_vec", "write_to_slice", "alone: from_bytes", "to_vec", "requests of from_bytes", "bytes held", "at most while reading")
+    for name in WHOLES:
+        if name in new.inputs:
+            cells = [*new.inputs[name], *(new.count(name, call) for call in ("read", "counted", "located", *USES))]
+            cells += [new.count(name, call, new.alone) for call in ("read", "vec")]
+            cells += [new.memory[name, "read"][1], new.memory[name, "vec"][2], new.memory[name, "read"][3]]
+            row(name, *map(whole, cells))
+
+
 def tables(new):
     head("Single values, instructions", "Input", "bytes", "headers", "from_bytes", "read_counted", "read_located", "encoded_len", "to_vec", "write_to_slice")
     for name, (size, headers) in new.inputs.items():
-        if not re.search(r"-\d+[km]$|^nest|^thousand", name):
+        if is_single(name):
             row(name, whole(size), str(headers), *(whole(new.count(name, call)) for call in ("read", "counted", "located", *USES)))
     for title, counts in (("with malloc", new.counts), ("without malloc's own", new.alone)):
         head(f"By size, instructions, {title}", "Input", "bytes", "headers", "from_bytes", "a header", "a byte", "encoded_len", "to_vec", "a header", "a byte", "write_to_slice", "a header", "a byte")
@@ -78,8 +93,9 @@ def tables(new):
                 row(name, *cells)
     head("Single values, instructions without malloc's own", "Input", "bytes", "headers", "from_bytes", "encoded_len", "to_vec", "write_to_slice")
     for name, (size, headers) in new.inputs.items():
-        if not re.search(r"-\d+[km]$|^nest|^thousand", name):
+        if is_single(name):
             row(name, whole(size), str(headers), *(whole(new.count(name, call, new.alone)) for call in ("read", *USES)))
+    wholes(new)
     head("By depth, instructions", "Input", "bytes", "headers", "from_bytes", "encoded_len", "to_vec", "write_to_slice")
     for name, (size, headers) in new.inputs.items():
         if name.startswith("nest"):
