@@ -35,7 +35,8 @@ pub fn is_signed_in_der<A: Allocator>(read: &SignedRead<'_, Certificate<A>>) -> 
     read.inside.total() == 0
 }
 
-/// Whether a certificate names one party as issuer and as subject: it is self-issued (RFC 5280, 3.2). Takes no memory.
+/// Whether issuer and subject are the same value, as in most self-issued certificates. RFC 5280, 7.1 also takes names
+/// for the same that differ in case, spaces or string types. Takes no memory.
 pub fn is_self_issued<A: Allocator>(certificate: &Certificate<A>) -> bool
     ensures { Decides result (certificate.now.tbs_certificate.issuer ≡ certificate.now.tbs_certificate.subject) }
 {
