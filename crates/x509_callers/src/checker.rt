@@ -11,8 +11,8 @@ use picky_asn1_x509::laws::equality_is_sameness;
 use picky_asn1_x509::{Certificate, Name, ReadError, SignedRead};
 use std::alloc::Allocator;
 
-/// Reads a certificate: its fields, the bytes that the signature covers, and what was forgiven inside and outside of
-/// these bytes.
+/// Reads a certificate: its fields, the bytes that the signature covers, and the deviations inside and outside of these
+/// bytes.
 ///
 /// # Errors
 /// The bytes encode no certificate, or memory is refused.
@@ -27,7 +27,7 @@ pub fn read<A: Allocator + Copy>(
     Certificate::read_with_signed_part(alloc, bytes)
 }
 
-/// Whether nothing was forgiven inside the bytes that the signature covers: then they are the DER encoding of the
+/// Whether no deviation stands inside the bytes that the signature covers: then they are the DER encoding of the
 /// fields. Takes no memory.
 pub fn is_signed_in_der<A: Allocator>(read: &SignedRead<'_, Certificate<A>>) -> bool
     ensures { Decides result (sum read.now.inside ≡ 0) }

@@ -1,4 +1,4 @@
-//! An inspector: what a certificate says, and what was forgiven, each with its place.
+//! An inspector: what a certificate says, and its deviations, each with its place.
 
 ghost use Rattle.std.specs.Prelude.{◌≡◌, IfOk, IfErr, MatchOption, None, Some};
 ghost use Rattle.picky_asn1_x509.specs.Calls.{Located, NoWhole};
