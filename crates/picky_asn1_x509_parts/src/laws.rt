@@ -1,6 +1,8 @@
 //! Laws of the types of this crate. A function here does nothing when it runs: its contract is the law.
 
-ghost use Rattle.std.specs.Prelude.{◌≡◌, ◌≢◌, ◌+◌, ℕ, Bool, false, List, length, max, slice_index_or};
+ghost use Rattle.std.specs.Prelude.{◌≡◌, ◌≢◌, ◌+◌, ◌++◌, ◌∷◌, ◌↔◌, ℕ, Bool, true, false, List, Option, Some, None, length, max, slice_index_or};
+ghost use Rattle.std.specs.List.{AllByRecursion};
+ghost use Rattle.x509_der.specs.Lasts.{last, ascends, NeighboursAscend};
 ghost use Rattle.x509_der.specs.Tally.{Tally};
 ghost use Rattle.picky_asn1_x509_parts.specs.Constraints.{Constraints, ConstraintsAt, basic_constraints as constraints};
 ghost use Rattle.picky_asn1_x509_parts.specs.Extensions.{kind_of, kind_in, IsReadable, ExtensionFields, extension, ExtensionAt};
@@ -63,6 +65,19 @@ pub fn authority_key_identifier_fields<A: Allocator + Copy>()
 pub fn authority_key_identifier_marks<A: Allocator>()
     ensures { (v : KeyAuthority A) (string : List ℕ) (y : Tally) → authorities.spelled v string y →
         AuthorityMarks v string y }
+{}
+
+/// Of a list of fields the last with a tag counts, where there is one.
+pub fn last_field_counts<H: Drop, V: Drop>()
+    ensures there { (under : H → Option V) (before after : List H) (h : H) (v : V) → under h ≡ Some v →
+        AllByRecursion (λ g. under g ≡ None) after → last under (before ++ h ∷ after) ≡ Some v }
+    ensures absent { (under : H → Option V) (hs : List H) → AllByRecursion (λ g. under g ≡ None) hs →
+        last under hs ≡ None }
+{}
+
+/// Fields are strictly ascending by their numbers exactly where each has a number below that of the one behind it.
+pub fn neighbours_ascend<H: Drop>()
+    ensures { (number : H → ℕ) (hs : List H) → (ascends number hs ≡ true) ↔ NeighboursAscend number hs }
 {}
 
 /// The law of fields of `Extension`: the object identifier, whether it is critical, where that is spelled, and the

@@ -1,13 +1,7 @@
 -- Lemmas about the definitions.
-pub use Rattle.x509_der_structures_parts.specs.facts.FeatureFacts
-pub use Rattle.x509_der_structures_parts.specs.facts.KeyReferenceFacts
-pub use Rattle.x509_der_structures_parts.specs.facts.KeyReferenceLaws
-pub use Rattle.x509_der_structures_parts.specs.facts.LabelFacts
-pub use Rattle.x509_der_structures_parts.specs.facts.Labels
 pub use Rattle.x509_der_structures_parts.specs.facts.Letters
 pub use Rattle.x509_der_structures_parts.specs.facts.NoticeFacts
 pub use Rattle.x509_der_structures_parts.specs.facts.Notices
-pub use Rattle.x509_der_structures_parts.specs.facts.ReleaseFacts
 pub use Rattle.x509_der_structures_parts.specs.facts.Stamps
 pub mod Apart
 pub mod Choices
@@ -18,5 +12,3 @@ pub mod Kinds
 pub mod Loose
 pub mod Nulls
 pub mod Optionals
-pub mod Times
-pub mod Validities

@@ -1,9 +1,4 @@
-pub mod Features
-pub mod KeyReferenceLaws
-pub mod KeyReferences
-pub mod Labels
 pub mod Letters
 pub mod Notices
-pub mod Releases
 pub mod Stamps
 pub mod facts

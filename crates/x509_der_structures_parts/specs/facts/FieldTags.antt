@@ -7,9 +7,3 @@ stamp_apart c h = grind (arith, nat_tests)
 
 pub note_apart : (c : ℕ) → eqb c 161 ≡ true → (false || eqb c 2) ≡ false
 note_apart c h = grind (arith, nat_tests)
-
-pub hints_apart : (c : ℕ) → eqb c 128 ≡ true → (eqb c 161 || eqb c 130) ≡ false
-hints_apart c h = grind (arith, nat_tests)
-
-pub numbers_apart : (c : ℕ) → eqb c 161 ≡ true → eqb c 130 ≡ false
-numbers_apart c h = grind (arith, nat_tests)

@@ -1,84 +1,10 @@
-//! A list of which the last of a tag counts, an optional field behind a chosen one, and a structure under an implicit
-//! tag.
+//! An optional field behind a chosen one, and a structure under an implicit tag.
 
-use super::fields::Field;
-use super::rows::{Heap, Row, Table, all_coded};
+use super::rows::{Heap, Table, all_coded};
 use refusing::Refusing;
 use std::process::Abort;
-use x509_der::Deviation;
-use x509_der_structures::{KeyReference, Letter, Notice, Stamp};
+use x509_der_structures::{Letter, Notice, Stamp};
 
-const REFERENCES: Table<'static> = Table {
-    strict: &[
-        ("3000", 1),
-        ("30048002aabb", 2),
-        ("3003820105", 2),
-        ("300c8002aabba103020105820107", 5),
-    ],
-    rows: &[
-        Row {
-            input: "3005a103020105",
-            strict: "3005a103020105",
-            places: &[],
-            headers: 3,
-            fields: &[Field {
-                around: &[0, 2],
-                start: 4,
-                tags: &[0x02],
-            }],
-        },
-        Row {
-            input: "30088002aabb8002ccdd",
-            strict: "30048002ccdd",
-            places: &[(Deviation::AuthorityKeyFieldOrder, 0, 10)],
-            headers: 3,
-            fields: &[],
-        },
-        Row {
-            input: "30068001aa8001aa",
-            strict: "30038001aa",
-            places: &[(Deviation::AuthorityKeyFieldOrder, 0, 8)],
-            headers: 3,
-            fields: &[],
-        },
-        Row {
-            input: "30078201058002aabb",
-            strict: "30078002aabb820105",
-            places: &[(Deviation::AuthorityKeyFieldOrder, 0, 9)],
-            headers: 3,
-            fields: &[],
-        },
-        Row {
-            input: "300c8201058201068001aa8001bb",
-            strict: "30068001bb820106",
-            places: &[(Deviation::AuthorityKeyFieldOrder, 0, 14)],
-            headers: 5,
-            fields: &[],
-        },
-    ],
-    refused: &[
-        "3003830105", // a tag of no field
-        "30028200", // a serial without content
-        "3003810105", // an issuer under the implicit tag
-        "300482020001", // a padded serial
-        "30058200820105", // a first serial without content
-        "3002a100", // an explicit tag around nothing
-        "3008a1060201050201", // cut short
-    ],
-};
-
-/// The test of this name, over any such allocator.
-fn last_of_each_tag_over<A: Heap>(rt: &impl Abort, heap: A) {
-    all_coded::<A, KeyReference<A>>(rt, heap, &REFERENCES);
-}
-
-#[test]
-fn last_of_each_tag(rt: HostRuntime) {
-    let heap = Refusing::new(rt.alloc());
-    last_of_each_tag_over(&rt, &heap);
-}
-
-/// The identifiers 1.3.3 asks for a value, 1.3.4 allows one, 1.3.5 has none, and 1.3.6 isn't known.
 const NOTICES: Table<'static> = Table {
     strict: &[
         ("300706022b030101ff", 3),

@@ -16,8 +16,9 @@ use x509_der::{
     IntegerAsn1, ObjectIdentifierAsn1, OctetStringAsn1, OctetStringAsn1Container, ReadError,
     read_metered,
 };
-use x509_der_structures::{Contact, Optionals, Preference, Reply, Stamp, Validity};
+use x509_der_structures::{Contact, Optionals, Preference, Reply, Stamp};
 use x509_keys::{ECPrivateKey, PrivateKeyInfo, RawAlgorithmIdentifier};
+use x509_names::Validity;
 use x509_prim::{
     BmpStringAsn1, GeneralizedTimeAsn1, Ia5StringAsn1, PrintableStringAsn1, UtcTimeAsn1, Utf8String,
 };

@@ -1,5 +1,5 @@
 use Rattle.x509_der.specs.facts.Lasts.{neighbours}
-use Rattle.x509_der_structures_parts.proofs.laws.neighbours_ascend.Goals as goal
+use Rattle.picky_asn1_x509_parts.proofs.laws.neighbours_ascend.Goals as goal
 
 pub returns : goal.returns
 returns g c = neighbours

@@ -1,6 +1,0 @@
-use Rattle.std.proofs.Common.{rules}
-use Rattle.x509_der.specs.facts.Alternatives.{byte_apart, either_apart}
-use Rattle.x509_der_structures_parts.proofs.labels.LabelField.read.Goals as goal
-
-pub read_viewed-requires-clause-fits : goal.read_viewed-requires-clause-fits
-read_viewed-requires-clause-fits g c = search (rules, byte_apart, either_apart)

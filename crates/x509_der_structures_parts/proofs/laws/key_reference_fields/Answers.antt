@@ -1,9 +1,0 @@
-use Rattle.x509_der.specs.facts.ElementPlaces.{content_first}
-use Rattle.x509_der_structures_parts.specs.facts.KeyReferenceFacts.{means_one}
-use Rattle.x509_der_structures_parts.proofs.laws.key_reference_fields.Goals as goal
-
-pub returns : goal.returns
-returns g c = λ v string y a.
-    let b = (c.fields.ensures v string y a).parts in
-    let s = content_first 48 _ _ string y b.parts in
-    record { fields = b.base; means = (means_one b.base v b.kinds b.means).0; content = s.content; bytes = s.bytes; fields_at = s.inner.parts }
