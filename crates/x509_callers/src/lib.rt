@@ -6,5 +6,3 @@ pub mod checker;
 pub mod inspector;
 pub mod requester;
 pub mod signer;
-#[cfg(test)]
-mod tests;

@@ -2,6 +2,7 @@
 
 mod algorithms;
 mod attributes;
+mod callers;
 mod certificates;
 mod character_strings;
 mod clones;

@@ -1,15 +1,15 @@
-//! The callers over a certificate and a request that OpenSSL 3.0 wrote.
+//! The callers of `x509_callers` over a certificate and a request that OpenSSL 3.0 wrote.
 
-use crate::checker::{is_self_issued, is_signed_in_der, read};
-use crate::inspector::{common_name, describe, located, write_deviations};
-use crate::requester::{bytes_to_sign, finished, requested};
-use crate::signer::{RewriteError, rewrite};
 use picky_asn1_x509::{
     AlgorithmIdentifier, BitString, CertificationRequestInfo, Deviation, DirectoryString, KeyUsage,
     Name, SubjectPublicKeyInfo, Utf8String, oids,
 };
 use std::alloc::Global;
 use std::process::Abort;
+use x509_callers::checker::{is_self_issued, is_signed_in_der, read};
+use x509_callers::inspector::{common_name, describe, located, write_deviations};
+use x509_callers::requester::{bytes_to_sign, finished, requested};
+use x509_callers::signer::{RewriteError, rewrite};
 
 /// `openssl req -x509 -newkey ed25519 -subj /CN=example.org -addext
 /// subjectAltName=DNS:example.org,DNS:www.example.org`.
@@ -47,7 +47,7 @@ fn a_certificate_is_checked(rt: HostRuntime) {
     assert!(rt; bytes.get(4..294) == Some(read.signed));
     assert!(rt; is_signed_in_der(&read) && is_self_issued(&read.value));
     let bytes = bytes_of(&rt, rt.alloc(), REQUEST);
-    let refused = crate::checker::read(rt.alloc(), &bytes);
+    let refused = x509_callers::checker::read(rt.alloc(), &bytes);
     assert!(rt; refused.is_err());
 }
 
