@@ -263,7 +263,9 @@ impl<A: Allocator + Copy> Field<A> for GeneralName<A> {
     ghost agrees = { λ v. refl };
 
     fn starts(byte: u8) -> bool {
-        <Fields<A> as Field<A>>::starts(byte)
+        // those that are written, and those that are deviations
+        matches!(byte, 0x81 | 0x82 | 0x86 | 0x87 | 0x88 | 0xA0 | 0xA4 | 0xA5)
+            || matches!(byte, 0x84 | 0xA1 | 0xA2 | 0xA6 | 0xA7 | 0xA8)
     }
 
     fn known(&self) {

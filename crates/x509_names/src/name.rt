@@ -147,11 +147,22 @@ impl<A: Allocator + Copy> Name<A> {
         ensures ok { OnOk result (self.new ≡ self.old ++ (attribute ∷ []) ∷ []) }
         ensures err { OnErr result (self.new ≡ self.old) }
     {
-        let mut set = Vec::with_capacity(self.allocator(), 1)?;
-        set.push(attribute)?;
-        self.0.0.push(Asn1SetOf(set))?;
+        let set = set_of(self.allocator(), attribute)?;
+        self.0.0.push(set)?;
         Ok(())
     }
+}
+
+/// A set of one attribute.
+fn set_of<A: Allocator + Copy>(
+    alloc: A,
+    attribute: AttributeTypeAndValue<A>,
+) -> Result<Asn1SetOf<AttributeTypeAndValue<A>, A>, AllocError>
+    ensures { IfOk result (λ set. set ≡ attribute ∷ []) }
+{
+    let mut set = Vec::with_capacity(alloc, 1)?;
+    set.push(attribute)?;
+    Ok(Asn1SetOf(set))
 }
 
 impl<A: Allocator + Copy> Name<A> {
