@@ -1,7 +1,7 @@
 //! Makers of public and private keys, and what is asked of them.
 
 use super::Heap;
-use super::checks::{bytes_of, is_so, same_bytes};
+use super::checks::{are_equal, bytes_of, is_so, same_bytes};
 use refusing::{Refusing, Turn};
 use std::alloc::{AllocError, Allocator, Global};
 use std::process::Abort;
@@ -357,5 +357,5 @@ fn skipped_elements_are_not_kept(rt: HostRuntime) {
     let plain = bytes_of(&rt, alloc, "300f020100300506032b657004030401aa");
     let skipped = from_bytes::<PrivateKeyInfo, Global>(alloc, &skipped).expect(&rt, "a key");
     let plain = from_bytes::<PrivateKeyInfo, Global>(alloc, &plain).expect(&rt, "a key");
-    is_so(&rt, skipped == plain, "the same key");
+    is_so(&rt, are_equal(&skipped, &plain), "the same key");
 }

@@ -1,7 +1,7 @@
 //! Attributes and names: what is made, added and found, with requests for memory refused.
 
 use super::Heap;
-use super::checks::{is_so, same};
+use super::checks::{are_equal, is_so, same};
 use refusing::{Refusing, Turn};
 use std::alloc::{AllocError, Allocator};
 use std::process::Abort;
@@ -287,7 +287,7 @@ fn misfits_are_written_over<A: Heap>(rt: &impl Abort, heap: A) {
     let attribute = misfit(rt, heap, text);
     let read = from_bytes::<AttributeTypeAndValue<A>, A>(heap, bytes).expect(rt, "an attribute");
     is_so(rt, is_written(&attribute, bytes), "written by its parts");
-    is_so(rt, read != attribute, "read as another");
+    is_so(rt, !are_equal(&read, &attribute), "read as another");
 }
 
 #[test]
@@ -299,7 +299,7 @@ fn misfits_are_written(rt: HostRuntime) {
 /// What a run showed that should clone a value.
 fn value_turn<A: Allocator + Copy>(value: &AttributeTypeAndValueParameters<A>) -> Turn {
     match value.clone() {
-        Ok(copy) => Turn::right(copy == *value),
+        Ok(copy) => Turn::right(are_equal(&copy, value)),
         Err(AllocError) => Turn::Refused,
     }
 }
