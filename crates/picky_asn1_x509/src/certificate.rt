@@ -15,7 +15,8 @@ pub use crate::tbs_certificate::TbsCertificate;
 use picky_asn1_x509_parts::{AuthorityKeyIdentifier, BasicConstraints, Extension, ExtensionView};
 use std::alloc::{AllocError, Allocator, Global};
 use x509_der::parts::{
-    Field, Join, Reader, SEQUENCE_TAG, Sequence, Structure, Tagged, read_fields, read_first_field,
+    Field, Join, Reader, SEQUENCE_TAG, Sequence, Structure, Tagged, clone_three, read_fields,
+    read_first_field,
 };
 use x509_der::{BitStringAsn1, CloneEq, FromDer, ReadError, ToDer, TooLong};
 use x509_keys::AlgorithmIdentifier;
@@ -148,9 +149,11 @@ impl<A: Allocator + Copy> Certificate<A> {
 
 impl<A: Allocator + Copy> CloneEq for Certificate<A> {
     fn clone_eq(&self) -> Result<Self, AllocError> {
-        let tbs_certificate = self.tbs_certificate.clone_eq()?;
-        let signature_algorithm = self.signature_algorithm.clone_eq()?;
-        let signature_value = self.signature_value.clone_eq()?;
+        let (tbs_certificate, signature_algorithm, signature_value) = clone_three(
+            &self.tbs_certificate,
+            &self.signature_algorithm,
+            &self.signature_value,
+        )?;
         Ok(Certificate {
             tbs_certificate,
             signature_algorithm,

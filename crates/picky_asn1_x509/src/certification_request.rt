@@ -15,7 +15,7 @@ use std::alloc::{AllocError, Allocator, Global};
 use std::marker::Model;
 use x509_der::parts::{
     ContentOf, Explicit0, Field, Join, Reader, SEQUENCE_TAG, Sequence, Structure, Tagged,
-    read_fields, read_first_field,
+    clone_three, read_fields, read_first_field,
 };
 use x509_der::{Asn1SequenceOf, BitStringAsn1, CloneEq, FromDer, ReadError, ToDer, TooLong};
 use x509_keys::{AlgorithmIdentifier, SubjectPublicKeyInfo};
@@ -201,9 +201,11 @@ impl<A: Allocator + Copy> CertificationRequestInfo<A> {
 
 impl<A: Allocator + Copy> CloneEq for CertificationRequestInfo<A> {
     fn clone_eq(&self) -> Result<Self, AllocError> {
-        let subject = self.subject.clone_eq()?;
-        let subject_public_key_info = self.subject_public_key_info.clone_eq()?;
-        let attributes = self.attributes.clone_eq()?;
+        let (subject, subject_public_key_info, attributes) = clone_three(
+            &self.subject,
+            &self.subject_public_key_info,
+            &self.attributes,
+        )?;
         Ok(CertificationRequestInfo {
             version: self.version,
             subject,
@@ -336,9 +338,11 @@ impl<A: Allocator + Copy> CertificationRequest<A> {
 
 impl<A: Allocator + Copy> CloneEq for CertificationRequest<A> {
     fn clone_eq(&self) -> Result<Self, AllocError> {
-        let certification_request_info = self.certification_request_info.clone_eq()?;
-        let signature_algorithm = self.signature_algorithm.clone_eq()?;
-        let signature = self.signature.clone_eq()?;
+        let (certification_request_info, signature_algorithm, signature) = clone_three(
+            &self.certification_request_info,
+            &self.signature_algorithm,
+            &self.signature,
+        )?;
         Ok(CertificationRequest {
             certification_request_info,
             signature_algorithm,

@@ -13,7 +13,7 @@ use std::alloc::{AllocError, Allocator, Global};
 use std::marker::Model;
 use x509_der::parts::{
     ContentOf, Explicit0, Explicit3, Field, Found, Implicit1, Implicit2, Join, Optional, Reader,
-    Refusal, SEQUENCE_TAG, Sequence, Tag, Tagged, View, read_viewed_or, write_bytes,
+    Refusal, SEQUENCE_TAG, Sequence, Tag, Tagged, View, clone_three, read_viewed_or, write_bytes,
 };
 use x509_der::{
     BitString, BitStringAsn1, CloneEq, Deviation, FromDer, IntegerAsn1, ReadError, ToDer, TooLong,
@@ -75,16 +75,12 @@ impl<A: Allocator + Copy> TbsCertificate<A> {
 impl<A: Allocator + Copy> CloneEq for TbsCertificate<A> {
     fn clone_eq(&self) -> Result<Self, AllocError> {
         let core = clone_core(self)?;
-        let issuer_unique_id = self.issuer_unique_id.clone_eq()?;
-        let subject_unique_id = self.subject_unique_id.clone_eq()?;
-        let extensions = self.extensions.clone_eq()?;
-        Ok(from_core(
-            self.version,
-            core,
-            issuer_unique_id,
-            subject_unique_id,
-            extensions,
-        ))
+        let behind = clone_three(
+            &self.issuer_unique_id,
+            &self.subject_unique_id,
+            &self.extensions,
+        )?;
+        Ok(from_core(self.version, core, behind.0, behind.1, behind.2))
     }
 }
 
@@ -233,32 +229,18 @@ fn from_core<A: Allocator>(
 fn clone_core<A: Allocator + Copy>(value: &TbsCertificate<A>) -> Result<Core<A>, AllocError>
     ensures { IfOk result (λ core. core ≡ core_of value.now) }
 {
-    let serial_number = value.serial_number.clone_eq()?;
-    let signature = value.signature.clone_eq()?;
-    let issuer = value.issuer.clone_eq()?;
-    let rest = clone_subject(value)?;
+    let (serial_number, signature, issuer) = clone_three(
+        &value.serial_number,
+        &value.signature,
+        &value.issuer,
+    )?;
+    let (validity, subject, key) = clone_three(
+        &value.validity,
+        &value.subject,
+        &value.subject_public_key_info,
+    )?;
+    let rest = Join(validity, Join(subject, key));
     Ok(Core(Join(serial_number, Join(signature, Join(issuer, rest)))))
-}
-
-/// Equal fields from the validity to the key.
-///
-/// # Errors
-/// `AllocError` where memory is refused.
-fn clone_subject<A: Allocator + Copy>(
-    value: &TbsCertificate<A>,
-) -> Result<Join<Validity, Join<Name<A>, SubjectPublicKeyInfo<A>>>, AllocError>
-    ensures { IfOk result (λ rest. rest ≡ (
-      value.now.validity,
-      (
-        value.now.subject,
-        value.now.subject_public_key_info,
-      ),
-    )) }
-{
-    let validity = value.validity.clone_eq()?;
-    let subject = value.subject.clone_eq()?;
-    let subject_public_key_info = value.subject_public_key_info.clone_eq()?;
-    Ok(Join(validity, Join(subject, subject_public_key_info)))
 }
 
 /// The content of a BIT STRING, borrowed: how many bits of the last byte are unused, and the bytes.

@@ -14,7 +14,7 @@ use std::alloc::{AllocError, Allocator, Global};
 use std::marker::Model;
 use x509_der::parts::{
     Choice, ContentOf, Explicit1, Field, Found, Implicit0, Implicit2, Items, Join, Optional,
-    Reader, SEQUENCE_TAG, Sequence, Tagged, View, known_there, read_viewed,
+    Reader, SEQUENCE_TAG, Sequence, Tagged, View, clone_three, known_there, read_viewed,
 };
 use x509_der::{
     CloneEq, Deviation, FromDer, IntegerAsn1, OctetStringAsn1, ReadError, SameEq, ToDer, TooLong,
@@ -133,21 +133,13 @@ impl<A: Allocator + Copy> AuthorityKeyIdentifier<A> {
     }
 }
 
-/// An equal field, where it is there.
-fn clone_there<T: CloneEq>(value: &Option<T>) -> Result<Option<T>, AllocError>
-    ensures { IfOk result (λ copy. copy ≡ value.now) }
-{
-    match value {
-        None => Ok(None),
-        Some(field) => Ok(Some(field.clone_eq()?)),
-    }
-}
-
 impl<A: Allocator + Copy> CloneEq for AuthorityKeyIdentifier<A> {
     fn clone_eq(&self) -> Result<Self, AllocError> {
-        let key_identifier = clone_there(&self.key_identifier)?;
-        let authority_cert_issuer = clone_there(&self.authority_cert_issuer)?;
-        let authority_cert_serial_number = clone_there(&self.authority_cert_serial_number)?;
+        let (key_identifier, authority_cert_issuer, authority_cert_serial_number) = clone_three(
+            &self.key_identifier,
+            &self.authority_cert_issuer,
+            &self.authority_cert_serial_number,
+        )?;
         Ok(AuthorityKeyIdentifier {
             key_identifier,
             authority_cert_issuer,

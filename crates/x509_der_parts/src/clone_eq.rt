@@ -29,6 +29,36 @@ impl<T: CloneEq> CloneEq for Option<T> {
     }
 }
 
+/// Clones of two values. A structure that is cloned by pairs and threes has fewer ways out on which its fields are
+/// dropped.
+///
+/// # Errors
+/// `AllocError` where memory is refused.
+pub fn clone_both<S: CloneEq, T: CloneEq>(first: &S, second: &T) -> Result<(S, T), AllocError>
+    ensures { IfOk result (λ copies. copies ≡ (first.now, second.now)) }
+{
+    let first = first.clone_eq()?;
+    let second = second.clone_eq()?;
+    Ok((first, second))
+}
+
+/// Clones of three values.
+///
+/// # Errors
+/// `AllocError` where memory is refused.
+pub fn clone_three<S: CloneEq, T: CloneEq, U: CloneEq>(
+    first: &S,
+    second: &T,
+    third: &U,
+) -> Result<(S, T, U), AllocError>
+    ensures { IfOk result (λ copies. copies ≡ (first.now, second.now, third.now)) }
+{
+    let first = first.clone_eq()?;
+    let second = second.clone_eq()?;
+    let third = third.clone_eq()?;
+    Ok((first, second, third))
+}
+
 /// Clones of values, in their order.
 ///
 /// # Errors

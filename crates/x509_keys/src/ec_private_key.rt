@@ -9,7 +9,7 @@ use crate::public_key::EncapsulatedEcPoint;
 use std::alloc::{AllocError, Allocator, Global};
 use x509_der::parts::{
     Explicit0, Explicit1, Field, Found, Join, Optional, Reader, Refusal, SEQUENCE_TAG, Sequence,
-    Tagged, View, known_there, read_viewed_or,
+    Tagged, View, clone_both, known_there, read_viewed_or,
 };
 use x509_der::{CloneEq, FromDer, IntegerAsn1, OctetStringAsn1, ReadError, SameEq, ToDer, TooLong};
 use x509_keys_parts::EcParameters;
@@ -47,10 +47,8 @@ impl<A: Allocator + Copy> ECPrivateKey<A> {
 
 impl<A: Allocator + Copy> CloneEq for ECPrivateKey<A> {
     fn clone_eq(&self) -> Result<Self, AllocError> {
-        let version = self.version.clone_eq()?;
-        let private_key = self.private_key.clone_eq()?;
-        let parameters = self.parameters.clone_eq()?;
-        let public_key = self.public_key.clone_eq()?;
+        let (version, private_key) = clone_both(&self.version, &self.private_key)?;
+        let (parameters, public_key) = clone_both(&self.parameters, &self.public_key)?;
         Ok(ECPrivateKey {
             version,
             private_key,

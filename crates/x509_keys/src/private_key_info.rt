@@ -19,8 +19,8 @@ use crate::rsa_private_key::RsaPrivateKey;
 use std::alloc::{AllocError, Allocator, Global};
 use x509_der::parts::{
     AnyDefinedBy, BIT_STRING_TAG, DefinedBy, Explicit1, Field, Found, Join, Optional, Reader,
-    Refusal, SEQUENCE_TAG, Sequence, Tagged, View, element_len, read_viewed_or, write_bytes,
-    write_element,
+    Refusal, SEQUENCE_TAG, Sequence, Tagged, View, clone_three, element_len, read_viewed_or,
+    write_bytes, write_element,
 };
 use x509_der::{
     BitString, BitStringAsn1, CloneEq, Deviation, FromDer, IntegerAsn1, ObjectIdentifier,
@@ -252,9 +252,11 @@ impl<A: Allocator + Copy> PrivateKeyInfo<A> {
 
 impl<A: Allocator + Copy> CloneEq for PrivateKeyInfo<A> {
     fn clone_eq(&self) -> Result<Self, AllocError> {
-        let private_key_algorithm = self.private_key_algorithm.clone_eq()?;
-        let private_key = self.private_key.clone_eq()?;
-        let public_key = self.public_key.clone_eq()?;
+        let (private_key_algorithm, private_key, public_key) = clone_three(
+            &self.private_key_algorithm,
+            &self.private_key,
+            &self.public_key,
+        )?;
         Ok(PrivateKeyInfo {
             version: self.version,
             private_key_algorithm,

@@ -7,7 +7,7 @@ ghost use Rattle.x509_keys.specs.facts.RsaPrivateKeys.{private_key_same};
 
 use std::alloc::{AllocError, Allocator, Global};
 use x509_der::parts::{
-    Field, Join, Reader, SEQUENCE_TAG, Sequence, Structure, Tagged, read_fields,
+    Field, Join, Reader, SEQUENCE_TAG, Sequence, Structure, Tagged, clone_three, read_fields,
 };
 use x509_der::{CloneEq, FromDer, IntegerAsn1, ReadError, SameEq, ToDer, TooLong};
 
@@ -137,15 +137,21 @@ impl<A: Allocator + Copy> RsaPrivateKey<A> {
 
 impl<A: Allocator + Copy> CloneEq for RsaPrivateKey<A> {
     fn clone_eq(&self) -> Result<Self, AllocError> {
-        let version = self.version.clone_eq()?;
-        let modulus = self.modulus.clone_eq()?;
-        let public_exponent = self.public_exponent.clone_eq()?;
-        let private_exponent = self.private_exponent.clone_eq()?;
-        let prime_1 = self.prime_1.clone_eq()?;
-        let prime_2 = self.prime_2.clone_eq()?;
-        let exponent_1 = self.exponent_1.clone_eq()?;
-        let exponent_2 = self.exponent_2.clone_eq()?;
-        let coefficient = self.coefficient.clone_eq()?;
+        let (version, modulus, public_exponent) = clone_three(
+            &self.version,
+            &self.modulus,
+            &self.public_exponent,
+        )?;
+        let (private_exponent, prime_1, prime_2) = clone_three(
+            &self.private_exponent,
+            &self.prime_1,
+            &self.prime_2,
+        )?;
+        let (exponent_1, exponent_2, coefficient) = clone_three(
+            &self.exponent_1,
+            &self.exponent_2,
+            &self.coefficient,
+        )?;
         Ok(RsaPrivateKey {
             version,
             modulus,

@@ -9,7 +9,8 @@ use crate::public_key::PublicKey;
 use crate::rsa_public_key::RsaPublicKey;
 use std::alloc::{AllocError, Allocator, Global};
 use x509_der::parts::{
-    AnyDefinedBy, DefinedBy, Field, Reader, SEQUENCE_TAG, Sequence, Structure, Tagged, read_fields,
+    AnyDefinedBy, DefinedBy, Field, Reader, SEQUENCE_TAG, Sequence, Structure, Tagged, clone_both,
+    read_fields,
 };
 use x509_der::{
     BitString, BitStringAsn1, BitStringAsn1Container, CloneEq, FromDer, IntegerAsn1,
@@ -113,8 +114,10 @@ impl<A: Allocator + Copy> SubjectPublicKeyInfo<A> {
 
 impl<A: Allocator + Copy> CloneEq for SubjectPublicKeyInfo<A> {
     fn clone_eq(&self) -> Result<Self, AllocError> {
-        let algorithm = self.algorithm.clone_eq()?;
-        let subject_public_key = self.subject_public_key.clone_eq()?;
+        let (algorithm, subject_public_key) = clone_both(
+            &self.algorithm,
+            &self.subject_public_key,
+        )?;
         Ok(SubjectPublicKeyInfo {
             algorithm,
             subject_public_key,

@@ -18,7 +18,7 @@ use crate::rsassa_pss::{MaskGenAlgorithm, RsassaPssParams};
 use std::alloc::{AllocError, Allocator, Global};
 use x509_der::parts::{
     Content, Field, Join, OneTag, Reader, SEQUENCE_TAG, Sequence, Structure, Tagged, ToContent,
-    element_len, read_as_content, read_sequence, write_element,
+    clone_both, element_len, read_as_content, read_sequence, write_element,
 };
 use x509_der::{CloneEq, FromDer, OctetStringAsn1, ReadError, SameEq, ToDer, TooLong};
 
@@ -49,10 +49,8 @@ impl<A: Allocator + Copy> DigestInfo<A> {
 
 impl<A: Allocator + Copy> CloneEq for DigestInfo<A> {
     fn clone_eq(&self) -> Result<Self, AllocError> {
-        Ok(DigestInfo {
-            oid: self.oid.clone_eq()?,
-            digest: self.digest.clone_eq()?,
-        })
+        let (oid, digest) = clone_both(&self.oid, &self.digest)?;
+        Ok(DigestInfo { oid, digest })
     }
 }
 

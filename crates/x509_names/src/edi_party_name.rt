@@ -11,8 +11,8 @@ ghost use Rattle.x509_names.specs.facts.EdiPartyNames.{edi_same, assigner_apart}
 use std::alloc::{AllocError, Allocator, Global};
 use x509_der::parts::{
     Content, Explicit0, Explicit1, Field, Join, OneTag, Optional, Reader, SEQUENCE_TAG, Sequence,
-    Structure, Tagged, ToContent, element_len, known_there, read_as_content, read_sequence,
-    write_element,
+    Structure, Tagged, ToContent, clone_both, element_len, known_there, read_as_content,
+    read_sequence, write_element,
 };
 use x509_der::{CloneEq, FromDer, ReadError, SameEq, ToDer, TooLong};
 use x509_names_parts::DirectoryString;
@@ -45,8 +45,7 @@ impl<A: Allocator + Copy> EdiPartyName<A> {
 
 impl<A: Allocator + Copy> CloneEq for EdiPartyName<A> {
     fn clone_eq(&self) -> Result<Self, AllocError> {
-        let name_assigner = self.name_assigner.clone_eq()?;
-        let party_name = self.party_name.clone_eq()?;
+        let (name_assigner, party_name) = clone_both(&self.name_assigner, &self.party_name)?;
         Ok(EdiPartyName {
             name_assigner,
             party_name,

@@ -11,7 +11,7 @@ ghost use Rattle.x509_names.specs.facts.OtherNames.{other_same};
 use std::alloc::{AllocError, Allocator, Global};
 use x509_der::parts::{
     Content, Explicit0, Field, Join, OneTag, Reader, SEQUENCE_TAG, Sequence, Structure, Tagged,
-    ToContent, element_len, read_as_content, read_sequence, write_element,
+    ToContent, clone_both, element_len, read_as_content, read_sequence, write_element,
 };
 use x509_der::{
     Asn1RawDer, CloneEq, FromDer, ObjectIdentifierAsn1, ReadError, SameEq, ToDer, TooLong,
@@ -45,8 +45,7 @@ impl<A: Allocator + Copy> OtherName<A> {
 
 impl<A: Allocator + Copy> CloneEq for OtherName<A> {
     fn clone_eq(&self) -> Result<Self, AllocError> {
-        let type_id = self.type_id.clone_eq()?;
-        let value = self.value.clone_eq()?;
+        let (type_id, value) = clone_both(&self.type_id, &self.value)?;
         Ok(OtherName { type_id, value })
     }
 }

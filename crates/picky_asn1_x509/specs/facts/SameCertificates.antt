@@ -62,14 +62,12 @@ tbs_decide {A = A} version number algorithm names validity key bits extensions =
 
 -- a signed part is made of its version, its core and what stands behind it
 pub tbs_again :
-    {A : Type 0} (v : TbsCertificate A) (c : CoreFields A) (i s : Option (List Bool)) (es : List (ExtensionFields A)) →
-    c ≡ core_of v → i ≡ v.issuer_unique_id → s ≡ v.subject_unique_id → es ≡ v.extensions →
-    tbs_with v.version c i s es ≡ v
-tbs_again v c i s es e f g h =
-    ap (λ z. tbs_with v.version z i s es) e
-    ∙ ap (λ z. tbs_with v.version (core_of v) z s es) f
-    ∙ ap (λ z. tbs_with v.version (core_of v) v.issuer_unique_id z es) g
-    ∙ ap (λ z. tbs_with v.version (core_of v) v.issuer_unique_id v.subject_unique_id z) h
+    {A : Type 0} (v : TbsCertificate A) (c : CoreFields A) (b : Option (List Bool) × Option (List Bool) × List (ExtensionFields A)) →
+    c ≡ core_of v → b ≡ (v.issuer_unique_id, v.subject_unique_id, v.extensions) →
+    tbs_with v.version c b.0 b.1 b.2 ≡ v
+tbs_again v c b e f =
+    ap (λ z. tbs_with v.version z b.0 b.1 b.2) e
+    ∙ ap (λ z. tbs_with v.version (core_of v) z.0 z.1 z.2) f
 
 -- of a certificate
 pub certificate_decide :
