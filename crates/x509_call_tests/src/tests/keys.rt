@@ -1,12 +1,12 @@
 //! Makers of public and private keys, and what is asked of them.
 
 use super::Heap;
-use super::checks::{are_equal, bytes_of, is_so, same_bytes};
+use super::checks::{bytes_of, is_so, same_bytes};
 use refusing::{Refusing, Turn};
 use std::alloc::{AllocError, Allocator, Global};
 use std::process::Abort;
 use x509_der::{
-    BitString, IntegerAsn1, ObjectIdentifier, OctetStringAsn1, OidError, ReadError, ToDer,
+    BitString, FromDer, IntegerAsn1, ObjectIdentifier, OctetStringAsn1, OidError, ReadError, ToDer,
     from_bytes, write_to_slice,
 };
 use x509_keys::{
@@ -349,13 +349,23 @@ fn versions_have_their_numbers(rt: HostRuntime) {
     is_so(&rt, PRIVATE_KEY_INFO_VERSION_2 == 1, "with a public key");
 }
 
+/// The two are encodings of the same value.
+fn encode_the_same<T: FromDer<Global> + PartialEq>(
+    rt: &impl Abort,
+    alloc: Global,
+    one: &[u8],
+    other: &[u8],
+) {
+    let one = from_bytes::<T, Global>(alloc, one).expect(rt, "one");
+    let other = from_bytes::<T, Global>(alloc, other).expect(rt, "the other");
+    is_so(rt, one == other, "the same value");
+}
+
 /// What is read of an encoding with a skipped element is the same as of one without.
 #[test]
 fn skipped_elements_are_not_kept(rt: HostRuntime) {
     let alloc = rt.alloc();
     let skipped = bytes_of(&rt, alloc, "3011020100300506032b657004030401aaa000");
     let plain = bytes_of(&rt, alloc, "300f020100300506032b657004030401aa");
-    let skipped = from_bytes::<PrivateKeyInfo, Global>(alloc, &skipped).expect(&rt, "a key");
-    let plain = from_bytes::<PrivateKeyInfo, Global>(alloc, &plain).expect(&rt, "a key");
-    is_so(&rt, are_equal(&skipped, &plain), "the same key");
+    encode_the_same::<PrivateKeyInfo>(&rt, alloc, &skipped, &plain);
 }
