@@ -1,7 +1,7 @@
 //! Makers of algorithm identifiers, and what algorithm identifiers and their parameters answer.
 
 use super::Heap;
-use super::checks::{are_equal, bytes_of, is_so, same};
+use super::checks::{bytes_of, is_so, same};
 use refusing::{Refusing, Turn};
 use std::alloc::{AllocError, Allocator, Global};
 use std::process::Abort;
@@ -424,7 +424,7 @@ fn integrity_check_values(rt: HostRuntime) {
 /// What a run showed that should clone parameters.
 fn clone_turn<A: Allocator + Copy>(value: &AlgorithmIdentifierParameters<A>) -> Turn {
     match value.clone() {
-        Ok(copy) => Turn::right(are_equal(&copy, value)),
+        Ok(copy) => Turn::right(copy == *value),
         Err(AllocError) => Turn::Refused,
     }
 }

@@ -1,6 +1,6 @@
 //! Printable, IA5 and BMP strings.
 
-use super::checks::{are_equal, bytes_of, is_so, same_bytes};
+use super::checks::{bytes_of, is_so, same_bytes};
 use std::alloc::Global;
 use std::fmt;
 use std::process::Abort;
@@ -81,7 +81,7 @@ fn units_of_texts(rt: HostRuntime) {
         let string = BmpString::from_string(alloc, *text).expect(&rt, "memory");
         same_bytes(&rt, string.as_bytes(), &units, *text);
         let same = BmpString::from_bytes(units).ok().expect(&rt, "units");
-        is_so(&rt, are_equal(&same, &string), *text);
+        is_so(&rt, same == string, *text);
         prints(&rt, alloc, &string, *text);
         let string = String::from_str(alloc, *text).expect(&rt, "memory");
         prints(&rt, alloc, &Utf8String(string), *text);

@@ -11,12 +11,6 @@ pub(super) fn same<T: PartialEq + Debug>(rt: &impl Abort, left: &T, right: &T, w
     assert!(rt; *left == *right, "{left:?} and not {right:?}: {what}");
 }
 
-/// Whether the two are equal. A caller's proof then reads nothing of the type's own `==`, which for an enum with many
-/// variants takes a minute and more.
-pub(super) fn are_equal<T: PartialEq>(left: &T, right: &T) -> bool {
-    *left == *right
-}
-
 /// The bytes are the stated ones.
 pub(super) fn same_bytes(rt: &impl Abort, bytes: &[u8], stated: &[u8], what: &str) {
     assert!(rt; bytes == stated, "{bytes:?} and not {stated:?}: {what}");

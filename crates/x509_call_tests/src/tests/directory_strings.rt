@@ -1,7 +1,7 @@
 //! Directory strings: what they are made of and turned into, and what is printed, with requests for memory refused.
 
 use super::Heap;
-use super::checks::{are_equal, is_so, same};
+use super::checks::{is_so, same};
 use refusing::{Refusing, Turn};
 use std::alloc::{AllocError, Allocator};
 use std::borrow::CowStr;
@@ -56,7 +56,7 @@ fn lossy_turn<A: Allocator + Copy>(
 ) -> Turn {
     match answer {
         Ok(answer) => Turn::right(answer.as_str() == text),
-        Err(AllocError) => Turn::stands(are_equal(string, before)),
+        Err(AllocError) => Turn::stands(*string == *before),
     }
 }
 
@@ -91,7 +91,7 @@ fn owned_turn<A: Allocator + Copy>(
 ) -> Turn {
     match answer {
         Ok(answer) => Turn::right(answer.as_str() == text),
-        Err(back) => Turn::stands(are_equal(&back, before)),
+        Err(back) => Turn::stands(back == *before),
     }
 }
 

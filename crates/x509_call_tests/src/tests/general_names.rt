@@ -1,7 +1,7 @@
 //! General names, times and versions that are made, with every request for memory refused.
 
 use super::Heap;
-use super::checks::{are_equal, is_so, same};
+use super::checks::{is_so, same};
 use refusing::Refusing;
 use std::alloc::{AllocError, Allocator};
 use std::process::Abort;
@@ -129,7 +129,7 @@ fn times_are_moved(rt: HostRuntime) {
 /// Whether it is an equal validity.
 fn is_copy(answer: Result<Validity, AllocError>, value: &Validity) -> bool {
     match answer {
-        Ok(copy) => are_equal(&copy, value),
+        Ok(copy) => copy == *value,
         Err(AllocError) => false,
     }
 }

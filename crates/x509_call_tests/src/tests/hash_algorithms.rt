@@ -1,7 +1,7 @@
 //! Hash functions by their identifiers and names, and what is made of them.
 
 use super::Heap;
-use super::checks::{are_equal, bytes_of, is_so, same, same_bytes};
+use super::checks::{bytes_of, is_so, same, same_bytes};
 use refusing::{Refusing, Turn};
 use std::alloc::{AllocError, Allocator, Global};
 use std::process::Abort;
@@ -349,10 +349,10 @@ fn salt_in(rt: &impl Abort, alloc: Global, text: &str) -> usize {
     let bytes = bytes_of(rt, alloc, text);
     let read = from_bytes::<RsassaPssParams, Global>(alloc, &bytes).expect(rt, text);
     let made = RsassaPssParams::new(alloc, HashAlgorithm::SHA256).expect(rt, "memory");
-    let is_made = are_equal(&read.hash_algorithm, &made.hash_algorithm);
+    let is_made = read.hash_algorithm == made.hash_algorithm;
     is_so(
         rt,
-        is_made && are_equal(&read.mask_gen_algorithm, &made.mask_gen_algorithm),
+        is_made && read.mask_gen_algorithm == made.mask_gen_algorithm,
         text,
     );
     read.salt_length

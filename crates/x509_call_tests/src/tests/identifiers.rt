@@ -1,6 +1,6 @@
 //! Object identifiers.
 
-use super::checks::{are_equal, bytes_of, common_name, is_so, same, same_bytes};
+use super::checks::{bytes_of, common_name, is_so, same, same_bytes};
 use std::alloc::Global;
 use std::process::Abort;
 use x509_der::{ObjectIdentifier, ObjectIdentifierAsn1, OidError, from_bytes, to_vec};
@@ -57,11 +57,7 @@ fn identifiers_are_wrapped(rt: HostRuntime) {
     let value = ObjectIdentifierAsn1::from(common_name(&rt, alloc));
     let written = to_vec(alloc, &value).expect(&rt, "memory");
     same_bytes(&rt, &written, b"\x06\x03\x55\x04\x03", "written");
-    is_so(
-        &rt,
-        are_equal(&value.0, &common_name(&rt, alloc)),
-        "wrapped",
-    );
+    is_so(&rt, value.0 == common_name(&rt, alloc), "wrapped");
 }
 
 /// What are no object identifier's arcs.

@@ -1,7 +1,7 @@
 //! Attributes and names: what is made, added and found, with requests for memory refused.
 
 use super::Heap;
-use super::checks::{are_equal, is_so, same};
+use super::checks::{is_so, same};
 use refusing::{Refusing, Turn};
 use std::alloc::{AllocError, Allocator};
 use std::process::Abort;
@@ -309,7 +309,7 @@ fn misfits_are_written(rt: HostRuntime) {
 /// What a run showed that should clone a value.
 fn value_turn<A: Allocator + Copy>(value: &AttributeTypeAndValueParameters<A>) -> Turn {
     match value.clone() {
-        Ok(copy) => Turn::right(are_equal(&copy, value)),
+        Ok(copy) => Turn::right(copy == *value),
         Err(AllocError) => Turn::Refused,
     }
 }
