@@ -24,7 +24,6 @@ BUDGETS = [
     (15, ["x509_keys"]),
     (20, ["picky_asn1_x509_parts"]),
     (15, ["picky_asn1_x509"]),
-    (5, ["x509_der_structures", "x509_der_structures_parts"]),
     (13, ["x509_tool", "x509_callers", "refusing"]),
     (6, ["x509_oids_algorithms", "x509_oids_objects"]),
 ]

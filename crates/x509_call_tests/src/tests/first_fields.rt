@@ -7,26 +7,27 @@ use super::checks::{is_so, same, same_bytes};
 use refusing::{Refusing, Turn};
 use std::alloc::{Allocator, Global};
 use std::process::Abort;
-use x509_der::parts::{
-    ContentOf, Explicit0, FirstField, Join, Optional, Sequence, Structure, Tagged, read_first_field,
-};
+use x509_der::parts::{FirstField, Join, Optional, Sequence, Structure, Tagged, read_first_field};
 use x509_der::{Deviation, Deviations, ReadError};
-use x509_der_structures::{Letter, Loose, Stamp};
+use x509_keys::RawAlgorithmIdentifier;
 
-/// Two numbers, each of which may be spelled with a deviation.
+/// Two algorithm identifiers, each of which may be spelled with a deviation.
 ///
 /// # Encoding
-/// `SEQUENCE { first [1] IMPLICIT INTEGER (0..255), second [1] IMPLICIT INTEGER (0..255) }`
+/// `SEQUENCE { first AlgorithmIdentifier, second AlgorithmIdentifier }`
 #[derive(Drop)]
-struct Pair {
-    first: Loose,
-    second: Loose,
+struct Pair<A: Allocator> {
+    first: RawAlgorithmIdentifier<A>,
+    second: RawAlgorithmIdentifier<A>,
 }
 
-impl Structure<Tagged<Sequence, Join<Loose, Loose>>> for Pair {
+/// The fields of a pair.
+type Both<A> = Tagged<Sequence, Join<RawAlgorithmIdentifier<A>, RawAlgorithmIdentifier<A>>>;
+
+impl<A: Allocator> Structure<Both<A>> for Pair<A> {
     ghost fields = { λ v. (v.first, v.second) };
 
-    fn from_fields(parts: Tagged<Sequence, Join<Loose, Loose>>) -> Self {
+    fn from_fields(parts: Both<A>) -> Self {
         let Join(first, second) = parts.into_inner();
         Pair { first, second }
     }
@@ -34,82 +35,85 @@ impl Structure<Tagged<Sequence, Join<Loose, Loose>>> for Pair {
     ghost same = { λ v w e. ap (λ f. record { first = f.0; second = f.1 }) e };
 }
 
-/// An encoding, where its first field ends, the two numbers, and how many deviations stand inside of the first field
-/// and outside of it.
-const PAIRS: &[(&[u8], usize, (u8, u8), (usize, usize))] = &[
-    (b"\x30\x06\x81\x01\x05\x81\x01\x06", 5, (5, 6), (0, 0)),
+/// An encoding of the algorithms 1.2 and 1.3, where its first field ends, and how many deviations stand inside of the
+/// first field and outside of it.
+const PAIRS: &[(&[u8], usize, (usize, usize))] = &[
     (
-        b"\x30\x08\xA1\x03\x02\x01\x05\x81\x01\x06",
+        b"\x30\x0E\x30\x05\x06\x01\x2A\x05\x00\x30\x05\x06\x01\x2B\x05\x00",
+        9,
+        (0, 0),
+    ),
+    (
+        b"\x30\x0C\x30\x03\x06\x01\x2A\x30\x05\x06\x01\x2B\x05\x00",
         7,
-        (5, 6),
         (1, 0),
     ),
     (
-        b"\x30\x08\x81\x01\x05\xA1\x03\x02\x01\x06",
-        5,
-        (5, 6),
+        b"\x30\x0C\x30\x05\x06\x01\x2A\x05\x00\x30\x03\x06\x01\x2B",
+        9,
         (0, 1),
     ),
     (
-        b"\x30\x0A\xA1\x03\x02\x01\x05\xA1\x03\x02\x01\x06",
+        b"\x30\x0A\x30\x03\x06\x01\x2A\x30\x03\x06\x01\x2B",
         7,
-        (5, 6),
         (1, 1),
     ),
 ];
 
-/// The pair that the bytes are read as, with the bytes of its first number.
-fn pair_of<A: Allocator + Copy>(alloc: A, bytes: &[u8]) -> Result<FirstField<'_, Pair>, ReadError> {
-    read_first_field::<Pair, Loose, Loose, A>(alloc, bytes)
+/// The pair that the bytes are read as, with the bytes of its first algorithm.
+fn pair_of<A: Allocator + Copy>(
+    alloc: A,
+    bytes: &[u8],
+) -> Result<FirstField<'_, Pair<A>>, ReadError> {
+    read_first_field::<Pair<A>, RawAlgorithmIdentifier<A>, RawAlgorithmIdentifier<A>, A>(
+        alloc, bytes,
+    )
 }
 
-/// So many forms are counted, and no other deviation.
-fn are_forms(counts: &Deviations, forms: usize) -> bool {
-    counts.total() == forms && counts.count(Deviation::GeneralNameForm) == forms
+/// So many absent parameters are counted, and no other deviation.
+fn are_absent(counts: &Deviations, absent: usize) -> bool {
+    counts.total() == absent && counts.count(Deviation::RawParametersAbsent) == absent
 }
 
-/// The numbers, the slice and the counts are the stated ones.
-fn pair_is(
+/// Whether the algorithms are 1.2 and 1.3.
+fn are_algorithms<A: Allocator>(pair: &Pair<A>) -> bool {
+    let first = pair.first.algorithm().arcs() == [1, 2].as_slice();
+    first && pair.second.algorithm().arcs() == [1, 3].as_slice()
+}
+
+/// The algorithms, the slice and the counts are the stated ones.
+fn pair_is<A: Allocator>(
     rt: &impl Abort,
-    read: &FirstField<'_, Pair>,
+    read: &FirstField<'_, Pair<A>>,
     slice: &[u8],
-    numbers: (u8, u8),
     counts: (usize, usize),
 ) {
-    same_bytes(rt, read.slice, slice, "the first number");
-    same(
-        rt,
-        &(read.value.first.number, read.value.second.number),
-        &numbers,
-        "numbers",
-    );
-    is_so(rt, are_forms(&read.inside, counts.0), "inside");
-    is_so(rt, are_forms(&read.outside, counts.1), "outside");
+    same_bytes(rt, read.slice, slice, "the first algorithm");
+    is_so(rt, are_algorithms(&read.value), "algorithms");
+    is_so(rt, are_absent(&read.inside, counts.0), "inside");
+    is_so(rt, are_absent(&read.outside, counts.1), "outside");
 }
 
-/// The bytes are read as the stated pair, with a first field that ends there.
+/// The bytes are read as the pair, with a first field that ends there.
 fn pair_is_read<A: Heap>(
     rt: &impl Abort,
     heap: A,
     bytes: &[u8],
     end: usize,
-    numbers: (u8, u8),
     counts: (usize, usize),
 ) {
-    let slice = bytes.get(2..end).expect(rt, "a first number");
+    let slice = bytes.get(2..end).expect(rt, "a first algorithm");
     match pair_of(heap, bytes) {
-        Ok(read) => pair_is(rt, &read, slice, numbers, counts),
+        Ok(read) => pair_is(rt, &read, slice, counts),
         Err(_refused) => is_so(rt, false, "a pair"),
     }
 }
 
 /// The test of this name, over any such allocator.
 fn first_fields_are_sliced_over<A: Heap>(rt: &impl Abort, heap: A) {
-    heap.refuse_all();
-    for (bytes, end, numbers, counts) in PAIRS {
-        pair_is_read(rt, heap, *bytes, *end, *numbers, *counts);
+    for (bytes, end, counts) in PAIRS {
+        pair_is_read(rt, heap, *bytes, *end, *counts);
     }
-    same(rt, &heap.requests(), &0, "requests");
 }
 
 #[test]
@@ -121,20 +125,29 @@ fn first_fields_are_sliced(rt: HostRuntime) {
 /// What is no pair, and the error's name.
 const NO_PAIRS: &[(&[u8], ReadError)] = &[
     // another tag
-    (b"\x31\x06\x81\x01\x05\x81\x01\x06", ReadError::WrongTag),
+    (
+        b"\x31\x0A\x30\x03\x06\x01\x2A\x30\x03\x06\x01\x2B",
+        ReadError::WrongTag,
+    ),
     // a first field with another tag
-    (b"\x30\x06\x82\x01\x05\x81\x01\x06", ReadError::WrongTag),
+    (b"\x30\x02\x05\x00", ReadError::WrongTag),
     // a second field with another tag
-    (b"\x30\x06\x81\x01\x05\x82\x01\x06", ReadError::WrongTag),
+    (b"\x30\x07\x30\x03\x06\x01\x2A\x05\x00", ReadError::WrongTag),
     // an element behind the second field
     (
-        b"\x30\x08\x81\x01\x05\x81\x01\x06\x05\x00",
+        b"\x30\x0C\x30\x03\x06\x01\x2A\x30\x03\x06\x01\x2B\x05\x00",
         ReadError::LeftOver,
     ),
     // a byte behind the pair
-    (b"\x30\x06\x81\x01\x05\x81\x01\x06\x00", ReadError::LeftOver),
+    (
+        b"\x30\x0A\x30\x03\x06\x01\x2A\x30\x03\x06\x01\x2B\x00",
+        ReadError::LeftOver,
+    ),
     // a pair that is cut
-    (b"\x30\x06\x81\x01\x05\x81\x01", ReadError::Truncated),
+    (
+        b"\x30\x0A\x30\x03\x06\x01\x2A\x30\x03\x06\x01",
+        ReadError::Truncated,
+    ),
 ];
 
 /// The error that the bytes are refused with.
@@ -153,50 +166,67 @@ fn other_pairs_are_refused(rt: HostRuntime) {
     }
 }
 
-/// The stamp of a letter, which may be absent.
-type FirstOf<A> = Optional<Tagged<Explicit0, ContentOf<Stamp<A>>>>;
+/// A flag, and in front of it an algorithm identifier, which may be absent.
+///
+/// # Encoding
+/// `SEQUENCE { algorithm AlgorithmIdentifier OPTIONAL, flag BOOLEAN }`
+#[derive(Drop)]
+struct Flagged<A: Allocator> {
+    algorithm: Option<RawAlgorithmIdentifier<A>>,
+    flag: bool,
+}
 
-/// The letter that the bytes are read as, with the bytes of its stamp.
-fn letter_of<A: Allocator + Copy>(
+/// The fields of a flag.
+type WithFlag<A> = Tagged<Sequence, Join<Optional<RawAlgorithmIdentifier<A>>, bool>>;
+
+impl<A: Allocator> Structure<WithFlag<A>> for Flagged<A> {
+    ghost fields = { λ v. (v.algorithm, v.flag) };
+
+    fn from_fields(parts: WithFlag<A>) -> Self {
+        let Join(Optional(algorithm), flag) = parts.into_inner();
+        Flagged { algorithm, flag }
+    }
+
+    ghost same = { λ v w e. ap (λ f. record { algorithm = f.0; flag = f.1 }) e };
+}
+
+/// The flag that the bytes are read as, with the bytes of the algorithm in front of it.
+fn flagged_of<A: Allocator + Copy>(
     alloc: A,
     bytes: &[u8],
-) -> Result<FirstField<'_, Letter<A>>, ReadError> {
-    read_first_field::<Letter<A>, FirstOf<A>, Join<u8, u8>, A>(alloc, bytes)
+) -> Result<FirstField<'_, Flagged<A>>, ReadError> {
+    read_first_field::<Flagged<A>, Optional<RawAlgorithmIdentifier<A>>, bool, A>(alloc, bytes)
 }
 
-/// It is a letter with the pages 1 and 2 and no deviation, whose stamp has these bytes.
-fn is_letter<A: Allocator>(read: &FirstField<'_, Letter<A>>, slice: &[u8]) -> bool {
-    let are_pages = read.value.page == 1 && read.value.pages == 2;
+/// It is a flag that is set, with no deviation, and in front of it an algorithm with these bytes, or none.
+fn is_flagged<A: Allocator>(read: &FirstField<'_, Flagged<A>>, slice: &[u8]) -> bool {
     let is_none = read.inside.is_none() && read.outside.is_none();
-    let is_there = read.value.stamp.is_none() == slice.is_empty();
-    are_pages && is_none && is_there && read.slice == slice
+    let is_there = read.value.algorithm.is_none() == slice.is_empty();
+    read.value.flag && is_none && is_there && read.slice == slice
 }
 
-/// What a run showed that should read a letter whose stamp has these bytes.
-fn letter_turn<A: Heap>(heap: A, bytes: &[u8], slice: &[u8]) -> Turn {
-    match letter_of(heap, bytes) {
-        Ok(read) => Turn::right(is_letter(&read, slice)),
+/// What a run showed that should read a flag behind an algorithm with these bytes, or behind none.
+fn flagged_turn<A: Heap>(heap: A, bytes: &[u8], slice: &[u8]) -> Turn {
+    match flagged_of(heap, bytes) {
+        Ok(read) => Turn::right(is_flagged(&read, slice)),
         Err(ReadError::OutOfMemory) => Turn::Refused,
         Err(_other) => Turn::Wrong,
     }
 }
 
-/// A letter with a stamp, and one without.
-const STAMPED: &[u8] = b"\x30\x10\xA0\x08\x06\x02\x2B\x03\x04\x02\xA1\xB2\x02\x01\x01\x02\x01\x02";
-
-const UNSTAMPED: &[u8] = b"\x30\x06\x02\x01\x01\x02\x01\x02";
-
-/// The identifier and the octets of a stamp take memory once each; the slice takes none.
-fn stamps_are_sliced_over<A: Heap>(rt: &impl Abort, heap: A) {
-    let stamp = b"\xA0\x08\x06\x02\x2B\x03\x04\x02\xA1\xB2".as_slice();
-    let requests = heap.in_turn(|| letter_turn(heap, STAMPED, stamp));
-    same(rt, &requests, &Some(2), "a stamp");
-    let requests = heap.in_turn(|| letter_turn(heap, UNSTAMPED, b""));
-    same(rt, &requests, &Some(0), "no stamp");
+/// The identifier takes memory once; the slice takes none.
+fn optional_first_fields_are_sliced_over<A: Heap>(rt: &impl Abort, heap: A) {
+    let algorithm = b"\x30\x05\x06\x01\x2A\x05\x00".as_slice();
+    let there = b"\x30\x0A\x30\x05\x06\x01\x2A\x05\x00\x01\x01\xFF".as_slice();
+    let requests = heap.in_turn(|| flagged_turn(heap, there, algorithm));
+    same(rt, &requests, &Some(1), "an algorithm");
+    let absent = b"\x30\x03\x01\x01\xFF".as_slice();
+    let requests = heap.in_turn(|| flagged_turn(heap, absent, b""));
+    same(rt, &requests, &Some(0), "no algorithm");
 }
 
 #[test]
-fn stamps_are_sliced(rt: HostRuntime) {
+fn optional_first_fields_are_sliced(rt: HostRuntime) {
     let heap = Refusing::new(rt.alloc());
-    stamps_are_sliced_over(&rt, &heap);
+    optional_first_fields_are_sliced_over(&rt, &heap);
 }

@@ -4,7 +4,7 @@
 //! an alternative or to tell whether an optional field is there, is none. The numbers follow from that and from the
 //! order in which elements are read: the outer one first, and then what stands in it, from front to back.
 
-use picky_asn1_x509::TbsCertificate;
+use picky_asn1_x509::{BasicConstraints, TbsCertificate};
 use std::alloc::Global;
 use std::process::Abort;
 use x509_der::ReadError::{
@@ -16,9 +16,8 @@ use x509_der::{
     IntegerAsn1, ObjectIdentifierAsn1, OctetStringAsn1, OctetStringAsn1Container, ReadError,
     read_metered,
 };
-use x509_der_structures::{Contact, Optionals, Preference, Reply, Stamp};
-use x509_keys::{ECPrivateKey, PrivateKeyInfo, RawAlgorithmIdentifier};
-use x509_names::Validity;
+use x509_keys::{DigestInfo, ECPrivateKey, PrivateKeyInfo, RawAlgorithmIdentifier};
+use x509_names::{AttributeTypeAndValue, GeneralName, Validity};
 use x509_prim::{
     BmpStringAsn1, GeneralizedTimeAsn1, Ia5StringAsn1, PrintableStringAsn1, UtcTimeAsn1, Utf8String,
 };
@@ -443,38 +442,40 @@ fn containers(rt: HostRuntime) {
     all_refused::<BitStringAsn1Container<u8>>(&rt, alloc, IN_BITS);
 }
 
-/// None of a BOOLEAN, an INTEGER (0..255), and such a one under the explicit tag 0.
-const CHOICES: &[Refusal<'static>] = &[
+/// No general names. Which of the forms a name has is told by its first byte.
+const GENERAL_NAMES: &[Refusal<'static>] = &[
     // no bytes
     ("", 0, None),
-    // a tag of no alternative
+    // a tag of no form
     ("0400", 0, None),
-    // neither 00 nor FF
-    ("010101", 1, Some(BadBoolean)),
+    // a host with a byte above 7F
+    ("8201ff", 1, Some(BadText)),
     // an explicit tag around nothing
-    ("a000", 2, None),
-    // an explicit tag around another
-    ("a003040105", 2, Some(WrongTag)),
-    // an element behind the value
-    ("a0050201050500", 2, Some(LeftOver)),
+    ("a200", 2, None),
+    // an explicit tag around a number
+    ("a203020161", 2, Some(WrongTag)),
+    // an element behind the host
+    ("a2051601610500", 2, Some(LeftOver)),
     // a byte behind it
-    ("02010500", 1, Some(LeftOver)),
+    ("82016100", 1, Some(LeftOver)),
 ];
 
-/// No SEQUENCE of an INTEGER, a BOOLEAN and an OCTET STRING, each optional, under the tags 0 to 2.
-const OPTIONAL_FIELDS: &[Refusal<'static>] = &[
+/// No SEQUENCE of a BOOLEAN and an INTEGER (0..255), each optional.
+const CONSTRAINTS: &[Refusal<'static>] = &[
     // another tag
     ("3100", 1, Some(WrongTag)),
-    // a field of no tag of these
+    // a field with a tag of neither
     ("30020500", 1, None),
     // a number below 0
-    ("3005a003020180", 3, Some(BadNumber)),
+    ("3003020180", 2, Some(BadNumber)),
+    // neither 00 nor FF
+    ("3003010101", 2, Some(BadBoolean)),
     // an element behind the number
-    ("3007a0050201050500", 3, Some(LeftOver)),
-    // octets that are cut
-    ("30038202a1", 2, Some(Truncated)),
+    ("30050201050500", 2, Some(LeftOver)),
+    // a number that is cut
+    ("30030202a1", 2, Some(Truncated)),
     // fields in another order
-    ("300aa1030101ffa003020105", 3, None),
+    ("30060201050101ff", 2, None),
     // a byte behind it
     ("300000", 1, Some(LeftOver)),
 ];
@@ -482,41 +483,30 @@ const OPTIONAL_FIELDS: &[Refusal<'static>] = &[
 #[test]
 fn choices_and_optional_fields(rt: HostRuntime) {
     let alloc = rt.alloc();
-    all_refused::<Reply>(&rt, alloc, CHOICES);
-    all_refused::<Optionals>(&rt, alloc, OPTIONAL_FIELDS);
+    all_refused::<GeneralName>(&rt, alloc, GENERAL_NAMES);
+    all_refused::<BasicConstraints>(&rt, alloc, CONSTRAINTS);
 }
 
-/// No identifier that is known, or not the value that it asks for.
-const PREFERENCES: &[Refusal<'static>] = &[
+/// No identifier, or not the value that it asks for: 1.2.840.113549.1.9.1 an IA5String, 2.5.4.6 a text of several types.
+const ATTRIBUTES: &[Refusal<'static>] = &[
     // no identifier
     ("3000", 2, None),
-    // 1.2.6, which is not known
-    ("300706022a06020105", 2, Some(Unsupported)),
-    // 1.2.3 and no value
-    ("300406022a03", 3, None),
-    // 1.2.3 and no truth value
-    ("300706022a030201ff", 3, Some(WrongTag)),
-    // 1.2.4 and a number below 0
-    ("300706022a04020180", 3, Some(BadNumber)),
-    // 1.2.5 and a value
-    ("300706022a05020105", 2, Some(LeftOver)),
-];
-
-/// No number and text in front of the other fields.
-const CONTACTS: &[Refusal<'static>] = &[
-    // another tag in the place of the number
-    ("30020500", 2, Some(WrongTag)),
-    // no text
-    ("3003020105", 3, None),
-    // a text with a byte that begins no character
-    ("30060201050c0180", 3, Some(BadText)),
+    // an address, and no value
+    ("300b06092a864886f70d010901", 3, None),
+    // an address in another type of text
+    ("300e06092a864886f70d0109010c0161", 3, Some(WrongTag)),
+    // an address with a byte above 7F
+    ("300e06092a864886f70d0109011601ff", 3, Some(BadText)),
+    // a country, and a number
+    ("30080603550406020105", 2, None),
+    // an address, and an element behind it
+    ("301006092a864886f70d0109011601610500", 3, Some(LeftOver)),
 ];
 
 #[test]
-fn kinds_and_fields(rt: HostRuntime) {
+fn values_by_identifiers(rt: HostRuntime) {
     let alloc = rt.alloc();
-    all_refused::<Preference>(&rt, alloc, PREFERENCES);
-    all_refused::<Contact>(&rt, alloc, CONTACTS);
+    all_refused::<AttributeTypeAndValue>(&rt, alloc, ATTRIBUTES);
 }
 
 /// No two times. Which of the two types a time has is told by its first byte.
@@ -585,22 +575,36 @@ const ALGORITHM_LISTS: &[Refusal<'static>] = &[
     ("3005300306012a00", 3, Some(LeftOver)),
 ];
 
-/// No identifier and octets.
-const STAMPS: &[Refusal<'static>] = &[
-    // no identifier
+/// No digests by SHA-256.
+const DIGESTS: &[Refusal<'static>] = &[
+    // no algorithm
     ("3000", 2, None),
     // no octets
-    ("300306012a", 3, None),
+    ("300f300d06096086480165030402010500", 5, None),
     // bits in their place
-    ("300706012a03020055", 3, Some(WrongTag)),
+    (
+        "3013300d0609608648016503040201050003020055",
+        5,
+        Some(WrongTag),
+    ),
     // octets that are cut
-    ("300606012a0402a5", 3, Some(Truncated)),
-    // an identifier without its last byte
-    ("3006060180040155", 2, Some(BadOid)),
+    (
+        "3012300d060960864801650304020105000402a5",
+        5,
+        Some(Truncated),
+    ),
     // an element behind the octets
-    ("300806012a0401a50500", 3, Some(LeftOver)),
+    (
+        "3014300d060960864801650304020105000401a50500",
+        5,
+        Some(LeftOver),
+    ),
     // a byte behind it
-    ("300606012a0401a500", 3, Some(LeftOver)),
+    (
+        "3012300d060960864801650304020105000401a500",
+        5,
+        Some(LeftOver),
+    ),
 ];
 
 #[test]
@@ -611,9 +615,9 @@ fn algorithms(rt: HostRuntime) {
 }
 
 #[test]
-fn stamps(rt: HostRuntime) {
+fn digests(rt: HostRuntime) {
     let alloc = rt.alloc();
-    all_refused::<Stamp>(&rt, alloc, STAMPS);
+    all_refused::<DigestInfo>(&rt, alloc, DIGESTS);
 }
 
 /// No signed parts of a certificate, for what their version doesn't have.
@@ -656,8 +660,10 @@ const SIGNED_PARTS: &[Refusal<'static>] = &[
     ),
 ];
 
-/// No private keys, for their version.
+/// No private keys, for their version or their algorithm.
 const PRIVATE_KEYS: &[Refusal<'static>] = &[
+    // the algorithm 1.2, which isn't known
+    ("300d020100300506012a05000401aa", 4, Some(Unsupported)),
     // version 2, which is the third
     (
         "302e020102300506032b6570042204201111111111111111111111111111111111111111111111111111111111111111",

@@ -1,4 +1,0 @@
-pub mod Letters
-pub mod Notices
-pub mod Stamps
-pub mod facts
