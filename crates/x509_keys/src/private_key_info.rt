@@ -446,11 +446,7 @@ impl<A: Allocator + Copy> View<Fields<A>, A> for PrivateKeyInfo<A> {
             private_key,
             public_key: bits_in(public_key.into_field()),
         };
-        if is_version(version) {
-            Some((info, found))
-        } else {
-            None
-        }
+        is_version(version).then_some((info, found))
     }
 
     ghost is_seen = { λ f. sequence_seen info_meaning info_inner (⟦<Inner<A> as Field<A>>⟧.lawful f) info_is

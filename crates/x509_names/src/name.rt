@@ -153,15 +153,12 @@ impl<A: Allocator + Copy> Name<A> {
     }
 }
 
-/// A set of one attribute.
-fn set_of<A: Allocator + Copy>(
-    alloc: A,
-    attribute: AttributeTypeAndValue<A>,
-) -> Result<Asn1SetOf<AttributeTypeAndValue<A>, A>, AllocError>
-    ensures { IfOk result (λ set. set ≡ attribute ∷ []) }
+/// A set of one item.
+fn set_of<T: Drop, A: Allocator + Copy>(alloc: A, item: T) -> Result<Asn1SetOf<T, A>, AllocError>
+    ensures { IfOk result (λ set. set ≡ item ∷ []) }
 {
     let mut set = Vec::with_capacity(alloc, 1)?;
-    set.push(attribute)?;
+    set.push(item)?;
     Ok(Asn1SetOf(set))
 }
 
