@@ -466,11 +466,18 @@ fn made<A: Allocator>(
     ensures { MatchResult identifier (λ arcs. IfOk result (λ e. e ≡ made arcs critical extn_value))
         (λ e. result ≡ Err e) }
 {
-    Ok(Extension {
-        extn_id: ObjectIdentifierAsn1(identifier?),
-        critical,
-        extn_value,
-    })
+    match identifier {
+        Ok(identifier) => Ok(Extension {
+            extn_id: ObjectIdentifierAsn1(identifier),
+            critical,
+            extn_value,
+        }),
+        Err(refused) => {
+            // a proof in which a large value goes out of scope costs several times as much as this call
+            drop(extn_value);
+            Err(refused)
+        }
+    }
 }
 
 impl<A: Allocator + Copy> Extension<A> {
