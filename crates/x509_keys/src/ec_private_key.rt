@@ -138,6 +138,7 @@ impl<A: Allocator + Copy> View<Fields<A>, A> for ECPrivateKey<A> {
         if is_version_1(&key.version) {
             Some((key, Found::Nothing))
         } else {
+            drop(key);
             None
         }
     }

@@ -78,8 +78,8 @@ fn rsa_start<A: Allocator + Copy>(
 ) -> Result<(AlgorithmIdentifier<A>, IntegerAsn1<A>), AllocError>
     ensures { IfOk result (λ p. p ≡ (identified rsa_encryption parameters.Null, 0 ∷ [])) }
 {
-    let algorithm = AlgorithmIdentifier::new_rsa_encryption(alloc)?;
     let version = IntegerAsn1::zero(alloc)?;
+    let algorithm = AlgorithmIdentifier::new_rsa_encryption(alloc)?;
     Ok((algorithm, version))
 }
 
