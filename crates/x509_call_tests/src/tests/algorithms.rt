@@ -441,6 +441,7 @@ fn is_cloned<A: Heap>(
     let counted = heap.in_turn(|| clone_turn(value.parameters()));
     same(rt, &counted, &Some(requests), what);
     heap.refuse(0);
+    drop(value);
 }
 
 /// The test of this name, over any such allocator.
@@ -518,6 +519,7 @@ fn algorithms_are_looked_at_over<A: Heap>(rt: &impl Abort, heap: A) {
     is_so(rt, has_curve(value.parameters(), &named), "a curve");
     same(rt, &heap.requests(), &0, "requests");
     heap.refuse(0);
+    drop(value);
 }
 
 #[test]
@@ -550,6 +552,7 @@ fn algorithms_are_found_over<A: Heap>(rt: &impl Abort, heap: A) {
     is_so(rt, is_behind_the_first(&value, &others), "the second");
     same(rt, &heap.requests(), &0, "requests");
     heap.refuse(0);
+    drop(value);
 }
 
 #[test]

@@ -8,7 +8,8 @@ use picky_asn1_x509::{Attribute, SignedRead};
 use refusing::{Refusing, Turn};
 use std::process::Abort;
 use x509_der::{
-    BitString, Deviation, ObjectIdentifier, ReadError, ToDer, from_bytes, to_vec, write_to_slice,
+    BitString, Deviation, FromDer, ObjectIdentifier, ReadError, ToDer, from_bytes, to_vec,
+    write_to_slice,
 };
 use x509_keys::SubjectPublicKeyInfo;
 use x509_names::{Name, Version};
@@ -96,6 +97,7 @@ fn signed_part_is<A: Heap>(rt: &impl Abort, heap: A, row: &SignedRow<'_>) {
         Ok(read) => {
             slice_is(rt, &read, input.as_slice(), row);
             part_is(rt, heap, &read.value.tbs_certificate, row);
+            drop(read);
         }
         Err(_refused) => is_so(rt, false, row.input),
     }
@@ -126,7 +128,9 @@ fn request_turn<A: Heap>(heap: A) -> Turn {
     match CertificationRequest::read_with_signed_part(heap, REQUEST) {
         Ok(read) => {
             let is_clean = read.inside.is_none() && read.outside.is_none();
-            Turn::right(is_clean && read.signed == &REQUEST[2..23])
+            let is_slice = read.signed == &REQUEST[2..23];
+            drop(read);
+            Turn::right(is_clean && is_slice)
         }
         Err(ReadError::OutOfMemory) => Turn::Refused,
         Err(_other) => Turn::Wrong,
@@ -168,6 +172,7 @@ fn first_extensions_are_found_over<A: Heap>(rt: &impl Abort, heap: A) {
     is_so(rt, read.basic_constraints().is_none(), "no constraints");
     same(rt, &read.extensions().len(), &2, "extensions");
     same(rt, &heap.requests(), &0, "requests");
+    drop(read);
 }
 
 #[test]
@@ -183,6 +188,7 @@ fn constraints_are_found_over<A: Heap>(rt: &impl Abort, heap: A) {
     is_so(rt, read.basic_constraints().is_some(), "constraints");
     is_so(rt, read.subject_key_identifier().is_none(), "no key");
     same(rt, &read.extensions().len(), &1, "extensions");
+    drop(read);
 }
 
 #[test]
@@ -226,19 +232,25 @@ fn asked<A: Heap>(rt: &impl Abort, heap: A) -> Attribute<A> {
     Attribute::new_extension_request(heap, Vec::new(heap)).expect(rt, "memory")
 }
 
+/// What a call answered that wants memory, and gets it.
+fn has_memory<T, E: Drop>(rt: &impl Abort, answer: Result<T, E>) -> T {
+    answer.ok().expect(rt, "memory")
+}
+
 /// An attribute is added in place; where memory is refused, the request stands as it was, and the attribute comes back.
 fn attributes_are_added_in_place_over<A: Heap>(rt: &impl Abort, heap: A) {
     let mut info = bare(rt, heap);
     is_so(rt, is_written(&info, BARE), "no attributes");
     let attribute = asked(rt, heap);
     heap.refuse(1);
-    let Err(back) = info.add_attribute(attribute) else {
-        return is_so(rt, false, "a request for memory");
-    };
+    let back = info
+        .add_attribute(attribute)
+        .expect_err(rt, "a request for memory");
     is_so(rt, is_written(&info, BARE), "as it was");
     heap.refuse(0);
-    is_so(rt, info.add_attribute(back).is_ok(), "memory");
+    has_memory(rt, info.add_attribute(back));
     is_so(rt, is_written(&info, ASKING), "one attribute");
+    drop(info);
 }
 
 #[test]
@@ -252,15 +264,14 @@ fn requests_take_attributes_over<A: Heap>(rt: &impl Abort, heap: A) {
     let info = bare(rt, heap);
     let attribute = asked(rt, heap);
     heap.refuse(1);
-    let Err((info, attribute)) = info.with_attribute(attribute) else {
-        return is_so(rt, false, "a request for memory");
-    };
+    let (info, attribute) = info
+        .with_attribute(attribute)
+        .expect_err(rt, "a request for memory");
     is_so(rt, is_written(&info, BARE), "as it was");
     heap.refuse(0);
-    match info.with_attribute(attribute) {
-        Ok(info) => is_so(rt, is_written(&info, ASKING), "one attribute"),
-        Err(_refused) => is_so(rt, false, "memory"),
-    }
+    let info = has_memory(rt, info.with_attribute(attribute));
+    is_so(rt, is_written(&info, ASKING), "one attribute");
+    drop(info);
 }
 
 #[test]
@@ -269,14 +280,20 @@ fn requests_take_attributes(rt: HostRuntime) {
     requests_take_attributes_over(&rt, &heap);
 }
 
+/// Whether reading is refused.
+fn is_refused<T: FromDer<A>, A: Heap>(heap: A, bytes: &[u8]) -> bool {
+    from_bytes::<T, A>(heap, bytes).is_err()
+}
+
 /// A certificate of version 2 with an extension is written, and what is written is refused.
 fn misfits_are_refused_over<A: Heap>(rt: &impl Abort, heap: A) {
     let input = decoded(rt, heap, CONSTRAINED);
     let mut read = from_bytes::<Certificate<A>, A>(heap, input.as_slice()).expect(rt, "one");
     read.tbs_certificate.version = Version::V2;
     let written = to_vec(heap, &read).expect(rt, "memory");
-    let again = from_bytes::<Certificate<A>, A>(heap, written.as_slice());
-    is_so(rt, again.is_err(), "version 2 has no extensions");
+    drop(read);
+    let is_refused = is_refused::<Certificate<A>, A>(heap, written.as_slice());
+    is_so(rt, is_refused, "version 2 has no extensions");
 }
 
 #[test]

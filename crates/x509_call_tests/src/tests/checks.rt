@@ -1,7 +1,8 @@
 //! What tests share. An assertion as a call costs a proof less than the macro does in a function whose values are
 //! dropped, `assert_eq!` five times as much and more.
 
-use std::alloc::Global;
+use refusing::Turn;
+use std::alloc::{AllocError, Global};
 use std::fmt::Debug;
 use std::process::Abort;
 use x509_der::{ObjectIdentifier, ToDer, write_to_slice};
@@ -27,6 +28,23 @@ pub(super) fn is_written<T: ToDer>(value: &T, stated: &[u8]) -> bool {
     match write_to_slice(value, room.as_mut_slice()) {
         Ok(len) => len == stated.len() && room.starts_with(stated),
         Err(_refused) => false,
+    }
+}
+
+/// What a run of a maker showed whose value is to be written as these bytes, 64 at most. It is over any type, since a
+/// proof in which a value of a large one goes out of scope costs ten times as much; so others end with `drop`.
+pub(super) fn made_turn<T: ToDer + Drop>(made: Result<T, AllocError>, stated: &[u8]) -> Turn {
+    match made {
+        Ok(value) => Turn::right(is_written(&value, stated)),
+        Err(AllocError) => Turn::Refused,
+    }
+}
+
+/// What a run of a clone showed.
+pub(super) fn clone_turn<T: PartialEq + Drop>(copy: Result<T, AllocError>, value: &T) -> Turn {
+    match copy {
+        Ok(copy) => Turn::right(copy == *value),
+        Err(AllocError) => Turn::Refused,
     }
 }
 

@@ -2,11 +2,11 @@
 //! lent of them.
 
 use super::Heap;
-use super::checks::{is_so, is_written, same};
+use super::checks::{is_so, is_written, made_turn, same};
 use picky_asn1_x509::{
     Attribute, ExtendedKeyUsage, Extension, ExtensionView, Extensions, KeyUsage,
 };
-use refusing::{Refusing, Turn};
+use refusing::Refusing;
 use std::alloc::{AllocError, Allocator};
 use std::process::Abort;
 use x509_der::{
@@ -16,32 +16,24 @@ use x509_der::{
 use x509_names::GeneralName;
 use x509_prim::{Ia5StringAsn1, UTCTime};
 
-/// What a run of a maker showed.
-fn made_turn(is_right: Result<bool, AllocError>) -> Turn {
-    match is_right {
-        Ok(is_right) => Turn::right(is_right),
-        Err(AllocError) => Turn::Refused,
-    }
-}
-
-/// Bits 0 and 2 of seven: 2.5.29.15 is critical.
-fn key_usage_is_right<A: Allocator + Copy>(alloc: A) -> Result<bool, AllocError> {
+/// Bits 0 and 2 of seven.
+fn key_usage<A: Allocator + Copy>(alloc: A) -> Result<Extension<A>, AllocError> {
     let mut usage = KeyUsage::new(alloc, 7)?;
     usage.set_digital_signature(true)?;
     usage.set_key_encipherment(true)?;
-    let made = Extension::new_key_usage(alloc, usage)?;
-    Ok(is_written(
-        &made,
-        b"\x30\x0E\x06\x03\x55\x1D\x0F\x01\x01\xFF\x04\x04\x03\x02\x01\xA0",
-    ))
+    Extension::new_key_usage(alloc, usage)
 }
 
+/// 2.5.29.15 is critical.
+const KEY_USAGE: &[u8] = b"\x30\x0E\x06\x03\x55\x1D\x0F\x01\x01\xFF\x04\x04\x03\x02\x01\xA0";
+
 /// The octets AA identify the subject's key.
-fn subject_key_is_right<A: Allocator + Copy>(alloc: A) -> Result<bool, AllocError> {
+fn subject_key<A: Allocator + Copy>(alloc: A) -> Result<Extension<A>, AllocError> {
     let octets = Vec::from_slice(alloc, &[0xAA])?;
-    let made = Extension::new_subject_key_identifier(alloc, octets)?;
-    Ok(is_written(&made, b"\x30\x0A\x06\x03\x55\x1D\x0E\x04\x03\x04\x01\xAA"))
+    Extension::new_subject_key_identifier(alloc, octets)
 }
+
+const SUBJECT_KEY: &[u8] = b"\x30\x0A\x06\x03\x55\x1D\x0E\x04\x03\x04\x01\xAA";
 
 /// The number 1.
 fn one<A: Allocator + Copy>(alloc: A) -> Result<IntegerAsn1<A>, AllocError> {
@@ -49,24 +41,18 @@ fn one<A: Allocator + Copy>(alloc: A) -> Result<IntegerAsn1<A>, AllocError> {
 }
 
 /// The octets AA identify the key, and the serial number is 1.
-fn authority_key_is_right<A: Allocator + Copy>(alloc: A) -> Result<bool, AllocError> {
+fn authority_key<A: Allocator + Copy>(alloc: A) -> Result<Extension<A>, AllocError> {
     let key = OctetStringAsn1(Vec::from_slice(alloc, &[0xAA])?);
     let serial = one(alloc)?;
-    let made = Extension::new_authority_key_identifier(alloc, Some(key), None, Some(serial))?;
-    Ok(is_written(
-        &made,
-        b"\x30\x0F\x06\x03\x55\x1D\x23\x04\x08\x30\x06\x80\x01\xAA\x82\x01\x01",
-    ))
+    Extension::new_authority_key_identifier(alloc, Some(key), None, Some(serial))
 }
 
+const AUTHORITY_KEY: &[u8] =
+    b"\x30\x0F\x06\x03\x55\x1D\x23\x04\x08\x30\x06\x80\x01\xAA\x82\x01\x01";
+
 /// An authority with a path length of 3: 2.5.29.19 is critical.
-fn basic_constraints_are_right<A: Allocator + Copy>(alloc: A) -> Result<bool, AllocError> {
-    let made = Extension::new_basic_constraints(alloc, Some(true), Some(3))?;
-    Ok(is_written(
-        &made,
-        b"\x30\x12\x06\x03\x55\x1D\x13\x01\x01\xFF\x04\x08\x30\x06\x01\x01\xFF\x02\x01\x03",
-    ))
-}
+const CONSTRAINTS: &[u8] =
+    b"\x30\x12\x06\x03\x55\x1D\x13\x01\x01\xFF\x04\x08\x30\x06\x01\x01\xFF\x02\x01\x03";
 
 /// An identifier of lawful arcs.
 fn identifier<A: Allocator + Copy>(
@@ -79,16 +65,11 @@ fn identifier<A: Allocator + Copy>(
     }
 }
 
-/// The one purpose of these arcs is written as these bytes.
-fn purpose_is_right<A: Allocator + Copy>(
-    alloc: A,
-    arcs: &[u64],
-    stated: &[u8],
-) -> Result<bool, AllocError> {
+/// The one purpose of these arcs.
+fn purpose<A: Allocator + Copy>(alloc: A, arcs: &[u64]) -> Result<Extension<A>, AllocError> {
     let mut purposes = Vec::with_capacity(alloc, 1)?;
     purposes.push(identifier(alloc, arcs)?)?;
-    let made = Extension::new_extended_key_usage(alloc, ExtendedKeyUsage::new(purposes))?;
-    Ok(is_written(&made, stated))
+    Extension::new_extended_key_usage(alloc, ExtendedKeyUsage::new(purposes))
 }
 
 /// The one DNS name `a`.
@@ -104,39 +85,42 @@ fn dns_names<A: Allocator + Copy>(
     Ok(Asn1SequenceOf(names))
 }
 
+/// One name of the subject.
+fn subject_names<A: Allocator + Copy>(alloc: A) -> Result<Extension<A>, AllocError> {
+    Extension::new_subject_alt_name(alloc, dns_names(alloc)?)
+}
+
 /// Names of the subject are critical.
-fn subject_names_are_right<A: Allocator + Copy>(alloc: A) -> Result<bool, AllocError> {
-    let made = Extension::new_subject_alt_name(alloc, dns_names(alloc)?)?;
-    Ok(is_written(
-        &made,
-        b"\x30\x0F\x06\x03\x55\x1D\x11\x01\x01\xFF\x04\x05\x30\x03\x82\x01\x61",
-    ))
+const SUBJECT_NAMES: &[u8] =
+    b"\x30\x0F\x06\x03\x55\x1D\x11\x01\x01\xFF\x04\x05\x30\x03\x82\x01\x61";
+
+/// One name of the issuer.
+fn issuer_names<A: Allocator + Copy>(alloc: A) -> Result<Extension<A>, AllocError> {
+    Extension::new_issuer_alt_name(alloc, dns_names(alloc)?)
 }
 
 /// Names of the issuer aren't.
-fn issuer_names_are_right<A: Allocator + Copy>(alloc: A) -> Result<bool, AllocError> {
-    let made = Extension::new_issuer_alt_name(alloc, dns_names(alloc)?)?;
-    Ok(is_written(
-        &made,
-        b"\x30\x0C\x06\x03\x55\x1D\x12\x04\x05\x30\x03\x82\x01\x61",
-    ))
-}
+const ISSUER_NAMES: &[u8] = b"\x30\x0C\x06\x03\x55\x1D\x12\x04\x05\x30\x03\x82\x01\x61";
 
 /// The number of a revocation list is 1.
-fn crl_number_is_right<A: Allocator + Copy>(alloc: A) -> Result<bool, AllocError> {
-    let made = Extension::new_crl_number(alloc, OctetStringAsn1Container(one(alloc)?))?;
-    Ok(is_written(&made, b"\x30\x0A\x06\x03\x55\x1D\x14\x04\x03\x02\x01\x01"))
+fn crl_number<A: Allocator + Copy>(alloc: A) -> Result<Extension<A>, AllocError> {
+    Extension::new_crl_number(alloc, OctetStringAsn1Container(one(alloc)?))
 }
+
+const CRL_NUMBER: &[u8] = b"\x30\x0A\x06\x03\x55\x1D\x14\x04\x03\x02\x01\x01";
 
 /// Each maker of keys and constraints gives what is stated, also where memory is refused.
 fn keys_are_made_over<A: Heap>(rt: &impl Abort, heap: A) {
-    let usage = heap.in_turn(|| made_turn(key_usage_is_right(heap)));
+    let usage = heap.in_turn(|| made_turn(key_usage(heap), KEY_USAGE));
     is_so(rt, usage.is_some(), "key usage");
-    let subject = heap.in_turn(|| made_turn(subject_key_is_right(heap)));
+    let subject = heap.in_turn(|| made_turn(subject_key(heap), SUBJECT_KEY));
     is_so(rt, subject.is_some(), "subject key");
-    let authority = heap.in_turn(|| made_turn(authority_key_is_right(heap)));
+    let authority = heap.in_turn(|| made_turn(authority_key(heap), AUTHORITY_KEY));
     is_so(rt, authority.is_some(), "authority key");
-    let constraints = heap.in_turn(|| made_turn(basic_constraints_are_right(heap)));
+    let constraints = heap.in_turn(|| made_turn(
+        Extension::new_basic_constraints(heap, Some(true), Some(3)),
+        CONSTRAINTS,
+    ));
     same(rt, &constraints, &Some(1), "basic constraints");
 }
 
@@ -149,15 +133,11 @@ fn keys_are_made(rt: HostRuntime) {
 /// Any purpose, 2.5.29.37.0, makes the extension not critical, and another one doesn't.
 fn purposes_are_made_over<A: Heap>(rt: &impl Abort, heap: A) {
     let any = b"\x30\x0F\x06\x03\x55\x1D\x25\x04\x08\x30\x06\x06\x04\x55\x1D\x25\x00".as_slice();
-    let made = heap.in_turn(|| made_turn(purpose_is_right(heap, &[2, 5, 29, 37, 0], any)));
+    let made = heap.in_turn(|| made_turn(purpose(heap, &[2, 5, 29, 37, 0]), any));
     is_so(rt, made.is_some(), "any purpose");
     let server =
         b"\x30\x16\x06\x03\x55\x1D\x25\x01\x01\xFF\x04\x0C\x30\x0A\x06\x08\x2B\x06\x01\x05\x05\x07\x03\x01".as_slice();
-    let made = heap.in_turn(|| made_turn(purpose_is_right(
-        heap,
-        &[1, 3, 6, 1, 5, 5, 7, 3, 1],
-        server,
-    )));
+    let made = heap.in_turn(|| made_turn(purpose(heap, &[1, 3, 6, 1, 5, 5, 7, 3, 1]), server));
     is_so(rt, made.is_some(), "a server's purpose");
 }
 
@@ -169,11 +149,11 @@ fn purposes_are_made(rt: HostRuntime) {
 
 /// The makers of names and numbers.
 fn names_are_made_over<A: Heap>(rt: &impl Abort, heap: A) {
-    let subject = heap.in_turn(|| made_turn(subject_names_are_right(heap)));
+    let subject = heap.in_turn(|| made_turn(subject_names(heap), SUBJECT_NAMES));
     is_so(rt, subject.is_some(), "the subject's");
-    let issuer = heap.in_turn(|| made_turn(issuer_names_are_right(heap)));
+    let issuer = heap.in_turn(|| made_turn(issuer_names(heap), ISSUER_NAMES));
     is_so(rt, issuer.is_some(), "the issuer's");
-    let number = heap.in_turn(|| made_turn(crl_number_is_right(heap)));
+    let number = heap.in_turn(|| made_turn(crl_number(heap), CRL_NUMBER));
     is_so(rt, number.is_some(), "a list's number");
 }
 
@@ -184,54 +164,42 @@ fn names_are_made(rt: HostRuntime) {
 }
 
 /// A request for no extensions.
-fn request_is_right<A: Allocator + Copy>(alloc: A) -> Result<bool, AllocError> {
-    let made = Attribute::new_extension_request(alloc, Vec::new(alloc))?;
-    Ok(is_written(
-        &made,
-        b"\x30\x0F\x06\x09\x2A\x86\x48\x86\xF7\x0D\x01\x09\x0E\x31\x02\x30\x00",
-    ))
-}
+const REQUEST: &[u8] = b"\x30\x0F\x06\x09\x2A\x86\x48\x86\xF7\x0D\x01\x09\x0E\x31\x02\x30\x00";
 
 /// The content type of data.
-fn content_type_is_right<A: Allocator + Copy>(alloc: A) -> Result<bool, AllocError> {
-    let made = Attribute::new_content_type_pkcs7(alloc)?;
-    Ok(is_written(
-        &made,
-        b"\x30\x18\x06\x09\x2A\x86\x48\x86\xF7\x0D\x01\x09\x03\x31\x0B\x06\x09\x2A\x86\x48\x86\xF7\x0D\x01\x07\x01",
-    ))
-}
+const CONTENT_TYPE: &[u8] =
+    b"\x30\x18\x06\x09\x2A\x86\x48\x86\xF7\x0D\x01\x09\x03\x31\x0B\x06\x09\x2A\x86\x48\x86\xF7\x0D\x01\x07\x01";
 
 /// A time in 2019.
-fn signing_time_is_right<A: Allocator + Copy>(alloc: A) -> Result<bool, AllocError> {
-    let Some(time) = UTCTime::new(2019, 10, 17, 17, 41, 28) else {
-        return Ok(false);
-    };
-    let made = Attribute::new_signing_time(alloc, time)?;
-    Ok(is_written(
-        &made,
-        b"\x30\x1C\x06\x09\x2A\x86\x48\x86\xF7\x0D\x01\x09\x05\x31\x0F\x17\x0D191017174128Z",
-    ))
+fn signing_time<A: Allocator + Copy>(alloc: A) -> Result<Attribute<A>, AllocError> {
+    match UTCTime::new(2019, 10, 17, 17, 41, 28) {
+        Some(time) => Attribute::new_signing_time(alloc, time),
+        None => Err(AllocError),
+    }
 }
 
+const SIGNING_TIME: &[u8] =
+    b"\x30\x1C\x06\x09\x2A\x86\x48\x86\xF7\x0D\x01\x09\x05\x31\x0F\x17\x0D191017174128Z";
+
 /// The octets AA.
-fn digest_is_right<A: Allocator + Copy>(alloc: A) -> Result<bool, AllocError> {
-    let octets = Vec::from_slice(alloc, &[0xAA])?;
-    let made = Attribute::new_message_digest(alloc, octets)?;
-    Ok(is_written(
-        &made,
-        b"\x30\x10\x06\x09\x2A\x86\x48\x86\xF7\x0D\x01\x09\x04\x31\x03\x04\x01\xAA",
-    ))
+fn digest<A: Allocator + Copy>(alloc: A) -> Result<Attribute<A>, AllocError> {
+    Attribute::new_message_digest(alloc, Vec::from_slice(alloc, &[0xAA])?)
 }
+
+const DIGEST: &[u8] = b"\x30\x10\x06\x09\x2A\x86\x48\x86\xF7\x0D\x01\x09\x04\x31\x03\x04\x01\xAA";
 
 /// Each maker of attributes gives what is stated, also where memory is refused.
 fn attributes_are_made_over<A: Heap>(rt: &impl Abort, heap: A) {
-    let request = heap.in_turn(|| made_turn(request_is_right(heap)));
+    let request = heap.in_turn(|| made_turn(
+        Attribute::new_extension_request(heap, Vec::new(heap)),
+        REQUEST,
+    ));
     is_so(rt, request.is_some(), "a request");
-    let content = heap.in_turn(|| made_turn(content_type_is_right(heap)));
+    let content = heap.in_turn(|| made_turn(Attribute::new_content_type_pkcs7(heap), CONTENT_TYPE));
     is_so(rt, content.is_some(), "a content type");
-    let time = heap.in_turn(|| made_turn(signing_time_is_right(heap)));
+    let time = heap.in_turn(|| made_turn(signing_time(heap), SIGNING_TIME));
     is_so(rt, time.is_some(), "a time");
-    let digest = heap.in_turn(|| made_turn(digest_is_right(heap)));
+    let digest = heap.in_turn(|| made_turn(digest(heap), DIGEST));
     is_so(rt, digest.is_some(), "a digest");
 }
 
@@ -264,6 +232,7 @@ fn critical_is_changed_over<A: Heap>(rt: &impl Abort, heap: A) {
     let extension = extension.into_non_critical();
     is_so(rt, is_written(&extension, GENERIC), "no more again");
     same(rt, &heap.requests(), &0, "requests");
+    drop(extension);
 }
 
 #[test]
@@ -321,6 +290,7 @@ fn is_lent<A: Heap>(rt: &impl Abort, heap: A, place: u8, bytes: &[u8]) {
     same(rt, &lent, &Some(place), "the variant");
     same(rt, &heap.requests(), &0, "requests");
     heap.refuse(0);
+    drop(extension);
 }
 
 /// The variant is the one that the identifier says.
@@ -342,6 +312,7 @@ fn identifiers_are_lent_over<A: Heap>(rt: &impl Abort, heap: A) {
         "certificate policies",
     );
     same(rt, &heap.requests(), &0, "requests");
+    drop(extension);
 }
 
 #[test]
@@ -362,6 +333,7 @@ fn lists_are_made_over<A: Heap>(rt: &impl Abort, heap: A) {
     let list = Extensions::from(items);
     is_so(rt, is_written(&list, LIST), "the same items");
     same(rt, &heap.requests(), &0, "requests");
+    drop(list);
 }
 
 #[test]

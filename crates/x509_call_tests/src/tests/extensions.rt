@@ -240,6 +240,7 @@ fn purposes_are_looked_up_over<A: Heap>(rt: &impl Abort, heap: A) {
     is_so(rt, are_ended_by(&usage, &[1, 3]), "the second alone");
     same(rt, &heap.requests(), &0, "no request");
     heap.refuse(0);
+    drop(usage);
 }
 
 #[test]
@@ -314,6 +315,7 @@ fn authorities_are_seen_over<A: Heap>(rt: &impl Abort, heap: A) {
     is_so(rt, is_seen(&value), "all three");
     same(rt, &heap.requests(), &0, "no request");
     heap.refuse(0);
+    drop(value);
 }
 
 #[test]

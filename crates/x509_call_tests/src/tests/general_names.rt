@@ -18,9 +18,9 @@ fn is_written<T: ToDer>(value: &T, stated: &[u8]) -> bool {
 }
 
 /// No request was made since all were refused, and the value is written as these bytes; none is refused any more.
-fn is_made<A: Heap, T: ToDer>(rt: &impl Abort, heap: A, value: &T, stated: &[u8]) {
+fn is_made<A: Heap, T: ToDer + Drop>(rt: &impl Abort, heap: A, value: T, stated: &[u8]) {
     same(rt, &heap.requests(), &0, "requests");
-    is_so(rt, is_written(value, stated), "the bytes");
+    is_so(rt, is_written(&value, stated), "the bytes");
     heap.refuse(0);
 }
 
@@ -35,7 +35,7 @@ fn parties_are_named_over<A: Heap>(rt: &impl Abort, heap: A) {
     let party = directory_string(rt, heap, "a");
     heap.refuse_all();
     let name = GeneralName::new_edi_party_name(party, None);
-    is_made(rt, heap, &name, b"\xA5\x05\xA1\x03\x0C\x01a");
+    is_made(rt, heap, name, b"\xA5\x05\xA1\x03\x0C\x01a");
 }
 
 #[test]
@@ -53,7 +53,7 @@ fn parties_are_assigned_over<A: Heap>(rt: &impl Abort, heap: A) {
     is_made(
         rt,
         heap,
-        &name,
+        name,
         b"\xA5\x0A\xA0\x03\x0C\x01b\xA1\x03\x0C\x01a",
     );
 }
@@ -69,7 +69,7 @@ fn names_are_moved_over<A: Heap>(rt: &impl Abort, heap: A) {
     let name = from_bytes::<Name<A>, A>(heap, b"\x30\x00").expect(rt, "a name");
     heap.refuse_all();
     let general = GeneralName::from(name);
-    is_made(rt, heap, &general, b"\xA4\x02\x30\x00");
+    is_made(rt, heap, general, b"\xA4\x02\x30\x00");
 }
 
 #[test]
@@ -87,7 +87,7 @@ fn other_names_are_made_over<A: Heap>(rt: &impl Abort, heap: A) {
     let type_id = ObjectIdentifierAsn1(type_id);
     let name = GeneralName::OtherName(OtherName { type_id, value });
     let stated = b"\xA0\x11\x06\x0A\x2B\x06\x01\x04\x01\x82\x37\x14\x02\x03\xA0\x03\x0C\x01a";
-    is_made(rt, heap, &name, stated);
+    is_made(rt, heap, name, stated);
 }
 
 #[test]
@@ -115,15 +115,15 @@ const GENERALIZED: &[u8] = b"\x18\x0F00000229000000Z";
 fn times_are_moved(rt: HostRuntime) {
     let heap = Refusing::new(rt.alloc());
     heap.refuse_all();
-    is_made(&rt, &heap, &Time::from(utc_time(&rt)), UTC);
+    is_made(&rt, &heap, Time::from(utc_time(&rt)), UTC);
     heap.refuse_all();
     let time = UtcTimeAsn1(utc_time(&rt));
-    is_made(&rt, &heap, &Time::from(time), UTC);
+    is_made(&rt, &heap, Time::from(time), UTC);
     heap.refuse_all();
-    is_made(&rt, &heap, &Time::from(generalized_time(&rt)), GENERALIZED);
+    is_made(&rt, &heap, Time::from(generalized_time(&rt)), GENERALIZED);
     heap.refuse_all();
     let time = GeneralizedTimeAsn1(generalized_time(&rt));
-    is_made(&rt, &heap, &Time::from(time), GENERALIZED);
+    is_made(&rt, &heap, Time::from(time), GENERALIZED);
 }
 
 /// Whether it is an equal validity.

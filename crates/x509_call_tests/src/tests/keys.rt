@@ -141,6 +141,7 @@ fn bare_key_over<A: Heap>(rt: &impl Abort, heap: A, arcs: &[u64], bits: &[u8], b
     let key = SubjectPublicKeyInfo::new_ed_key(algorithm, BitString::with_bytes(bits));
     is_so(rt, heap.requests() == 0, "no memory");
     is_so(rt, is_written(&key, bytes), "bytes");
+    drop(key);
 }
 
 /// Any identifier is taken: also that of RSA, and one that no reader knows.
@@ -261,6 +262,7 @@ fn bare_info_over<A: Heap>(rt: &impl Abort, heap: A, key: Option<BitString<A>>, 
     let info = PrivateKeyInfo::new_ed_encryption(algorithm, OctetStringAsn1(secret), key);
     is_so(rt, heap.requests() == 0, "no memory");
     is_so(rt, is_written(&info, bytes), "bytes");
+    drop(info);
 }
 
 /// With a public key the version is 1, without one 0.
@@ -303,6 +305,7 @@ fn numbers_of_keys_are_lent_over<A: Heap>(rt: &impl Abort, heap: A) {
     is_byte(rt, key.exponent_2(), 7);
     is_byte(rt, key.coefficient(), 8);
     is_so(rt, heap.requests() == 0, "no memory");
+    drop(key);
 }
 
 #[test]

@@ -1,24 +1,15 @@
 //! Attributes and names: what is made, added and found, with requests for memory refused.
 
 use super::Heap;
-use super::checks::{is_so, same};
+use super::checks::{clone_turn, is_so, is_written, made_turn, same};
 use refusing::{Refusing, Turn};
 use std::alloc::{AllocError, Allocator};
 use std::process::Abort;
-use x509_der::{FromDer, ObjectIdentifier, ToDer, from_bytes, write_to_slice};
+use x509_der::{FromDer, ObjectIdentifier, from_bytes};
 use x509_names::{
     AttributeTypeAndValue, AttributeTypeAndValueParameters, DirectoryString, Name, NameAttr,
 };
 use x509_prim::{Ia5String, Ia5StringAsn1, Utf8String};
-
-/// Whether these bytes are the DER encoding.
-fn is_written<T: ToDer>(value: &T, bytes: &[u8]) -> bool {
-    let mut room = [0u8; 64];
-    match write_to_slice(value, room.as_mut_slice()) {
-        Ok(len) => &room[..len] == bytes,
-        Err(_refused) => false,
-    }
-}
 
 /// A text as a directory string.
 fn text_of<A: Allocator>(alloc: A, text: &str) -> Result<DirectoryString<A>, AllocError> {
@@ -76,13 +67,12 @@ const ATTRS: &[(NameAttr, u8)] = &[
 ];
 
 /// What a run showed that should make the attribute `a` with this last arc.
-fn made_turn<A: Allocator + Copy>(alloc: A, attr: &NameAttr, arc: u8) -> Turn {
-    let bytes = [0x30, 8, 6, 3, 0x55, 4, arc, 0x0C, 1, 0x61];
-    let Ok(text) = text_of(alloc, "a") else {
-        return Turn::Refused;
-    };
-    match made(alloc, attr, text) {
-        Ok(attribute) => Turn::right(is_written(&attribute, &bytes)),
+fn attribute_turn<A: Allocator + Copy>(alloc: A, attr: &NameAttr, arc: u8) -> Turn {
+    match text_of(alloc, "a") {
+        Ok(text) => made_turn(
+            made(alloc, attr, text),
+            &[0x30, 8, 6, 3, 0x55, 4, arc, 0x0C, 1, 0x61],
+        ),
         Err(AllocError) => Turn::Refused,
     }
 }
@@ -90,7 +80,7 @@ fn made_turn<A: Allocator + Copy>(alloc: A, attr: &NameAttr, arc: u8) -> Turn {
 /// Each is made by two requests: one for the text, and one for the type.
 fn attributes_are_made_over<A: Heap>(rt: &impl Abort, heap: A) {
     for (attr, arc) in ATTRS {
-        let requests = heap.in_turn(|| made_turn(heap, attr, *arc));
+        let requests = heap.in_turn(|| attribute_turn(heap, attr, *arc));
         same(rt, &requests, &Some(2), "requests");
     }
 }
@@ -104,12 +94,14 @@ fn attributes_are_made(rt: HostRuntime) {
 /// What a run showed that should make the e-mail address `a@b`.
 fn email_turn<A: Allocator + Copy>(alloc: A) -> Turn {
     let bytes = b"\x30\x10\x06\x09\x2A\x86\x48\x86\xF7\x0D\x01\x09\x01\x16\x03a@b".as_slice();
-    let Some(address) = address(alloc) else {
-        return Turn::Refused;
-    };
-    match AttributeTypeAndValue::new_email_address(alloc, address) {
-        Ok(attribute) => Turn::right(is_written(&attribute, bytes)),
-        Err(AllocError) => Turn::Refused,
+    match address(alloc) {
+        Some(address) => {
+            made_turn(
+                AttributeTypeAndValue::new_email_address(alloc, address),
+                bytes,
+            )
+        }
+        None => Turn::Refused,
     }
 }
 
@@ -147,17 +139,9 @@ fn named<A: Allocator + Copy>(alloc: A) -> Result<Name<A>, AllocError> {
     Name::new_common_name(alloc, text)
 }
 
-/// What a run showed that should make the name.
-fn named_turn<A: Allocator + Copy>(alloc: A) -> Turn {
-    match named(alloc) {
-        Ok(name) => Turn::right(is_written(&name, NAMED)),
-        Err(AllocError) => Turn::Refused,
-    }
-}
-
 /// A name takes four requests: for the text, its type, the set and the list.
 fn names_are_made_over<A: Heap>(rt: &impl Abort, heap: A) {
-    let requests = heap.in_turn(|| named_turn(heap));
+    let requests = heap.in_turn(|| made_turn(named(heap), NAMED));
     same(rt, &requests, &Some(4), "requests");
 }
 
@@ -298,6 +282,7 @@ fn misfits_are_written_over<A: Heap>(rt: &impl Abort, heap: A) {
     let attribute = misfit(rt, heap, text);
     let bytes = b"\x30\x08\x06\x03\x55\x04\x0C\x0C\x01a".as_slice();
     is_read_as_another(rt, heap, &attribute, bytes);
+    drop(attribute);
 }
 
 #[test]
@@ -306,20 +291,14 @@ fn misfits_are_written(rt: HostRuntime) {
     misfits_are_written_over(&rt, &heap);
 }
 
-/// What a run showed that should clone a value.
-fn value_turn<A: Allocator + Copy>(value: &AttributeTypeAndValueParameters<A>) -> Turn {
-    match value.clone() {
-        Ok(copy) => Turn::right(copy == *value),
-        Err(AllocError) => Turn::Refused,
-    }
-}
-
 /// A value by itself is cloned by one request.
 fn values_are_cloned_over<A: Heap>(rt: &impl Abort, heap: A) {
     let text = text_of(heap, "a").expect(rt, "memory");
     let attribute = AttributeTypeAndValue::new_common_name(heap, text).expect(rt, "memory");
-    let requests = heap.in_turn(|| value_turn(&attribute.value));
+    let value = &attribute.value;
+    let requests = heap.in_turn(|| clone_turn(value.clone(), value));
     same(rt, &requests, &Some(1), "requests");
+    drop(attribute);
 }
 
 #[test]

@@ -46,9 +46,15 @@ fn a_certificate_is_checked(rt: HostRuntime) {
     let read = read(rt.alloc(), &bytes).expect(&rt, "a certificate");
     assert!(rt; bytes.get(4..294) == Some(read.signed));
     assert!(rt; is_signed_in_der(&read) && is_self_issued(&read.value));
+    drop(read);
+}
+
+#[test]
+fn a_request_is_no_certificate(rt: HostRuntime) {
     let bytes = bytes_of(&rt, rt.alloc(), REQUEST);
-    let refused = x509_callers::checker::read(rt.alloc(), &bytes);
+    let refused = read(rt.alloc(), &bytes);
     assert!(rt; refused.is_err());
+    drop(refused);
 }
 
 #[test]
@@ -59,6 +65,7 @@ fn a_certificate_is_described(rt: HostRuntime) {
     assert!(rt; common_name(&certificate).is_some());
     let mut text = String::new(rt.alloc());
     assert!(rt; describe(&mut text, &certificate).is_ok());
+    drop(certificate);
     let lines =
         "subject: CN=example.org\nvalid: 2026-11-23 17:58:36 to 2052-11-26 17:58:36\nhost: example.org\nhost: www.example.org\n";
     assert_eq!(rt; text.as_str(), lines);
@@ -67,7 +74,8 @@ fn a_certificate_is_described(rt: HostRuntime) {
 #[test]
 fn a_deviation_is_located(rt: HostRuntime) {
     let bytes = bytes_of(&rt, rt.alloc(), WITHOUT_NULL);
-    let (_certificate, places) = located(rt.alloc(), &bytes).expect(&rt, "a certificate");
+    let (certificate, places) = located(rt.alloc(), &bytes).expect(&rt, "a certificate");
+    drop(certificate);
     let found = places
         .first()
         .map(|place| (place.kind, place.start, place.end));
@@ -102,6 +110,7 @@ fn asked_for(rt: &impl Abort, alloc: Global) -> CertificationRequestInfo {
 fn a_request_is_built(rt: HostRuntime) {
     let info = asked_for(&rt, rt.alloc());
     let signed = bytes_to_sign(rt.alloc(), &info).expect(&rt, "memory");
+    drop(info);
     assert!(rt; signed.as_slice() == bytes_of(&rt, rt.alloc(), SIGNED).as_slice());
 }
 

@@ -681,9 +681,16 @@ fn public_key_alone<A: Heap>(rt: &impl Abort, heap: A, text: &str, alone: &str) 
     let bytes = bytes_of(rt, heap, alone);
     let value = from_bytes::<SubjectPublicKeyInfo<A>, A>(heap, &input).expect(rt, text);
     let before = from_bytes::<SubjectPublicKeyInfo<A>, A>(heap, &input).expect(rt, text);
-    let (value, before) = (&value.subject_public_key, &before.subject_public_key);
-    is_written(rt, heap, value, &bytes);
-    copies_agree(rt, heap, value, before, text);
+    is_written(rt, heap, &value.subject_public_key, &bytes);
+    copies_agree(
+        rt,
+        heap,
+        &value.subject_public_key,
+        &before.subject_public_key,
+        text,
+    );
+    drop(value);
+    drop(before);
 }
 
 /// The test of this name, over any such allocator.
@@ -719,9 +726,10 @@ fn private_key_alone<A: Heap>(rt: &impl Abort, heap: A, text: &str, alone: &str)
     let bytes = bytes_of(rt, heap, alone);
     let value = from_bytes::<PrivateKeyInfo<A>, A>(heap, &input).expect(rt, text);
     let before = from_bytes::<PrivateKeyInfo<A>, A>(heap, &input).expect(rt, text);
-    let (value, before) = (&value.private_key, &before.private_key);
-    is_written(rt, heap, value, &bytes);
-    copies_agree(rt, heap, value, before, text);
+    is_written(rt, heap, &value.private_key, &bytes);
+    copies_agree(rt, heap, &value.private_key, &before.private_key, text);
+    drop(value);
+    drop(before);
 }
 
 /// The test of this name, over any such allocator.
