@@ -1,7 +1,7 @@
 //! What is signed of certificates and requests, look-ups of extensions, and adding attributes.
 
 use super::Heap;
-use super::checks::{is_so, same, same_bytes};
+use super::checks::{granted, is_so, same, same_bytes};
 use picky_asn1_x509::certificate::{Certificate, TbsCertificate};
 use picky_asn1_x509::certification_request::{CertificationRequest, CertificationRequestInfo};
 use picky_asn1_x509::{Attribute, SignedRead};
@@ -232,11 +232,6 @@ fn asked<A: Heap>(rt: &impl Abort, heap: A) -> Attribute<A> {
     Attribute::new_extension_request(heap, Vec::new(heap)).expect(rt, "memory")
 }
 
-/// What a call answered that wants memory, and gets it.
-fn has_memory<T, E: Drop>(rt: &impl Abort, answer: Result<T, E>) -> T {
-    answer.ok().expect(rt, "memory")
-}
-
 /// An attribute is added in place; where memory is refused, the request stands as it was, and the attribute comes back.
 fn attributes_are_added_in_place_over<A: Heap>(rt: &impl Abort, heap: A) {
     let mut info = bare(rt, heap);
@@ -248,7 +243,7 @@ fn attributes_are_added_in_place_over<A: Heap>(rt: &impl Abort, heap: A) {
         .expect_err(rt, "a request for memory");
     is_so(rt, is_written(&info, BARE), "as it was");
     heap.refuse(0);
-    has_memory(rt, info.add_attribute(back));
+    granted(rt, info.add_attribute(back));
     is_so(rt, is_written(&info, ASKING), "one attribute");
     drop(info);
 }
@@ -269,7 +264,7 @@ fn requests_take_attributes_over<A: Heap>(rt: &impl Abort, heap: A) {
         .expect_err(rt, "a request for memory");
     is_so(rt, is_written(&info, BARE), "as it was");
     heap.refuse(0);
-    let info = has_memory(rt, info.with_attribute(attribute));
+    let info = granted(rt, info.with_attribute(attribute));
     is_so(rt, is_written(&info, ASKING), "one attribute");
     drop(info);
 }

@@ -48,6 +48,11 @@ pub(super) fn clone_turn<T: PartialEq + Drop>(copy: Result<T, AllocError>, value
     }
 }
 
+/// What a call gives that wants memory, and gets it.
+pub(super) fn granted<T, E: Drop>(rt: &impl Abort, answer: Result<T, E>) -> T {
+    answer.ok().expect(rt, "memory")
+}
+
 /// What the text spells in hexadecimal.
 pub(super) fn bytes_of(rt: &impl Abort, alloc: Global, text: &str) -> Vec<u8> {
     hex::decode(alloc, text).expect(rt, text)

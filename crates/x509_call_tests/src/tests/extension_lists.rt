@@ -2,7 +2,7 @@
 //! lent of them.
 
 use super::Heap;
-use super::checks::{is_so, is_written, made_turn, same};
+use super::checks::{granted, is_so, is_written, made_turn, same};
 use picky_asn1_x509::{
     Attribute, ExtendedKeyUsage, Extension, ExtensionView, Extensions, KeyUsage,
 };
@@ -328,7 +328,7 @@ const LIST: &[u8] = b"\x30\x0D\x30\x0B\x06\x03\x55\x1D\x20\x04\x04\xDE\xAD\xBE\x
 fn lists_are_made_over<A: Heap>(rt: &impl Abort, heap: A) {
     let mut items = Vec::new(heap);
     let extension = from_bytes::<Extension<A>, A>(heap, GENERIC).expect(rt, "an extension");
-    is_so(rt, items.push(extension).is_ok(), "memory");
+    granted(rt, items.push(extension));
     heap.refuse_all();
     let list = Extensions::from(items);
     is_so(rt, is_written(&list, LIST), "the same items");
