@@ -79,8 +79,16 @@ impl<A: Allocator + Copy> CloneEq for TbsCertificate<A> {
             &self.issuer_unique_id,
             &self.subject_unique_id,
             &self.extensions,
-        )?;
-        Ok(from_core(self.version, core, behind.0, behind.1, behind.2))
+        );
+        match behind {
+            Ok((issuer, subject, extensions)) => {
+                Ok(from_core(self.version, core, issuer, subject, extensions))
+            }
+            Err(refused) => {
+                drop(core);
+                Err(refused)
+            }
+        }
     }
 }
 

@@ -11,7 +11,6 @@ use Rattle.x509_keys.specs.AlgorithmIdentifier.{Algorithm}
 use Rattle.x509_keys.specs.declared.subject_public_key_info.SubjectPublicKeyInfo.{SubjectPublicKeyInfo}
 use Rattle.picky_asn1_x509_parts.specs.Extensions.{ExtensionFields}
 use Rattle.picky_asn1_x509_parts.specs.declared.attribute.Attribute.{Attribute}
-use Rattle.picky_asn1_x509.specs.TbsCertificates.{CoreFields, core_of, tbs_with}
 use Rattle.picky_asn1_x509.specs.declared.certificate.Certificate.{Certificate}
 use Rattle.picky_asn1_x509.specs.declared.certification_request.CertificationRequest.{CertificationRequest}
 use Rattle.picky_asn1_x509.specs.declared.certification_request.CertificationRequestInfo.{CertificationRequestInfo}
@@ -59,15 +58,6 @@ tbs_decide {A = A} version number algorithm names validity key bits extensions =
     (λ f. record { version = f.0; serial_number = f.1.0; signature = f.1.1.0; issuer = f.1.1.1.0; validity = f.1.1.1.1.0; subject = f.1.1.1.1.1.0; subject_public_key_info = f.1.1.1.1.1.1.0; issuer_unique_id = f.1.1.1.1.1.1.1.0; subject_unique_id = f.1.1.1.1.1.1.1.1.0; extensions = f.1.1.1.1.1.1.1.1.1 })
     (λ v. refl)
     (pairs_decide version (pairs_decide number (pairs_decide algorithm (pairs_decide names (pairs_decide validity (pairs_decide names (pairs_decide key (pairs_decide (options_decide bits) (pairs_decide (options_decide bits) extensions)))))))))
-
--- a signed part is made of its version, its core and what stands behind it
-pub tbs_again :
-    {A : Type 0} (v : TbsCertificate A) (c : CoreFields A) (b : Option (List Bool) × Option (List Bool) × List (ExtensionFields A)) →
-    c ≡ core_of v → b ≡ (v.issuer_unique_id, v.subject_unique_id, v.extensions) →
-    tbs_with v.version c b.0 b.1 b.2 ≡ v
-tbs_again v c b e f =
-    ap (λ z. tbs_with v.version z b.0 b.1 b.2) e
-    ∙ ap (λ z. tbs_with v.version (core_of v) z.0 z.1 z.2) f
 
 -- of a certificate
 pub certificate_decide :
