@@ -2,7 +2,7 @@
 
 ghost use Rattle.std.specs.Prelude.{◌≡◌, refl, IfOk};
 ghost use Rattle.x509_names.specs.declared.general_name.GeneralName.TheVariants as form;
-ghost use Rattle.x509_names.specs.GeneralNames.{strict_base, general_parts, strict_name, loose_name, general_meaning};
+ghost use Rattle.x509_names.specs.GeneralNames.{strict_name, loose_name, general_meaning};
 ghost use Rattle.x509_names.specs.GeneralNames.{general_name as general_names};
 ghost use Rattle.x509_names.specs.facts.GeneralNames.{general_seen, general_lawful, general_element};
 
@@ -14,7 +14,7 @@ use x509_der::parts::Choice::{First, Second};
 use x509_der::parts::{
     Choice, ContentOf, Explicit0, Explicit1, Explicit2, Explicit4, Explicit5, Explicit6, Explicit7,
     Explicit8, Field, Found, Implicit1, Implicit2, Implicit4, Implicit6, Implicit7, Implicit8,
-    Reader, Tagged, View, read_viewed,
+    Reader, Tag, Tagged, View, element_len, read_viewed, write_element,
 };
 use x509_der::{
     Asn1SequenceOf, CloneEq, Deviation, FromDer, ObjectIdentifierAsn1, OctetStringAsn1, ReadError,
@@ -126,36 +126,25 @@ impl<A: Allocator> SameEq for GeneralName<A> {
         (parties_decide {E = ⟦<DirectoryString<A> as PartialEq>⟧.eq} (λ a b. Prim.search (rules, bytes_decides))) };
 }
 
-/// The alternatives that are written, owned or borrowed.
-type Nest<O, S, D, E, B, I> = Choice<
+/// The alternatives that are written.
+type Strict<A> = Choice<
     Choice<
-        Choice<Tagged<Explicit0, ContentOf<O>>, Tagged<Implicit1, ContentOf<S>>>,
-        Choice<Tagged<Implicit2, ContentOf<S>>, Tagged<Explicit4, D>>,
+        Choice<
+            Tagged<Explicit0, ContentOf<OtherName<A>>>,
+            Tagged<Implicit1, ContentOf<Ia5StringAsn1<A>>>,
+        >,
+        Choice<Tagged<Implicit2, ContentOf<Ia5StringAsn1<A>>>, Tagged<Explicit4, Name<A>>>,
     >,
     Choice<
-        Choice<Tagged<Explicit5, ContentOf<E>>, Tagged<Implicit6, ContentOf<S>>>,
-        Choice<Tagged<Implicit7, ContentOf<B>>, Tagged<Implicit8, ContentOf<I>>>,
+        Choice<
+            Tagged<Explicit5, ContentOf<EdiPartyName<A>>>,
+            Tagged<Implicit6, ContentOf<Ia5StringAsn1<A>>>,
+        >,
+        Choice<
+            Tagged<Implicit7, ContentOf<OctetStringAsn1<A>>>,
+            Tagged<Implicit8, ContentOf<ObjectIdentifierAsn1<A>>>,
+        >,
     >,
->;
-
-/// The alternatives that are written, owned.
-type Strict<A> = Nest<
-    OtherName<A>,
-    Ia5StringAsn1<A>,
-    Name<A>,
-    EdiPartyName<A>,
-    OctetStringAsn1<A>,
-    ObjectIdentifierAsn1<A>,
->;
-
-/// The alternative that is written, borrowed.
-type Written<'a, A> = Nest<
-    &'a OtherName<A>,
-    &'a Ia5StringAsn1<A>,
-    &'a Name<A>,
-    &'a EdiPartyName<A>,
-    &'a OctetStringAsn1<A>,
-    &'a ObjectIdentifierAsn1<A>,
 >;
 
 /// The alternatives that are deviations.
@@ -169,22 +158,6 @@ type Loose<A> = Choice<
 
 /// All alternatives.
 type Fields<A> = Choice<Strict<A>, Loose<A>>;
-
-/// The alternative of a general name, to be written.
-fn written<A: Allocator>(value: &GeneralName<A>) -> Written<'_, A>
-    ensures { ⟦<Written<'static, A> as ToDer>⟧.strict result ≡ strict_base.strict (general_parts value.now) }
-{
-    match value {
-        GeneralName::OtherName(name) => First(First(First(Tagged::new(ContentOf(name))))),
-        GeneralName::Rfc822Name(text) => First(First(Second(Tagged::new(ContentOf(text))))),
-        GeneralName::DnsName(text) => First(Second(First(Tagged::new(ContentOf(text))))),
-        GeneralName::DirectoryName(name) => First(Second(Second(Tagged::new(name)))),
-        GeneralName::EdiPartyName(name) => Second(First(First(Tagged::new(ContentOf(name))))),
-        GeneralName::Uri(text) => Second(First(Second(Tagged::new(ContentOf(text))))),
-        GeneralName::IpAddress(octets) => Second(Second(First(Tagged::new(ContentOf(octets))))),
-        GeneralName::RegisteredId(id) => Second(Second(Second(Tagged::new(ContentOf(id))))),
-    }
-}
 
 /// The general name of an alternative that is written.
 fn from_strict<A: Allocator>(parts: Strict<A>) -> GeneralName<A>
@@ -220,11 +193,37 @@ impl<A: Allocator> ToDer for GeneralName<A> {
     ghost strict = { λ v. general_names.strict v };
 
     fn encoded_len(&self) -> Result<usize, TooLong> {
-        written(self).encoded_len()
+        match self {
+            GeneralName::OtherName(name) => element_len(Explicit0::BYTE, &ContentOf(name)),
+            GeneralName::Rfc822Name(text) => element_len(Implicit1::BYTE, &ContentOf(text)),
+            GeneralName::DnsName(text) => element_len(Implicit2::BYTE, &ContentOf(text)),
+            GeneralName::DirectoryName(name) => element_len(Explicit4::BYTE, name),
+            GeneralName::EdiPartyName(name) => element_len(Explicit5::BYTE, &ContentOf(name)),
+            GeneralName::Uri(text) => element_len(Implicit6::BYTE, &ContentOf(text)),
+            GeneralName::IpAddress(octets) => element_len(Implicit7::BYTE, &ContentOf(octets)),
+            GeneralName::RegisteredId(id) => element_len(Implicit8::BYTE, &ContentOf(id)),
+        }
     }
 
     fn write_back(&self, out: &mut [u8]) -> usize {
-        written(self).write_back(out)
+        match self {
+            GeneralName::OtherName(name) => write_element(Explicit0::BYTE, &ContentOf(name), out),
+            GeneralName::Rfc822Name(text) => write_element(Implicit1::BYTE, &ContentOf(text), out),
+            GeneralName::DnsName(text) => write_element(Implicit2::BYTE, &ContentOf(text), out),
+            GeneralName::DirectoryName(name) => write_element(Explicit4::BYTE, name, out),
+            GeneralName::EdiPartyName(name) => write_element(
+                Explicit5::BYTE,
+                &ContentOf(name),
+                out,
+            ),
+            GeneralName::Uri(text) => write_element(Implicit6::BYTE, &ContentOf(text), out),
+            GeneralName::IpAddress(octets) => write_element(
+                Implicit7::BYTE,
+                &ContentOf(octets),
+                out,
+            ),
+            GeneralName::RegisteredId(id) => write_element(Implicit8::BYTE, &ContentOf(id), out),
+        }
     }
 }
 
