@@ -1,6 +1,6 @@
 //! Makers of algorithm identifiers.
 
-ghost use Rattle.std.specs.Prelude.{◌≡◌, ◌+◌, ◌≤◌, ◌∷◌, [], IfOk, IfErr, IsSome, Some, None};
+ghost use Rattle.std.specs.Prelude.{◌≡◌, ◌+◌, ◌≤◌, ◌∷◌, [], IfOk, IfErr, MatchResult, IsOkAnd, Err, IsSome, Some, None};
 ghost use Rattle.x509_keys_parts.specs.AesParameters.{mode_number};
 ghost use Rattle.x509_keys_parts.specs.AlgorithmIdentifier.{identified};
 ghost use Rattle.x509_keys_parts.specs.RsaSignatures.{rsa_with_sha};
@@ -19,18 +19,43 @@ use x509_der::ObjectIdentifier;
 use x509_der::parts::from_lawful;
 use x509_oids_algorithms as oids;
 
-/// The algorithm with NULL for its parameters.
-fn with_null<A: Allocator>(algorithm: ObjectIdentifier<A>) -> AlgorithmIdentifier<A>
-    ensures { result ≡ identified algorithm AlgorithmIdentifierParameters.Null }
+/// The algorithm with parameters, if there was memory for its identifier.
+///
+/// # Errors
+/// `AllocError` where there was none; the parameters are dropped.
+fn with_parameters<A: Allocator>(
+    algorithm: Result<ObjectIdentifier<A>, AllocError>,
+    parameters: AlgorithmIdentifierParameters<A>,
+) -> Result<AlgorithmIdentifier<A>, AllocError>
+    ensures { MatchResult algorithm (λ o. IsOkAnd result (λ v. v ≡ identified o parameters)) (λ e. result ≡ Err e) }
 {
-    new_unchecked(algorithm, AlgorithmIdentifierParameters::Null)
+    Ok(new_unchecked(algorithm?, parameters))
 }
 
-/// The algorithm without parameters.
-fn without_parameters<A: Allocator>(algorithm: ObjectIdentifier<A>) -> AlgorithmIdentifier<A>
-    ensures { result ≡ identified algorithm AlgorithmIdentifierParameters.None }
+/// The algorithm with NULL for its parameters, if there was memory for its identifier.
+///
+/// # Errors
+/// `AllocError` where there was none.
+fn with_null<A: Allocator>(
+    algorithm: Result<ObjectIdentifier<A>, AllocError>,
+) -> Result<AlgorithmIdentifier<A>, AllocError>
+    ensures { MatchResult algorithm (λ o. IsOkAnd result (λ v. v ≡ identified o AlgorithmIdentifierParameters.Null))
+        (λ e. result ≡ Err e) }
 {
-    new_unchecked(algorithm, AlgorithmIdentifierParameters::None)
+    with_parameters(algorithm, AlgorithmIdentifierParameters::Null)
+}
+
+/// The algorithm without parameters, if there was memory for its identifier.
+///
+/// # Errors
+/// `AllocError` where there was none.
+fn without_parameters<A: Allocator>(
+    algorithm: Result<ObjectIdentifier<A>, AllocError>,
+) -> Result<AlgorithmIdentifier<A>, AllocError>
+    ensures { MatchResult algorithm (λ o. IsOkAnd result (λ v. v ≡ identified o AlgorithmIdentifierParameters.None))
+        (λ e. result ≡ Err e) }
+{
+    with_parameters(algorithm, AlgorithmIdentifierParameters::None)
 }
 
 /// Where a mode stands among those of a key size, from 1.
@@ -85,7 +110,7 @@ impl<A: Allocator> AlgorithmIdentifier<A> {
         ensures { IfOk result (λ v. v ≡ identified (1 ∷ 2 ∷ 840 ∷ 113549 ∷ 1 ∷ 1 ∷ 4 ∷ [])
             AlgorithmIdentifierParameters.Null) }
     {
-        Ok(with_null(oids::md5_with_rsa_encryption(alloc)?))
+        with_null(oids::md5_with_rsa_encryption(alloc))
     }
 
     /// RSASSA-PKCS1-v1_5 with SHA-1: `1.2.840.113549.1.1.5`, with NULL.
@@ -96,7 +121,7 @@ impl<A: Allocator> AlgorithmIdentifier<A> {
         ensures { IfOk result (λ v. v ≡ identified (1 ∷ 2 ∷ 840 ∷ 113549 ∷ 1 ∷ 1 ∷ 5 ∷ [])
             AlgorithmIdentifierParameters.Null) }
     {
-        Ok(with_null(oids::sha1_with_rsa_encryption(alloc)?))
+        with_null(oids::sha1_with_rsa_encryption(alloc))
     }
 
     /// RSASSA-PKCS1-v1_5 with SHA-224: `1.2.840.113549.1.1.14`, with NULL.
@@ -107,7 +132,7 @@ impl<A: Allocator> AlgorithmIdentifier<A> {
         ensures { IfOk result (λ v. v ≡ identified (1 ∷ 2 ∷ 840 ∷ 113549 ∷ 1 ∷ 1 ∷ 14 ∷ [])
             AlgorithmIdentifierParameters.Null) }
     {
-        Ok(with_null(oids::sha224_with_rsa_encryption(alloc)?))
+        with_null(oids::sha224_with_rsa_encryption(alloc))
     }
 
     /// RSASSA-PKCS1-v1_5 with SHA-256: `1.2.840.113549.1.1.11`, with NULL.
@@ -118,7 +143,7 @@ impl<A: Allocator> AlgorithmIdentifier<A> {
         ensures { IfOk result (λ v. v ≡ identified (1 ∷ 2 ∷ 840 ∷ 113549 ∷ 1 ∷ 1 ∷ 11 ∷ [])
             AlgorithmIdentifierParameters.Null) }
     {
-        Ok(with_null(oids::sha256_with_rsa_encryption(alloc)?))
+        with_null(oids::sha256_with_rsa_encryption(alloc))
     }
 
     /// RSASSA-PKCS1-v1_5 with SHA-384: `1.2.840.113549.1.1.12`, with NULL.
@@ -129,7 +154,7 @@ impl<A: Allocator> AlgorithmIdentifier<A> {
         ensures { IfOk result (λ v. v ≡ identified (1 ∷ 2 ∷ 840 ∷ 113549 ∷ 1 ∷ 1 ∷ 12 ∷ [])
             AlgorithmIdentifierParameters.Null) }
     {
-        Ok(with_null(oids::sha384_with_rsa_encryption(alloc)?))
+        with_null(oids::sha384_with_rsa_encryption(alloc))
     }
 
     /// RSASSA-PKCS1-v1_5 with SHA-512: `1.2.840.113549.1.1.13`, with NULL.
@@ -140,7 +165,7 @@ impl<A: Allocator> AlgorithmIdentifier<A> {
         ensures { IfOk result (λ v. v ≡ identified (1 ∷ 2 ∷ 840 ∷ 113549 ∷ 1 ∷ 1 ∷ 13 ∷ [])
             AlgorithmIdentifierParameters.Null) }
     {
-        Ok(with_null(oids::sha512_with_rsa_encryption(alloc)?))
+        with_null(oids::sha512_with_rsa_encryption(alloc))
     }
 
     /// RSASSA-PKCS1-v1_5 with SHA3-224: `2.16.840.1.101.3.4.3.13`, with NULL.
@@ -151,7 +176,7 @@ impl<A: Allocator> AlgorithmIdentifier<A> {
         ensures { IfOk result (λ v. v ≡ identified (2 ∷ 16 ∷ 840 ∷ 1 ∷ 101 ∷ 3 ∷ 4 ∷ 3 ∷ 13 ∷ [])
             AlgorithmIdentifierParameters.Null) }
     {
-        Ok(with_null(oids::id_rsassa_pkcs1_v1_5_with_sha3_224(alloc)?))
+        with_null(oids::id_rsassa_pkcs1_v1_5_with_sha3_224(alloc))
     }
 
     /// RSASSA-PKCS1-v1_5 with SHA3-256: `2.16.840.1.101.3.4.3.14`, with NULL.
@@ -162,7 +187,7 @@ impl<A: Allocator> AlgorithmIdentifier<A> {
         ensures { IfOk result (λ v. v ≡ identified (2 ∷ 16 ∷ 840 ∷ 1 ∷ 101 ∷ 3 ∷ 4 ∷ 3 ∷ 14 ∷ [])
             AlgorithmIdentifierParameters.Null) }
     {
-        Ok(with_null(oids::id_rsassa_pkcs1_v1_5_with_sha3_256(alloc)?))
+        with_null(oids::id_rsassa_pkcs1_v1_5_with_sha3_256(alloc))
     }
 
     /// RSASSA-PKCS1-v1_5 with SHA3-384: `2.16.840.1.101.3.4.3.15`, with NULL.
@@ -173,7 +198,7 @@ impl<A: Allocator> AlgorithmIdentifier<A> {
         ensures { IfOk result (λ v. v ≡ identified (2 ∷ 16 ∷ 840 ∷ 1 ∷ 101 ∷ 3 ∷ 4 ∷ 3 ∷ 15 ∷ [])
             AlgorithmIdentifierParameters.Null) }
     {
-        Ok(with_null(oids::id_rsassa_pkcs1_v1_5_with_sha3_384(alloc)?))
+        with_null(oids::id_rsassa_pkcs1_v1_5_with_sha3_384(alloc))
     }
 
     /// RSASSA-PKCS1-v1_5 with SHA3-512: `2.16.840.1.101.3.4.3.16`, with NULL.
@@ -184,7 +209,7 @@ impl<A: Allocator> AlgorithmIdentifier<A> {
         ensures { IfOk result (λ v. v ≡ identified (2 ∷ 16 ∷ 840 ∷ 1 ∷ 101 ∷ 3 ∷ 4 ∷ 3 ∷ 16 ∷ [])
             AlgorithmIdentifierParameters.Null) }
     {
-        Ok(with_null(oids::id_rsassa_pkcs1_v1_5_with_sha3_512(alloc)?))
+        with_null(oids::id_rsassa_pkcs1_v1_5_with_sha3_512(alloc))
     }
 
     /// RSA keys: `1.2.840.113549.1.1.1`, with NULL.
@@ -195,7 +220,7 @@ impl<A: Allocator> AlgorithmIdentifier<A> {
         ensures { IfOk result (λ v. v ≡ identified (1 ∷ 2 ∷ 840 ∷ 113549 ∷ 1 ∷ 1 ∷ 1 ∷ [])
             AlgorithmIdentifierParameters.Null) }
     {
-        Ok(with_null(oids::rsa_encryption(alloc)?))
+        with_null(oids::rsa_encryption(alloc))
     }
 
     /// DSA with SHA-1: `1.2.840.10040.4.3`, with NULL. No reader takes it, since
@@ -207,7 +232,7 @@ impl<A: Allocator> AlgorithmIdentifier<A> {
         ensures { IfOk result (λ v. v ≡ identified (1 ∷ 2 ∷ 840 ∷ 10040 ∷ 4 ∷ 3 ∷ [])
             AlgorithmIdentifierParameters.Null) }
     {
-        Ok(with_null(oids::dsa_with_sha1(alloc)?))
+        with_null(oids::dsa_with_sha1(alloc))
     }
 
     /// SHA-1: `1.3.14.3.2.26`, with NULL.
@@ -218,7 +243,7 @@ impl<A: Allocator> AlgorithmIdentifier<A> {
         ensures { IfOk result (λ v. v ≡ identified (1 ∷ 3 ∷ 14 ∷ 3 ∷ 2 ∷ 26 ∷ [])
             AlgorithmIdentifierParameters.Null) }
     {
-        Ok(with_null(oids::sha1(alloc)?))
+        with_null(oids::sha1(alloc))
     }
 
     /// ECDSA with SHA-256: `1.2.840.10045.4.3.2`, without parameters.
@@ -229,7 +254,7 @@ impl<A: Allocator> AlgorithmIdentifier<A> {
         ensures { IfOk result (λ v. v ≡ identified (1 ∷ 2 ∷ 840 ∷ 10045 ∷ 4 ∷ 3 ∷ 2 ∷ [])
             AlgorithmIdentifierParameters.None) }
     {
-        Ok(without_parameters(oids::ecdsa_with_sha256(alloc)?))
+        without_parameters(oids::ecdsa_with_sha256(alloc))
     }
 
     /// ECDSA with SHA-384: `1.2.840.10045.4.3.3`, without parameters.
@@ -240,7 +265,7 @@ impl<A: Allocator> AlgorithmIdentifier<A> {
         ensures { IfOk result (λ v. v ≡ identified (1 ∷ 2 ∷ 840 ∷ 10045 ∷ 4 ∷ 3 ∷ 3 ∷ [])
             AlgorithmIdentifierParameters.None) }
     {
-        Ok(without_parameters(oids::ecdsa_with_sha384(alloc)?))
+        without_parameters(oids::ecdsa_with_sha384(alloc))
     }
 
     /// ECDSA with SHA-512: `1.2.840.10045.4.3.4`, without parameters.
@@ -251,7 +276,7 @@ impl<A: Allocator> AlgorithmIdentifier<A> {
         ensures { IfOk result (λ v. v ≡ identified (1 ∷ 2 ∷ 840 ∷ 10045 ∷ 4 ∷ 3 ∷ 4 ∷ [])
             AlgorithmIdentifierParameters.None) }
     {
-        Ok(without_parameters(oids::ecdsa_with_sha512(alloc)?))
+        without_parameters(oids::ecdsa_with_sha512(alloc))
     }
 
     /// ECDSA with SHA3-224: `2.16.840.1.101.3.4.3.9`, without parameters.
@@ -262,7 +287,7 @@ impl<A: Allocator> AlgorithmIdentifier<A> {
         ensures { IfOk result (λ v. v ≡ identified (2 ∷ 16 ∷ 840 ∷ 1 ∷ 101 ∷ 3 ∷ 4 ∷ 3 ∷ 9 ∷ [])
             AlgorithmIdentifierParameters.None) }
     {
-        Ok(without_parameters(oids::id_ecdsa_with_sha3_224(alloc)?))
+        without_parameters(oids::id_ecdsa_with_sha3_224(alloc))
     }
 
     /// ECDSA with SHA3-256: `2.16.840.1.101.3.4.3.10`, without parameters.
@@ -273,7 +298,7 @@ impl<A: Allocator> AlgorithmIdentifier<A> {
         ensures { IfOk result (λ v. v ≡ identified (2 ∷ 16 ∷ 840 ∷ 1 ∷ 101 ∷ 3 ∷ 4 ∷ 3 ∷ 10 ∷ [])
             AlgorithmIdentifierParameters.None) }
     {
-        Ok(without_parameters(oids::id_ecdsa_with_sha3_256(alloc)?))
+        without_parameters(oids::id_ecdsa_with_sha3_256(alloc))
     }
 
     /// ECDSA with SHA3-384: `2.16.840.1.101.3.4.3.11`, without parameters.
@@ -284,7 +309,7 @@ impl<A: Allocator> AlgorithmIdentifier<A> {
         ensures { IfOk result (λ v. v ≡ identified (2 ∷ 16 ∷ 840 ∷ 1 ∷ 101 ∷ 3 ∷ 4 ∷ 3 ∷ 11 ∷ [])
             AlgorithmIdentifierParameters.None) }
     {
-        Ok(without_parameters(oids::id_ecdsa_with_sha3_384(alloc)?))
+        without_parameters(oids::id_ecdsa_with_sha3_384(alloc))
     }
 
     /// ECDSA with SHA3-512: `2.16.840.1.101.3.4.3.12`, without parameters.
@@ -295,7 +320,7 @@ impl<A: Allocator> AlgorithmIdentifier<A> {
         ensures { IfOk result (λ v. v ≡ identified (2 ∷ 16 ∷ 840 ∷ 1 ∷ 101 ∷ 3 ∷ 4 ∷ 3 ∷ 12 ∷ [])
             AlgorithmIdentifierParameters.None) }
     {
-        Ok(without_parameters(oids::id_ecdsa_with_sha3_512(alloc)?))
+        without_parameters(oids::id_ecdsa_with_sha3_512(alloc))
     }
 
     /// Ed25519: `1.3.101.112`, without parameters.
@@ -306,7 +331,7 @@ impl<A: Allocator> AlgorithmIdentifier<A> {
         ensures { IfOk result (λ v. v ≡ identified (1 ∷ 3 ∷ 101 ∷ 112 ∷ [])
             AlgorithmIdentifierParameters.None) }
     {
-        Ok(without_parameters(oids::ed25519(alloc)?))
+        without_parameters(oids::ed25519(alloc))
     }
 
     /// X25519: `1.3.101.110`, without parameters.
@@ -317,7 +342,7 @@ impl<A: Allocator> AlgorithmIdentifier<A> {
         ensures { IfOk result (λ v. v ≡ identified (1 ∷ 3 ∷ 101 ∷ 110 ∷ [])
             AlgorithmIdentifierParameters.None) }
     {
-        Ok(without_parameters(oids::x25519(alloc)?))
+        without_parameters(oids::x25519(alloc))
     }
 
     /// Ed448: `1.3.101.113`, without parameters.
@@ -328,7 +353,7 @@ impl<A: Allocator> AlgorithmIdentifier<A> {
         ensures { IfOk result (λ v. v ≡ identified (1 ∷ 3 ∷ 101 ∷ 113 ∷ [])
             AlgorithmIdentifierParameters.None) }
     {
-        Ok(without_parameters(oids::ed448(alloc)?))
+        without_parameters(oids::ed448(alloc))
     }
 
     /// X448: `1.3.101.111`, without parameters.
@@ -339,7 +364,7 @@ impl<A: Allocator> AlgorithmIdentifier<A> {
         ensures { IfOk result (λ v. v ≡ identified (1 ∷ 3 ∷ 101 ∷ 111 ∷ [])
             AlgorithmIdentifierParameters.None) }
     {
-        Ok(without_parameters(oids::x448(alloc)?))
+        without_parameters(oids::x448(alloc))
     }
 
     /// ML-DSA-44: `2.16.840.1.101.3.4.3.17`, without parameters.
@@ -350,7 +375,7 @@ impl<A: Allocator> AlgorithmIdentifier<A> {
         ensures { IfOk result (λ v. v ≡ identified (2 ∷ 16 ∷ 840 ∷ 1 ∷ 101 ∷ 3 ∷ 4 ∷ 3 ∷ 17 ∷ [])
             AlgorithmIdentifierParameters.None) }
     {
-        Ok(without_parameters(oids::id_mldsa_44(alloc)?))
+        without_parameters(oids::id_mldsa_44(alloc))
     }
 
     /// ML-DSA-65: `2.16.840.1.101.3.4.3.18`, without parameters.
@@ -361,7 +386,7 @@ impl<A: Allocator> AlgorithmIdentifier<A> {
         ensures { IfOk result (λ v. v ≡ identified (2 ∷ 16 ∷ 840 ∷ 1 ∷ 101 ∷ 3 ∷ 4 ∷ 3 ∷ 18 ∷ [])
             AlgorithmIdentifierParameters.None) }
     {
-        Ok(without_parameters(oids::id_mldsa_65(alloc)?))
+        without_parameters(oids::id_mldsa_65(alloc))
     }
 
     /// ML-DSA-87: `2.16.840.1.101.3.4.3.19`, without parameters.
@@ -372,7 +397,7 @@ impl<A: Allocator> AlgorithmIdentifier<A> {
         ensures { IfOk result (λ v. v ≡ identified (2 ∷ 16 ∷ 840 ∷ 1 ∷ 101 ∷ 3 ∷ 4 ∷ 3 ∷ 19 ∷ [])
             AlgorithmIdentifierParameters.None) }
     {
-        Ok(without_parameters(oids::id_mldsa_87(alloc)?))
+        without_parameters(oids::id_mldsa_87(alloc))
     }
 
     /// AES with a key of 128 bits in a mode, and parameters: `2.16.840.1.101.3.4.1.1` to `.8` in the modes' order.
@@ -387,8 +412,10 @@ impl<A: Allocator> AlgorithmIdentifier<A> {
         ensures { IfOk result (λ v. v ≡ identified (2 ∷ 16 ∷ 840 ∷ 1 ∷ 101 ∷ 3 ∷ 4 ∷ 1 ∷ (0 + mode_number
             mode) ∷ []) (AlgorithmIdentifierParameters.Aes parameters)) }
     {
-        let algorithm = aes(alloc, 0, mode)?;
-        Ok(new_unchecked(algorithm, AlgorithmIdentifierParameters::Aes(parameters)))
+        with_parameters(
+            aes(alloc, 0, mode),
+            AlgorithmIdentifierParameters::Aes(parameters),
+        )
     }
 
     /// AES with a key of 192 bits in a mode, and parameters: `2.16.840.1.101.3.4.1.21` to `.28` in the modes' order.
@@ -403,8 +430,10 @@ impl<A: Allocator> AlgorithmIdentifier<A> {
         ensures { IfOk result (λ v. v ≡ identified (2 ∷ 16 ∷ 840 ∷ 1 ∷ 101 ∷ 3 ∷ 4 ∷ 1 ∷ (20 + mode_number
             mode) ∷ []) (AlgorithmIdentifierParameters.Aes parameters)) }
     {
-        let algorithm = aes(alloc, 20, mode)?;
-        Ok(new_unchecked(algorithm, AlgorithmIdentifierParameters::Aes(parameters)))
+        with_parameters(
+            aes(alloc, 20, mode),
+            AlgorithmIdentifierParameters::Aes(parameters),
+        )
     }
 
     /// AES with a key of 256 bits in a mode, and parameters: `2.16.840.1.101.3.4.1.41` to `.48` in the modes' order.
@@ -419,8 +448,10 @@ impl<A: Allocator> AlgorithmIdentifier<A> {
         ensures { IfOk result (λ v. v ≡ identified (2 ∷ 16 ∷ 840 ∷ 1 ∷ 101 ∷ 3 ∷ 4 ∷ 1 ∷ (40 + mode_number
             mode) ∷ []) (AlgorithmIdentifierParameters.Aes parameters)) }
     {
-        let algorithm = aes(alloc, 40, mode)?;
-        Ok(new_unchecked(algorithm, AlgorithmIdentifierParameters::Aes(parameters)))
+        with_parameters(
+            aes(alloc, 40, mode),
+            AlgorithmIdentifierParameters::Aes(parameters),
+        )
     }
 
     /// AES with a key of 256 bits in a mode, without parameters.
@@ -431,7 +462,7 @@ impl<A: Allocator> AlgorithmIdentifier<A> {
         ensures { IfOk result (λ v. v ≡ identified (2 ∷ 16 ∷ 840 ∷ 1 ∷ 101 ∷ 3 ∷ 4 ∷ 1 ∷ (40 + mode_number
             mode) ∷ []) AlgorithmIdentifierParameters.None) }
     {
-        Ok(without_parameters(aes(alloc, 40, mode)?))
+        without_parameters(aes(alloc, 40, mode))
     }
 
     /// Elliptic curve keys on a curve: `1.2.840.10045.2.1`, with the curve.
@@ -442,8 +473,10 @@ impl<A: Allocator> AlgorithmIdentifier<A> {
         ensures { IfOk result (λ v. v ≡ identified (1 ∷ 2 ∷ 840 ∷ 10045 ∷ 2 ∷ 1 ∷ [])
             (AlgorithmIdentifierParameters.Ec parameters)) }
     {
-        let algorithm = oids::ec_public_key(alloc)?;
-        Ok(new_unchecked(algorithm, AlgorithmIdentifierParameters::Ec(parameters)))
+        with_parameters(
+            oids::ec_public_key(alloc),
+            AlgorithmIdentifierParameters::Ec(parameters),
+        )
     }
 
     /// RSASSA-PSS with parameters: `1.2.840.113549.1.1.10`.
@@ -454,11 +487,10 @@ impl<A: Allocator> AlgorithmIdentifier<A> {
         ensures { IfOk result (λ v. v ≡ identified (1 ∷ 2 ∷ 840 ∷ 113549 ∷ 1 ∷ 1 ∷ 10 ∷ [])
             (AlgorithmIdentifierParameters.RsassaPss parameters)) }
     {
-        let algorithm = oids::rsassa_pss(alloc)?;
-        Ok(new_unchecked(
-            algorithm,
+        with_parameters(
+            oids::rsassa_pss(alloc),
             AlgorithmIdentifierParameters::RsassaPss(parameters),
-        ))
+        )
     }
 
     /// A hash function by name, with NULL. No reader takes that of MD5, since algorithms with MD5 are refused.
@@ -468,7 +500,7 @@ impl<A: Allocator> AlgorithmIdentifier<A> {
     pub fn new_sha(alloc: A, variant: ShaVariant) -> Result<Self, AllocError>
         ensures { IfOk result (λ v. v ≡ identified (sha_arcs variant) AlgorithmIdentifierParameters.Null) }
     {
-        Ok(with_null(variant.to_oid(alloc)?))
+        with_null(variant.to_oid(alloc))
     }
 
     /// RSASSA-PKCS1-v1_5 with a hash function by name, with NULL. Known are SHA2_224, SHA2_256, SHA2_384, SHA2_512,
@@ -487,12 +519,12 @@ impl<A: Allocator> AlgorithmIdentifier<A> {
         ensures unknown { IfErr result (λ e. rsa_with_sha variant ≡ None → Names e (sha_name variant)) }
     {
         let made = match variant {
-            ShaVariant::SHA2_224 => Self::new_sha224_with_rsa_encryption(alloc)?,
-            ShaVariant::SHA2_256 => Self::new_sha256_with_rsa_encryption(alloc)?,
-            ShaVariant::SHA2_384 => Self::new_sha384_with_rsa_encryption(alloc)?,
-            ShaVariant::SHA2_512 => Self::new_sha512_with_rsa_encryption(alloc)?,
-            ShaVariant::SHA3_384 => Self::new_sha3_384_with_rsa_encryption(alloc)?,
-            ShaVariant::SHA3_512 => Self::new_sha3_512_with_rsa_encryption(alloc)?,
+            ShaVariant::SHA2_224 => Self::new_sha224_with_rsa_encryption(alloc),
+            ShaVariant::SHA2_256 => Self::new_sha256_with_rsa_encryption(alloc),
+            ShaVariant::SHA2_384 => Self::new_sha384_with_rsa_encryption(alloc),
+            ShaVariant::SHA2_512 => Self::new_sha512_with_rsa_encryption(alloc),
+            ShaVariant::SHA3_384 => Self::new_sha3_384_with_rsa_encryption(alloc),
+            ShaVariant::SHA3_512 => Self::new_sha3_512_with_rsa_encryption(alloc),
             ShaVariant::MD5
             | ShaVariant::SHA1
             | ShaVariant::SHA2_512_224
@@ -502,6 +534,6 @@ impl<A: Allocator> AlgorithmIdentifier<A> {
             | ShaVariant::SHAKE128
             | ShaVariant::SHAKE256 => return Err(unsupported_hash(alloc, variant)),
         };
-        Ok(made)
+        Ok(made?)
     }
 }
