@@ -42,6 +42,7 @@ pub use Rattle.x509_names.specs.AttributeFields
 pub use Rattle.x509_names.specs.Attributes
 pub use Rattle.x509_names.specs.CommonNames
 pub use Rattle.x509_names.specs.DirectoryStrings
+pub use Rattle.x509_names.specs.DirectoryTexts
 pub use Rattle.x509_names.specs.EdiPartyNames
 pub use Rattle.x509_names.specs.GeneralNames
 pub use Rattle.x509_names.specs.NameTexts
@@ -60,6 +61,7 @@ pub use Rattle.x509_keys.specs.DigestInfos
 pub use Rattle.x509_keys.specs.EcParameters
 pub use Rattle.x509_keys.specs.EcPrivateKeys
 pub use Rattle.x509_keys.specs.HashAlgorithms
+pub use Rattle.x509_keys.specs.HashLaws
 pub use Rattle.x509_keys.specs.KeyKinds
 pub use Rattle.x509_keys.specs.KeyPlaces
 pub use Rattle.x509_keys.specs.Named
