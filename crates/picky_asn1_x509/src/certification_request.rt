@@ -14,7 +14,7 @@ use picky_asn1_x509_parts::{Attribute, Attributes};
 use std::alloc::{AllocError, Allocator, Global};
 use std::marker::Model;
 use x509_der::parts::{
-    ContentOf, Explicit0, Field, Join, Reader, SEQUENCE_TAG, Sequence, Structure, Tagged,
+    ContentOf, Explicit0, Field, Join, Reader, SEQUENCE_TAG, Sequence, Structure, Tag, Tagged,
     clone_three, read_fields, read_first_field,
 };
 use x509_der::{Asn1SequenceOf, BitStringAsn1, CloneEq, FromDer, ReadError, ToDer, TooLong};
@@ -24,8 +24,8 @@ use x509_names::Name;
 /// The attributes of a request, in a list whose order is kept. Contracts see the list.
 ///
 /// # Encoding
-/// `attributes [0] IMPLICIT SET OF Attribute` (RFC 2986, 4.1): tag A0, and the attributes one behind another. The tag is
-/// asked for, also where there are no attributes.
+/// `attributes [0] IMPLICIT SET OF Attribute` (RFC 2986, 4.1): tag A0, and the attributes one behind another. The tag
+/// is asked for, also where there are no attributes.
 #[derive(Drop)]
 #[derive_where(Debug, PartialEq, Eq)]
 pub struct OpenSslAttributes<A: Allocator = Global>(pub Attributes<A>);
@@ -109,7 +109,7 @@ impl<A: Allocator + Copy> Field<A> for OpenSslAttributes<A> {
     ghost agrees = { request_attributes_agree };
 
     fn starts(byte: u8) -> bool {
-        byte == 0xA0
+        byte == Explicit0::BYTE
     }
 
     fn known(&self) {
@@ -303,12 +303,12 @@ pub struct CertificationRequest<A: Allocator = Global> {
 
 impl<A: Allocator + Copy> CertificationRequest<A> {
     /// Reads a request from the whole of the bytes, as `from_bytes` does, and answers with it the bytes of
-    /// `certification_request_info`, which the signature covers. The deviations inside those bytes are counted apart from
-    /// the others: where there are none inside, the bytes are the DER encoding of `certification_request_info`, and else
-    /// they aren't.
+    /// `certification_request_info`, which the signature covers. The deviations inside those bytes are counted apart
+    /// from the others: where there are none inside, the bytes are the DER encoding of `certification_request_info`,
+    /// and else they aren't.
     ///
     /// # Errors
-    /// As `from_bytes`: refused exactly where the grammar relates the bytes to no request, or memory is refused.
+    /// As `from_bytes`: refused exactly where the bytes encode no request, or memory is refused.
     pub fn read_with_signed_part(alloc: A, bytes: &[u8]) -> Result<SignedRead<'_, Self>, ReadError>
         ensures ok { IfOk result (λ r. FirstPart request_parts request_info signature_fields bytes.now
             r.value r.signed.now r.inside r.outside) }

@@ -13,7 +13,8 @@ use std::alloc::{AllocError, Allocator, Global};
 use std::marker::Model;
 use std::slice;
 use x509_der::parts::{
-    Content, ContentOf, Field, OneTag, Reader, ToContent, element_len, read_element, write_element,
+    Content, ContentOf, Field, OneTag, Reader, SEQUENCE_TAG, ToContent, element_len, read_element,
+    write_element,
 };
 use x509_der::{
     Asn1SequenceOf, CloneEq, FromDer, ObjectIdentifier, ObjectIdentifierAsn1, ReadError, SameEq,
@@ -119,9 +120,6 @@ impl<A: Allocator> SameEq for ExtendedKeyUsage<A> {
 
     ghost decides = { pointwise_decides bytes_decides };
 }
-
-/// The tag of a SEQUENCE OF.
-const SEQUENCE_TAG: u8 = 0x30;
 
 /// The purposes as they stand in the SEQUENCE.
 type Purposes<A> = Asn1SequenceOf<ObjectIdentifierAsn1<A>, A>;

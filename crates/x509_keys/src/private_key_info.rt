@@ -19,7 +19,7 @@ use crate::rsa_private_key::RsaPrivateKey;
 use std::alloc::{AllocError, Allocator, Global};
 use x509_der::parts::{
     AnyDefinedBy, BIT_STRING_TAG, DefinedBy, Explicit1, Field, Found, Join, Optional, Reader,
-    Refusal, SEQUENCE_TAG, Sequence, Tagged, View, clone_three, element_len, read_viewed_or,
+    Refusal, SEQUENCE_TAG, Sequence, Tag, Tagged, View, clone_three, element_len, read_viewed_or,
     write_bytes, write_element,
 };
 use x509_der::{
@@ -32,11 +32,11 @@ use x509_keys_parts::{
     MaskGenAlgorithm, RsassaPssParams,
 };
 
-/// The version of keys that have no public key beside them, as keys of RSA and of elliptic curves mostly haven't (RFC
+/// The version of a private key that stands without its public key, as most keys of RSA and elliptic curves do (RFC
 /// 5958, 2).
 pub const PRIVATE_KEY_INFO_VERSION_1: u8 = 0;
 
-/// The version of keys that have their public key beside them (RFC 5958, 2).
+/// The version of a private key that stands together with its public key (RFC 5958, 2).
 pub const PRIVATE_KEY_INFO_VERSION_2: u8 = 1;
 
 /// A private key and its algorithm, and perhaps the public key: `OneAsymmetricKey`, which was `PrivateKeyInfo` of RFC
@@ -52,8 +52,9 @@ pub const PRIVATE_KEY_INFO_VERSION_2: u8 = 1;
 /// | elliptic curves, 1.2.840.10045.2.1 | [`PrivateKeyValue::EC`]: `ECPrivateKey` (RFC 5915, 3) |
 /// | Ed25519, X25519, Ed448, X448 | [`PrivateKeyValue::ED`]: `CurvePrivateKey`, an OCTET STRING (RFC 8410, 7) |
 ///
-/// Keys of other algorithms and of other versions are refused. Between the private key and the public key one element
-/// of any tag but A1, as attributes, is read with the deviation `SkippedKeyElement` over the whole, and isn't kept.
+/// Keys of other algorithms and of other versions are refused. Behind the private key and before the public key one
+/// element with any tag but A1, such as `attributes [0]`, is skipped: it is read with the deviation `SkippedKeyElement`
+/// over the whole, and isn't kept.
 /// Whether the version and the public key go together isn't looked at. A value of another version, or whose key isn't
 /// of its algorithm's kind, is written by its parts, and isn't read back.
 #[derive(Drop)]
@@ -303,7 +304,7 @@ impl Tags for SkippedTags {
     ghost keep = { is_skipped };
 
     fn keeps(tag: u8) -> bool {
-        tag != 0xA1
+        tag != Explicit1::BYTE
     }
 }
 
@@ -350,14 +351,14 @@ impl<'a, A: Allocator> ToDer for PublicBits<'a, A> {
 
     fn encoded_len(&self) -> Result<usize, TooLong> {
         match self.0 {
-            Some(bits) => element_len(0xA1, &Bits(bits)),
+            Some(bits) => element_len(Explicit1::BYTE, &Bits(bits)),
             None => Ok(0),
         }
     }
 
     fn write_back(&self, out: &mut [u8]) -> usize {
         match self.0 {
-            Some(bits) => write_element(0xA1, &Bits(bits), out),
+            Some(bits) => write_element(Explicit1::BYTE, &Bits(bits), out),
             None => out.len(),
         }
     }
