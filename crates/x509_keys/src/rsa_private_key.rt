@@ -42,42 +42,48 @@ pub struct RsaPrivateKey<A: Allocator = Global> {
 }
 
 impl<A: Allocator> RsaPrivateKey<A> {
-    /// The modulus. Deprecated: the field is public.
+    /// The modulus.
+    #[deprecated(note = "the field is public")]
     pub fn modulus(&self) -> &IntegerAsn1<A>
         ensures { result.now ≡ self.now.modulus }
     {
         &self.modulus
     }
 
-    /// The public exponent. Deprecated: the field is public.
+    /// The public exponent.
+    #[deprecated(note = "the field is public")]
     pub fn public_exponent(&self) -> &IntegerAsn1<A>
         ensures { result.now ≡ self.now.public_exponent }
     {
         &self.public_exponent
     }
 
-    /// The private exponent. Deprecated: the field is public.
+    /// The private exponent.
+    #[deprecated(note = "the field is public")]
     pub fn private_exponent(&self) -> &IntegerAsn1<A>
         ensures { result.now ≡ self.now.private_exponent }
     {
         &self.private_exponent
     }
 
-    /// The first prime. Deprecated: the field is public.
+    /// The first prime.
+    #[deprecated(note = "the field is public")]
     pub fn prime_1(&self) -> &IntegerAsn1<A>
         ensures { result.now ≡ self.now.prime_1 }
     {
         &self.prime_1
     }
 
-    /// The second prime. Deprecated: the field is public.
+    /// The second prime.
+    #[deprecated(note = "the field is public")]
     pub fn prime_2(&self) -> &IntegerAsn1<A>
         ensures { result.now ≡ self.now.prime_2 }
     {
         &self.prime_2
     }
 
-    /// The two primes, in their order. Deprecated: the fields are public.
+    /// The two primes, in their order.
+    #[deprecated(note = "the fields are public")]
     pub fn primes(&self) -> (&IntegerAsn1<A>, &IntegerAsn1<A>)
         ensures first { result.0.now ≡ self.now.prime_1 }
         ensures second { result.1.now ≡ self.now.prime_2 }
@@ -85,21 +91,24 @@ impl<A: Allocator> RsaPrivateKey<A> {
         (&self.prime_1, &self.prime_2)
     }
 
-    /// The exponent that belongs to the first prime. Deprecated: the field is public.
+    /// The exponent that belongs to the first prime.
+    #[deprecated(note = "the field is public")]
     pub fn exponent_1(&self) -> &IntegerAsn1<A>
         ensures { result.now ≡ self.now.exponent_1 }
     {
         &self.exponent_1
     }
 
-    /// The exponent that belongs to the second prime. Deprecated: the field is public.
+    /// The exponent that belongs to the second prime.
+    #[deprecated(note = "the field is public")]
     pub fn exponent_2(&self) -> &IntegerAsn1<A>
         ensures { result.now ≡ self.now.exponent_2 }
     {
         &self.exponent_2
     }
 
-    /// The exponents that belong to the two primes, in their order. Deprecated: the fields are public.
+    /// The exponents that belong to the two primes, in their order.
+    #[deprecated(note = "the fields are public")]
     pub fn exponents(&self) -> (&IntegerAsn1<A>, &IntegerAsn1<A>)
         ensures first { result.0.now ≡ self.now.exponent_1 }
         ensures second { result.1.now ≡ self.now.exponent_2 }
@@ -107,7 +116,8 @@ impl<A: Allocator> RsaPrivateKey<A> {
         (&self.exponent_1, &self.exponent_2)
     }
 
-    /// The coefficient. Deprecated: the field is public.
+    /// The coefficient.
+    #[deprecated(note = "the field is public")]
     pub fn coefficient(&self) -> &IntegerAsn1<A>
         ensures { result.now ≡ self.now.coefficient }
     {
