@@ -117,11 +117,11 @@ impl<A: Allocator> Certificate<A> {
 
 impl<A: Allocator + Copy> Certificate<A> {
     /// Reads a certificate from the whole of the bytes, as `from_bytes` does, and answers with it the bytes of
-    /// `tbs_certificate`, which the signature covers. The deviations inside those bytes are counted apart from the others:
-    /// where there are none inside, the bytes are the DER encoding of `tbs_certificate`, and else they aren't.
+    /// `tbs_certificate`, which the signature covers. The deviations inside those bytes are counted apart from the
+    /// others: where there are none inside, the bytes are the DER encoding of `tbs_certificate`, and else they aren't.
     ///
     /// # Errors
-    /// As `from_bytes`: refused exactly where the grammar relates the bytes to no certificate, or memory is refused.
+    /// As `from_bytes`: refused exactly where the bytes encode no certificate, or memory is refused.
     pub fn read_with_signed_part(alloc: A, bytes: &[u8]) -> Result<SignedRead<'_, Self>, ReadError>
         ensures ok { IfOk result (λ r. FirstPart certificate_parts tbs_certificate signature_fields
             bytes.now r.value r.signed.now r.inside r.outside) }

@@ -30,11 +30,11 @@ use x509_names::{Name, Validity, Version};
 /// issuerUniqueID [1] IMPLICIT BIT STRING OPTIONAL, subjectUniqueID [2] IMPLICIT BIT STRING OPTIONAL, extensions [3]
 /// EXPLICIT Extensions OPTIONAL }` (RFC 5280, 4.1).
 ///
-/// Unique identifiers need version 2 or 3 (RFC 5280, 4.1.2.8), and extensions version 3 (4.1.2.9); others are refused by
-/// `UniqueIdNeedsV2`, or else by `ExtensionsNeedV3`, where nothing else is wrong. A version 1 that is spelled is read with the deviation `VersionZeroSpelled`, an empty list of extensions with
-/// `EmptyExtensionsSpelled`, both over the whole, and neither is written. The serial number may be any number; the
-/// algorithm isn't compared with the one that the certificate names beside its signature, nor are the times with one
-/// another.
+/// Unique identifiers need version 2 or 3 (RFC 5280, 4.1.2.8), and extensions version 3 (4.1.2.9); others are refused
+/// by `UniqueIdNeedsV2`, or else by `ExtensionsNeedV3`, where nothing else is wrong. An encoded version 1 is read with
+/// the deviation `VersionZeroSpelled`, an encoded list of no extensions with `EmptyExtensionsSpelled`, both over the
+/// whole, and neither is written. The serial number may be any number; the algorithm isn't compared with the one that
+/// the certificate names beside its signature, nor are the times with one another.
 #[derive(Drop)]
 #[derive_where(Debug, PartialEq, Eq)]
 pub struct TbsCertificate<A: Allocator = Global> {

@@ -259,7 +259,7 @@ impl<A: Allocator + Copy> AnyDefinedBy<ObjectIdentifierAsn1<A>, A> for Attribute
 }
 
 /// An attribute of a request or of a signed message: its type, and its values, whose kind the type says. Parts that
-/// don't fit each other are written as they are, and aren't read back.
+/// don't fit each other are written as they are; what is written is refused, or read as another value.
 ///
 /// # Encoding
 /// `Attribute ::= SEQUENCE { type OBJECT IDENTIFIER, values SET SIZE (1..MAX) OF ANY DEFINED BY type }` (RFC 2986,

@@ -17,9 +17,9 @@ use x509_der::{CloneEq, FromDer, ReadError, SameEq, ToDer, TooLong};
 /// Contracts see the two fields. One that is absent and one that spells the default, FALSE, are two values.
 ///
 /// # Encoding
-/// `SEQUENCE { cA BOOLEAN OPTIONAL, pathLenConstraint INTEGER (0..255) OPTIONAL }` (RFC 5280, 4.2.1.9). Greater path
-/// lengths are refused. FALSE is read, and written where it is there (X.690, 11.5, would leave it out). Reading it
-/// takes no memory.
+/// `SEQUENCE { cA BOOLEAN OPTIONAL, pathLenConstraint INTEGER (0..255) OPTIONAL }`, after RFC 5280, 4.2.1.9, where `cA`
+/// is FALSE by default and the path length has no upper bound. Greater path lengths are refused. FALSE is read, and
+/// written where it is there (X.690, 11.5, would leave it out). Reading it takes no memory.
 #[derive(Drop, Debug, PartialEq, Eq)]
 pub struct BasicConstraints {
     ca: Option<bool>,

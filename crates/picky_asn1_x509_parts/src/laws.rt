@@ -36,7 +36,8 @@ pub fn basic_constraints_takes_no_memory<A: Allocator + Copy>()
     ensures { ⟦<BasicConstraints as Field<A>>⟧.shape.frugal }
 {}
 
-/// The law of fields of `BasicConstraints`.
+/// The law of fields of `BasicConstraints`: in each encoding `cA`, where it stands, is right behind the header, and
+/// behind it the path length, where there is one.
 pub fn basic_constraints_fields<A: Allocator + Copy>()
     ensures { (v : Constraints) (string : List ℕ) (y : Tally) → constraints.spelled v string y →
         ConstraintsAt v string y }

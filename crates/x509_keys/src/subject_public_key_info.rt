@@ -30,7 +30,7 @@ use x509_keys_parts::{
 ///
 /// | Algorithm | Key |
 /// |---|---|
-/// | RSA, 1.2.840.113549.1.1.1 | [`PublicKey::Rsa`]: a BIT STRING without unused bits, around an `RSAPublicKey` (RFC 3279, 2.3.1) |
+/// | RSA, 1.2.840.113549.1.1.1 | [`PublicKey::Rsa`]: an `RSAPublicKey` in whole bytes (RFC 3279, 2.3.1) |
 /// | elliptic curves, 1.2.840.10045.2.1 | [`PublicKey::Ec`]: any BIT STRING (RFC 5480, 2.2) |
 /// | Ed25519, X25519, Ed448, X448 | [`PublicKey::Ed`]: any BIT STRING (RFC 8410, 4) |
 /// | ML-DSA | [`PublicKey::Mldsa`]: any BIT STRING (RFC 9881, 4) |

@@ -28,10 +28,11 @@ use x509_der::{
 ///
 /// | Algorithm | Parameters |
 /// |---|---|
-/// | RSA keys; RSASSA-PKCS1-v1_5 with SHA-1, SHA-2 or SHA-3 | NULL |
+/// | RSA keys; RSASSA-PKCS1-v1_5 with SHA-1, SHA-224, SHA-256, SHA-384, SHA-512 or SHA-3 | NULL |
 /// | RSASSA-PSS | `RSASSA-PSS-params` (RFC 4055, 3.1) |
 /// | elliptic curve keys | `EcParameters` (RFC 5480, 2.1.1) |
-/// | ECDSA with SHA-2 or SHA-3, Ed25519, Ed448, X25519, X448, ML-DSA, DSA with SHA-1 | none |
+/// | ECDSA with SHA-256, SHA-384, SHA-512 or SHA-3; DSA with SHA-1 | none |
+/// | Ed25519, Ed448, X25519, X448, ML-DSA | none |
 /// | AES, whose identifiers stand under 2.16.840.1.101.3.4.1 | `AesParameters`, or none |
 /// | SHA-1, and hash functions under 2.16.840.1.101.3.4.2 | NULL |
 ///

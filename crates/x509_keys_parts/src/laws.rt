@@ -86,7 +86,8 @@ pub fn algorithms_fit<A: Allocator + Copy>()
     spellings_are_lawful::<AlgorithmIdentifier<A>, A>();
 }
 
-/// The law of fields of `HashAlgorithm`.
+/// The law of fields of `HashAlgorithm`: in each encoding the object identifier stands right behind the header, and
+/// behind it NULL or nothing.
 pub fn hash_fields<A: Allocator + Copy>()
     ensures { (v : HashAlgorithm) (string : List ℕ) (y : Tally) → hash_algorithm.spelled v string y →
         HashAt v string y }
@@ -94,7 +95,8 @@ pub fn hash_fields<A: Allocator + Copy>()
     fields::<HashAlgorithm, A>();
 }
 
-/// The law of fields of `MaskGenAlgorithm`.
+/// The law of fields of `MaskGenAlgorithm`: in each encoding the object identifier stands right behind the header, and
+/// behind it the hash algorithm, with the deviations that lie within its slice.
 pub fn mask_gen_fields<A: Allocator + Copy>()
     ensures { (v : MaskGenAlgorithm A) (string : List ℕ) (y : Tally) → mask_gen.spelled v string y →
         MaskGenAt v string y }
@@ -102,7 +104,9 @@ pub fn mask_gen_fields<A: Allocator + Copy>()
     fields::<MaskGenAlgorithm<A>, A>();
 }
 
-/// The law of fields of `RsassaPssParams`.
+/// The law of fields of `RsassaPssParams`: in each encoding the hash algorithm, the mask generation algorithm and the
+/// INTEGER of the salt length stand one behind another, under their tags, each with the deviations that lie within its
+/// slice.
 pub fn rsassa_pss_fields<A: Allocator + Copy>()
     ensures { (v : RsassaPssParams A) (string : List ℕ) (y : Tally) → rsassa_pss.spelled v string y →
         PssAt v string y }
@@ -110,7 +114,8 @@ pub fn rsassa_pss_fields<A: Allocator + Copy>()
     fields::<RsassaPssParams<A>, A>();
 }
 
-/// The law of fields of `DigestInfo`.
+/// The law of fields of `DigestInfo`: in each encoding the algorithm stands right behind the header, with the
+/// deviations that lie within its slice, and behind it the digest.
 pub fn digest_info_fields<A: Allocator + Copy>()
     ensures { (v : DigestInfo A) (string : List ℕ) (y : Tally) → digest_info.spelled v string y →
         DigestInfoAt v string y }

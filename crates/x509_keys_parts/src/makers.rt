@@ -101,8 +101,8 @@ fn unsupported_hash<A: Allocator>(alloc: A, variant: ShaVariant) -> AlgorithmErr
 }
 
 impl<A: Allocator> AlgorithmIdentifier<A> {
-    /// RSASSA-PKCS1-v1_5 with MD5: `1.2.840.113549.1.1.4`, with NULL. No reader takes
-    /// it, since algorithms with MD5 are refused.
+    /// RSASSA-PKCS1-v1_5 with MD5: `1.2.840.113549.1.1.4`, with NULL. It isn't read back,
+    /// since an `AlgorithmIdentifier` with MD5 is refused.
     ///
     /// # Errors
     /// `AllocError` where memory is refused.
@@ -223,8 +223,8 @@ impl<A: Allocator> AlgorithmIdentifier<A> {
         with_null(oids::rsa_encryption(alloc))
     }
 
-    /// DSA with SHA-1: `1.2.840.10040.4.3`, with NULL. No reader takes it, since
-    /// DSA with SHA-1 has no parameters (RFC 3279, 2.2.2).
+    /// DSA with SHA-1: `1.2.840.10040.4.3`, with NULL. It isn't read back, since the
+    /// `AlgorithmIdentifier` of DSA with SHA-1 has no parameters (RFC 3279, 2.2.2).
     ///
     /// # Errors
     /// `AllocError` where memory is refused.
@@ -493,7 +493,8 @@ impl<A: Allocator> AlgorithmIdentifier<A> {
         )
     }
 
-    /// A hash function by name, with NULL. No reader takes that of MD5, since algorithms with MD5 are refused.
+    /// A hash function by name, with NULL. That of MD5 isn't read back, since an `AlgorithmIdentifier` with MD5 is
+    /// refused.
     ///
     /// # Errors
     /// `AllocError` where memory is refused.

@@ -28,7 +28,7 @@ use x509_names_parts::DirectoryString;
 use x509_oids_objects as oids;
 use x509_prim::Ia5StringAsn1;
 
-/// The value of an attribute, by its type (RFC 5280, 4.1.2.4 and appendix A.1).
+/// The value of an attribute, by its type (RFC 5280, 4.1.2.4 and appendix A.1; X.520).
 #[derive(Drop)]
 #[derive_where(Debug, PartialEq, Eq)]
 pub enum AttributeTypeAndValueParameters<A: Allocator = Global> {

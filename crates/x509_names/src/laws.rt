@@ -55,7 +55,8 @@ pub fn made_attributes_read_back<A: Allocator>()
     ensures email { (i : List ℕ) → (attribute {A = A}).readable (email_attribute i) }
 {}
 
-/// The law of fields of `OtherName`.
+/// The law of fields of `OtherName`: in each encoding the object identifier stands right behind the header, and behind
+/// it the value, under the tag A0.
 pub fn other_name_fields<A: Allocator + Copy>()
     ensures { (v : OtherName A) (string : List ℕ) (y : Tally) →
         other_name.spelled v string y → OtherNameAt v string y }
@@ -63,7 +64,8 @@ pub fn other_name_fields<A: Allocator + Copy>()
     fields::<OtherName<A>, A>();
 }
 
-/// The law of fields of `EdiPartyName`.
+/// The law of fields of `EdiPartyName`: in each encoding the name of the assigner, where there is one, stands right
+/// behind the header, under the tag A0, and behind it the party's, under A1.
 pub fn edi_party_name_fields<A: Allocator + Copy>()
     ensures { (v : EdiPartyName A) (string : List ℕ) (y : Tally) →
         edi_party_name.spelled v string y → EdiPartyNameAt v string y }

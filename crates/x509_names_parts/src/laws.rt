@@ -29,7 +29,7 @@ pub fn validity_takes_no_memory<A: Allocator + Copy>()
     ensures { ⟦<Validity as Field<A>>⟧.shape.frugal }
 {}
 
-/// The law of fields of `DirectoryString`.
+/// The law of fields of `DirectoryString`: each encoding is one of the string type that was taken.
 pub fn directory_string_fields<A: Allocator + Copy>()
     ensures { (v : DirectoryString A) (string : List ℕ) (y : Tally) → directory_strings.spelled v string y →
         StringAt v string y }
@@ -37,14 +37,15 @@ pub fn directory_string_fields<A: Allocator + Copy>()
     fields::<DirectoryString<A>, A>();
 }
 
-/// The law of fields of `Time`.
+/// The law of fields of `Time`: each encoding is one of the form that was taken.
 pub fn time_fields<A: Allocator + Copy>()
     ensures { (v : Time) (string : List ℕ) (y : Tally) → times.spelled v string y → FormAt v string y }
 {
     fields::<Time, A>();
 }
 
-/// The law of fields of `Validity`.
+/// The law of fields of `Validity`: in each encoding `not_before` stands right behind the header, and behind it
+/// `not_after`, each in the form that was taken.
 pub fn validity_fields<A: Allocator + Copy>()
     ensures { (v : Validity) (string : List ℕ) (y : Tally) → validities.spelled v string y →
         TimesAt v string y }
