@@ -86,6 +86,8 @@ fn algorithms_print(rt: HostRuntime) {
     prints_as(&rt, &heap, "algorithm", nested, filled);
     let other = b"300B0609608648016503040201";
     faults_as(&rt, &heap, "algorithm", other, ToolFault::Refused);
+    faults_as(&rt, &heap, "algorithm", b"", ToolFault::Refused);
+    faults_as(&rt, &heap, "algorithm", b"3", ToolFault::Usage);
 }
 
 #[test]
@@ -158,7 +160,7 @@ fn faults_are_named(rt: HostRuntime) {
 fn other_names_are_usage(rt: HostRuntime) {
     let heap = Refusing::new(rt.alloc());
     heap.refuse_all();
-    for name in ["names", "Name", "Raw-algorithm", ""] {
+    for name in ["names", "Name", "Raw-algorithm", "nothing", ""] {
         let answer = run_text(&heap, name, b"3000");
         assert_eq!(rt; answer.err(), Some(ToolFault::Usage), "{name}");
     }
@@ -238,18 +240,30 @@ impl io::Read for Failing {
 }
 
 /// What a reader that fails in this way midway is refused with.
-fn stop_of(heap: Global, kind: ErrorKind) -> Option<Stop> {
+fn stop_of<A: Allocator>(alloc: A, kind: ErrorKind) -> Option<Stop> {
     let reader = Failing {
         is_read: false,
         kind,
     };
-    read_input(heap, reader).err()
+    read_input(alloc, reader).err()
 }
 
+/// What a run showed that should end with the reader's failure.
+fn broken_turn(stop: Option<Stop>) -> Turn {
+    match stop {
+        Some(Stop::Console) => Turn::Granted,
+        Some(Stop::Fault(ToolFault::OutOfMemory)) => Turn::Refused,
+        _ => Turn::Wrong,
+    }
+}
+
+/// The byte before the failure takes the one request. A reader that itself wants memory is tried without refusals,
+/// since its answer is the same.
 #[test]
 fn failed_reads_are_refused(rt: HostRuntime) {
-    let broken = stop_of(rt.alloc(), ErrorKind::BrokenPipe);
-    assert!(rt; matches!(broken, Some(Stop::Console)));
+    let heap = Refusing::new(rt.alloc());
+    let requests = heap.in_turn(|| broken_turn(stop_of(&heap, ErrorKind::BrokenPipe)));
+    assert!(rt; requests == Some(1));
     let refused = stop_of(rt.alloc(), ErrorKind::OutOfMemory);
     assert!(rt; matches!(refused, Some(Stop::Fault(ToolFault::OutOfMemory))));
 }

@@ -1,11 +1,13 @@
 //! Makers of algorithm identifiers, and what algorithm identifiers and their parameters answer.
 
 use super::Heap;
-use super::checks::{bytes_of, is_so, same};
+use super::checks::{bytes_of, is_so, same, same_bytes};
 use refusing::{Refusing, Turn};
 use std::alloc::{AllocError, Allocator, Global};
 use std::process::Abort;
-use x509_der::{CloneEq, ObjectIdentifier, ObjectIdentifierAsn1, ToDer, write_to_slice};
+use x509_der::{
+    CloneEq, ObjectIdentifier, ObjectIdentifierAsn1, OctetStringAsn1, ToDer, write_to_slice,
+};
 use x509_keys::{
     AesAuthEncParams, AesMode, AesParameters, AlgorithmError, AlgorithmIdentifier,
     AlgorithmIdentifierParameters, EcParameters, HashAlgorithm, RsassaPssParams, ShaVariant,
@@ -229,6 +231,27 @@ fn aes_algorithms(rt: HostRuntime) {
     aes_algorithms_over(&rt, &heap, rt.alloc());
 }
 
+/// AES-128 in electronic code book mode, with an initialization vector of twelve octets A5.
+fn initialized<A: Heap>(heap: A) -> Result<AlgorithmIdentifier<A>, AllocError> {
+    let octets = Vec::from_elem(heap, 0xA5u8, 12)?;
+    let vector = AesParameters::InitializationVector(OctetStringAsn1(octets));
+    AlgorithmIdentifier::new_aes128(heap, AesMode::Ecb, vector)
+}
+
+/// It takes memory for the vector, which the maker is given, and once for the identifier.
+fn a_vector_is_kept_over<A: Heap>(rt: &impl Abort, heap: A, alloc: Global) {
+    let text = "30190609608648016503040101040ca5a5a5a5a5a5a5a5a5a5a5a5";
+    let bytes = bytes_of(rt, alloc, text);
+    let requests = heap.in_turn(|| made_turn(initialized(heap), &bytes));
+    same(rt, &requests, &Some(2), text);
+}
+
+#[test]
+fn a_vector_is_kept(rt: HostRuntime) {
+    let heap = Refusing::new(rt.alloc());
+    a_vector_is_kept_over(&rt, &heap, rt.alloc());
+}
+
 /// Hash functions with NULL, by name.
 const HASHES: &[(ShaVariant, &str)] = &[
     (ShaVariant::MD5, "300c06082a864886f70d02050500"),
@@ -338,6 +361,26 @@ fn rsa_with_hashes_over<A: Heap>(rt: &impl Abort, heap: A, alloc: Global) {
 fn rsa_with_hashes(rt: HostRuntime) {
     let heap = Refusing::new(rt.alloc());
     rsa_with_hashes_over(&rt, &heap, rt.alloc());
+}
+
+/// The error of RSA with SHA-1, which isn't known by name.
+fn sha1_error(rt: &impl Abort, alloc: Global) -> AlgorithmError {
+    AlgorithmIdentifier::new_rsa_encryption_with_sha(alloc, ShaVariant::SHA1)
+        .err()
+        .expect(rt, "another")
+}
+
+#[test]
+fn other_hashes_are_printed(rt: HostRuntime) {
+    let alloc = rt.alloc();
+    let error = sha1_error(&rt, alloc);
+    let text = format!(in alloc; "{error}").expect(&rt, "memory");
+    same_bytes(
+        &rt,
+        text.as_bytes(),
+        b"unsupported algorithm:  SHA1",
+        "SHA-1",
+    );
 }
 
 /// RSASSA-PSS with SHA-256.

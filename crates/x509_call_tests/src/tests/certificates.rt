@@ -6,6 +6,7 @@ use picky_asn1_x509::certificate::{Certificate, TbsCertificate};
 use picky_asn1_x509::certification_request::{CertificationRequest, CertificationRequestInfo};
 use picky_asn1_x509::{Attribute, SignedRead};
 use refusing::{Refusing, Turn};
+use std::alloc::Allocator;
 use std::process::Abort;
 use x509_der::{
     BitString, Deviation, FromDer, ObjectIdentifier, ReadError, ToDer, from_bytes, to_vec,
@@ -114,6 +115,85 @@ fn signed_parts_are_sliced_over<A: Heap>(rt: &impl Abort, heap: A) {
 fn signed_parts_are_sliced(rt: HostRuntime) {
     let heap = Refusing::new(rt.alloc());
     signed_parts_are_sliced_over(&rt, &heap);
+}
+
+/// A certificate of version 2 with both unique identifiers, of which the subject's has no bits.
+const IDENTIFIED: &str =
+    "30583046a003020101020101300506032b65703000301e170d3139313031373137343132385a170d3232313031363137343132385a3000300a300506032b6570030100810200aa820100300b06092a864886f70d01010b030100";
+
+/// Certificates whose signed part has no deviations, and where it ends.
+const CLEAN: &[(&str, usize)] = &[
+    // version 2 alone
+    (
+        "3051303fa003020101020101300506032b65703000301e170d3139313031373137343132385a170d3232313031363137343132385a3000300a300506032b6570030100300b06092a864886f70d01010b030100",
+        67,
+    ),
+    (IDENTIFIED, 74),
+    // version 3 with the issuer's identifier and an extension
+    (CONSTRAINED, 86),
+];
+
+/// What a run showed that should read the certificate with its signed part.
+fn certificate_turn<A: Heap>(heap: A, input: &[u8], end: usize) -> Turn {
+    match Certificate::read_with_signed_part(heap, input) {
+        Ok(read) => {
+            let absent = read.outside.count(Deviation::RsaParametersAbsent);
+            let is_counted = read.inside.is_none() && read.outside.total() == 1 && absent == 1;
+            let is_slice = input.get(2..end) == Some(read.signed);
+            drop(read);
+            Turn::right(is_counted && is_slice)
+        }
+        Err(ReadError::OutOfMemory) => Turn::Refused,
+        Err(_other) => Turn::Wrong,
+    }
+}
+
+/// The certificate is read with its signed part, or memory is wanted.
+fn certificate_is_sliced<A: Heap>(rt: &impl Abort, heap: A, text: &str, end: usize) {
+    let input = decoded(rt, heap, text);
+    let bytes = input.as_slice();
+    let requests = heap.in_turn(|| certificate_turn(heap, bytes, end));
+    is_so(rt, requests.is_some(), text);
+}
+
+/// The test of this name, over any such allocator.
+fn signed_certificates_are_sliced_over<A: Heap>(rt: &impl Abort, heap: A) {
+    for (text, end) in CLEAN {
+        certificate_is_sliced(rt, heap, *text, *end);
+    }
+}
+
+#[test]
+fn signed_certificates_are_sliced(rt: HostRuntime) {
+    let heap = Refusing::new(rt.alloc());
+    signed_certificates_are_sliced_over(&rt, &heap);
+}
+
+/// Whether there are bits, and just these.
+fn has_bits<A: Allocator>(bits: &Option<BitString<A>>, count: u128, bytes: &[u8]) -> bool {
+    match bits {
+        Some(bits) => bits.get_num_bits() == count && bits.payload_view() == bytes,
+        None => false,
+    }
+}
+
+/// A unique identifier of no bits is one, and each stands in its own place.
+fn unique_identifiers_are_kept_over<A: Heap>(rt: &impl Abort, heap: A) {
+    let input = decoded(rt, heap, IDENTIFIED);
+    let read = from_bytes::<Certificate<A>, A>(heap, input.as_slice()).expect(rt, "a certificate");
+    let part = &read.tbs_certificate;
+    is_so(rt, part.version == Version::V2, "version 2");
+    let issuer = has_bits(&part.issuer_unique_id, 8, b"\xAA");
+    is_so(rt, issuer, "the issuer's");
+    let subject = has_bits(&part.subject_unique_id, 0, b"");
+    is_so(rt, subject, "the subject's");
+    drop(read);
+}
+
+#[test]
+fn unique_identifiers_are_kept(rt: HostRuntime) {
+    let heap = Refusing::new(rt.alloc());
+    unique_identifiers_are_kept_over(&rt, &heap);
 }
 
 /// A request without attributes.

@@ -1,8 +1,8 @@
-//! Extensions and attributes: what their makers give, also where memory is refused, whether they are critical, and what is
-//! lent of them.
+//! Extensions and attributes: what their makers give, also where memory is refused, whether they are critical, and what
+//! is lent of them.
 
 use super::Heap;
-use super::checks::{granted, is_so, is_written, made_turn, same};
+use super::checks::{clone_turn, granted, is_so, is_written, made_turn, same};
 use picky_asn1_x509::{
     Attribute, ExtendedKeyUsage, Extension, ExtensionView, Extensions, KeyUsage,
 };
@@ -14,7 +14,7 @@ use x509_der::{
     OctetStringAsn1Container, OidError, from_bytes,
 };
 use x509_names::GeneralName;
-use x509_prim::{Ia5StringAsn1, UTCTime};
+use x509_prim::{Ia5String, Ia5StringAsn1, UTCTime};
 
 /// Bits 0 and 2 of seven.
 fn key_usage<A: Allocator + Copy>(alloc: A) -> Result<Extension<A>, AllocError> {
@@ -50,6 +50,23 @@ fn authority_key<A: Allocator + Copy>(alloc: A) -> Result<Extension<A>, AllocErr
 const AUTHORITY_KEY: &[u8] =
     b"\x30\x0F\x06\x03\x55\x1D\x23\x04\x08\x30\x06\x80\x01\xAA\x82\x01\x01";
 
+/// A text of characters that an IA5String may have.
+fn ia5<A: Allocator + Copy>(alloc: A, text: &[u8]) -> Result<Ia5StringAsn1<A>, AllocError> {
+    match Ia5String::from_bytes(Vec::from_slice(alloc, text)?) {
+        Ok(text) => Ok(Ia5StringAsn1::from(text)),
+        Err(_refused) => Err(AllocError),
+    }
+}
+
+/// The DNS name `b` is the key's issuer.
+fn authority_issuer<A: Allocator + Copy>(alloc: A) -> Result<Extension<A>, AllocError> {
+    let issuer = GeneralName::DnsName(ia5(alloc, b"b")?);
+    Extension::new_authority_key_identifier(alloc, None, Some(issuer), None)
+}
+
+/// The issuer stands in its explicit tag.
+const AUTHORITY_ISSUER: &[u8] = b"\x30\x0E\x06\x03\x55\x1D\x23\x04\x07\x30\x05\xA1\x03\x82\x01\x62";
+
 /// An authority with a path length of 3: 2.5.29.19 is critical.
 const CONSTRAINTS: &[u8] =
     b"\x30\x12\x06\x03\x55\x1D\x13\x01\x01\xFF\x04\x08\x30\x06\x01\x01\xFF\x02\x01\x03";
@@ -76,12 +93,9 @@ fn purpose<A: Allocator + Copy>(alloc: A, arcs: &[u64]) -> Result<Extension<A>, 
 fn dns_names<A: Allocator + Copy>(
     alloc: A,
 ) -> Result<Asn1SequenceOf<GeneralName<A>, A>, AllocError> {
-    let bytes = Vec::from_slice(alloc, b"a")?;
-    let Ok(text) = x509_prim::Ia5String::from_bytes(bytes) else {
-        return Err(AllocError);
-    };
+    let text = ia5(alloc, b"a")?;
     let mut names = Vec::with_capacity(alloc, 1)?;
-    names.push(GeneralName::DnsName(Ia5StringAsn1::from(text)))?;
+    names.push(GeneralName::DnsName(text))?;
     Ok(Asn1SequenceOf(names))
 }
 
@@ -117,6 +131,8 @@ fn keys_are_made_over<A: Heap>(rt: &impl Abort, heap: A) {
     is_so(rt, subject.is_some(), "subject key");
     let authority = heap.in_turn(|| made_turn(authority_key(heap), AUTHORITY_KEY));
     is_so(rt, authority.is_some(), "authority key");
+    let issuer = heap.in_turn(|| made_turn(authority_issuer(heap), AUTHORITY_ISSUER));
+    is_so(rt, issuer.is_some(), "authority key by its issuer");
     let constraints = heap.in_turn(|| made_turn(
         Extension::new_basic_constraints(heap, Some(true), Some(3)),
         CONSTRAINTS,
@@ -207,6 +223,33 @@ fn attributes_are_made_over<A: Heap>(rt: &impl Abort, heap: A) {
 fn attributes_are_made(rt: HostRuntime) {
     let heap = Refusing::new(rt.alloc());
     attributes_are_made_over(&rt, &heap);
+}
+
+/// How many requests a clone of the attribute's values by themselves makes.
+fn values_requests<A: Heap>(
+    rt: &impl Abort,
+    heap: A,
+    made: Result<Attribute<A>, AllocError>,
+) -> Option<u64> {
+    let attribute = granted(rt, made);
+    let values = &attribute.value;
+    let requests = heap.in_turn(|| clone_turn(values.clone(), values));
+    drop(attribute);
+    requests
+}
+
+/// Values are cloned by one request for their set, and octets by one more.
+fn values_are_cloned_over<A: Heap>(rt: &impl Abort, heap: A) {
+    let time = values_requests(rt, heap, signing_time(heap));
+    same(rt, &time, &Some(1), "a time");
+    let digest = values_requests(rt, heap, digest(heap));
+    same(rt, &digest, &Some(2), "a digest");
+}
+
+#[test]
+fn values_are_cloned(rt: HostRuntime) {
+    let heap = Refusing::new(rt.alloc());
+    values_are_cloned_over(&rt, &heap);
 }
 
 /// Octets DE AD BE EF of 2.5.29.32, which isn't known, not critical and critical.

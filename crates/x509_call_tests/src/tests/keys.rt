@@ -10,8 +10,8 @@ use x509_der::{
     from_bytes, write_to_slice,
 };
 use x509_keys::{
-    PRIVATE_KEY_INFO_VERSION_1, PRIVATE_KEY_INFO_VERSION_2, PrivateKeyInfo, RsaPrivateKey,
-    SubjectPublicKeyInfo,
+    ECPrivateKey, PRIVATE_KEY_INFO_VERSION_1, PRIVATE_KEY_INFO_VERSION_2, PrivateKeyInfo,
+    RsaPrivateKey, SubjectPublicKeyInfo,
 };
 
 /// An RSA key of 5 and 3, with its algorithm.
@@ -252,6 +252,58 @@ fn ec_private_keys_are_made_over<A: Heap>(rt: &impl Abort, heap: A) {
 fn ec_private_keys_are_made(rt: HostRuntime) {
     let heap = Refusing::new(rt.alloc());
     ec_private_keys_are_made_over(&rt, &heap);
+}
+
+/// The secret AA on P-256, in version 2.
+const OTHER_INFO: &[u8] = &[
+    0x30, 0x22, 0x02, 0x01, 0x02, 0x30, 0x13, 0x06, 0x07, 0x2A, 0x86, 0x48, 0xCE, 0x3D, 0x02, 0x01,
+    0x06, 0x08, 0x2A, 0x86, 0x48, 0xCE, 0x3D, 0x03, 0x01, 0x07, 0x04, 0x08, 0x30, 0x06, 0x02, 0x01,
+    0x01, 0x04, 0x01, 0xAA,
+];
+
+/// The secret AA by itself, in version 0.
+const OTHER_EC_KEY: &[u8] = &[0x30, 0x06, 0x02, 0x01, 0x00, 0x04, 0x01, 0xAA];
+
+/// A key of version 2, which there isn't.
+fn other_info<A: Allocator + Copy>(alloc: A) -> Result<PrivateKeyInfo<A>, AllocError> {
+    let mut info = ec_info(alloc, true)?;
+    info.version = 2;
+    Ok(info)
+}
+
+/// An elliptic curve key of version 0, where 1 alone is one.
+fn other_ec_key<A: Allocator + Copy>(alloc: A) -> Result<ECPrivateKey<A>, AllocError> {
+    let version = IntegerAsn1::zero(alloc)?;
+    let secret = Vec::from_slice(alloc, b"\xAA")?;
+    Ok(ECPrivateKey {
+        version,
+        private_key: OctetStringAsn1(secret),
+        parameters: None,
+        public_key: None,
+    })
+}
+
+/// Whether reading is refused for the version.
+fn is_of_no_version<T: FromDer<A>, A: Heap>(heap: A, bytes: &[u8]) -> bool {
+    from_bytes::<T, A>(heap, bytes).err() == Some(ReadError::BadVersion)
+}
+
+/// Keys of versions that no reader takes are written by their parts, and aren't read back.
+fn other_versions_are_written_over<A: Heap>(rt: &impl Abort, heap: A) {
+    let requests = heap.in_turn(|| made_turn(other_info(heap), OTHER_INFO));
+    is_so(rt, requests.is_some(), "version 2");
+    let is_refused = is_of_no_version::<PrivateKeyInfo<A>, A>(heap, OTHER_INFO);
+    is_so(rt, is_refused, "version 2 is refused");
+    let requests = heap.in_turn(|| made_turn(other_ec_key(heap), OTHER_EC_KEY));
+    is_so(rt, requests.is_some(), "version 0 of a curve's key");
+    let is_refused = is_of_no_version::<ECPrivateKey<A>, A>(heap, OTHER_EC_KEY);
+    is_so(rt, is_refused, "version 0 of a curve's key is refused");
+}
+
+#[test]
+fn other_versions_are_written(rt: HostRuntime) {
+    let heap = Refusing::new(rt.alloc());
+    other_versions_are_written_over(&rt, &heap);
 }
 
 /// The secret AA of Ed25519 and this public key, made with each request for memory refused, is written as these bytes.

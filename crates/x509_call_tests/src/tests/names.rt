@@ -133,22 +133,61 @@ const WITH_EMAIL: &[u8] = &[
     0x40, 0x62,
 ];
 
-/// What `new_common_name` of `a` gives.
-fn named<A: Allocator + Copy>(alloc: A) -> Result<Name<A>, AllocError> {
-    let text = text_of(alloc, "a")?;
+/// What `new_common_name` of the text gives.
+fn named<A: Allocator + Copy>(alloc: A, text: &str) -> Result<Name<A>, AllocError> {
+    let text = text_of(alloc, text)?;
     Name::new_common_name(alloc, text)
 }
 
+/// The name whose one attribute is a common name of 18 letters.
+const CONTOSO: &[u8] = b"\x30\x1D\x31\x1B\x30\x19\x06\x03\x55\x04\x03\x0C\x12test.contoso.local";
+
 /// A name takes four requests: for the text, its type, the set and the list.
 fn names_are_made_over<A: Heap>(rt: &impl Abort, heap: A) {
-    let requests = heap.in_turn(|| made_turn(named(heap), NAMED));
-    same(rt, &requests, &Some(4), "requests");
+    let requests = heap.in_turn(|| made_turn(named(heap, "a"), NAMED));
+    same(rt, &requests, &Some(4), "one letter");
+    let requests = heap.in_turn(|| made_turn(named(heap, "test.contoso.local"), CONTOSO));
+    same(rt, &requests, &Some(4), "18 letters");
 }
 
 #[test]
 fn names_are_made(rt: HostRuntime) {
     let heap = Refusing::new(rt.alloc());
     names_are_made_over(&rt, &heap);
+}
+
+/// The name whose one attribute is the e-mail address `a@b`.
+const ADDRESSED: &[u8] =
+    b"\x30\x14\x31\x12\x30\x10\x06\x09\x2A\x86\x48\x86\xF7\x0D\x01\x09\x01\x16\x03a@b";
+
+/// What `add_email` makes of the empty name.
+fn addressed<A: Allocator + Copy>(
+    alloc: A,
+    address: Ia5StringAsn1<A>,
+) -> Result<Name<A>, AllocError> {
+    let mut name = Name::new(alloc);
+    name.add_email(address)?;
+    Ok(name)
+}
+
+/// What a run showed that should give the empty name an e-mail address.
+fn addressed_turn<A: Allocator + Copy>(alloc: A) -> Turn {
+    match address(alloc) {
+        Some(address) => made_turn(addressed(alloc, address), ADDRESSED),
+        None => Turn::Refused,
+    }
+}
+
+/// A name takes as many requests by its e-mail address.
+fn names_of_addresses_are_made_over<A: Heap>(rt: &impl Abort, heap: A) {
+    let requests = heap.in_turn(|| addressed_turn(heap));
+    same(rt, &requests, &Some(4), "requests");
+}
+
+#[test]
+fn names_of_addresses_are_made(rt: HostRuntime) {
+    let heap = Refusing::new(rt.alloc());
+    names_of_addresses_are_made_over(&rt, &heap);
 }
 
 /// What a call that should add to the name showed: the name as it was where memory was refused.
@@ -183,7 +222,7 @@ fn email_added_turn<A: Allocator + Copy>(alloc: A, name: &mut Name<A>) -> Turn {
 
 /// A telephone number is added behind what stands there, or nothing is.
 fn attributes_are_added_over<A: Heap>(rt: &impl Abort, heap: A) {
-    let mut name = named(heap).expect(rt, "memory");
+    let mut name = named(heap, "a").expect(rt, "memory");
     let requests = heap.in_turn(|| phone_turn(heap, &mut name));
     is_so(rt, requests.is_some(), "a telephone number");
 }
@@ -196,7 +235,7 @@ fn attributes_are_added(rt: HostRuntime) {
 
 /// An e-mail address is added behind what stands there, or nothing is.
 fn addresses_are_added_over<A: Heap>(rt: &impl Abort, heap: A) {
-    let mut name = named(heap).expect(rt, "memory");
+    let mut name = named(heap, "a").expect(rt, "memory");
     let requests = heap.in_turn(|| email_added_turn(heap, &mut name));
     is_so(rt, requests.is_some(), "an e-mail address");
 }

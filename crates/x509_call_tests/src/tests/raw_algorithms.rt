@@ -42,8 +42,10 @@ fn parameters_are_kept(rt: HostRuntime) {
     let bare = made_of(&rt, rt.alloc(), &[1, 2, 840, 113549, 2, 9], "0500");
     let read = value_of(&rt, rt.alloc(), WITHOUT);
     is_so(&rt, bare == read && bare.parameters().is_none(), "NULL");
-    let made = made_of(&rt, rt.alloc(), &[2, 5, 4, 3], "0c0161");
-    let read = value_of(&rt, rt.alloc(), "300806035504030c0161");
+    let text = "0c0f696e7465726d6564696174655f6361";
+    let made = made_of(&rt, rt.alloc(), &[2, 5, 4, 3], text);
+    let encoding = "301606035504030c0f696e7465726d6564696174655f6361";
+    let read = value_of(&rt, rt.alloc(), encoding);
     is_so(&rt, made == read && made.parameters().is_some(), "a text");
 }
 
