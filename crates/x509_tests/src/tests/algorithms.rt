@@ -57,12 +57,12 @@ const AUTHENTICATED: Table<'static> = Table {
         fields: &[NONCE, ICV_LEN],
     }],
     refused: &[
-        "30030401aa",
-        "3003020100",
-        "30060201000401aa",
-        "30070401aa0202007f",
-        "30080401aa0201000500",
-        "31060401aa020100",
+        "30030401aa", // a nonce alone
+        "3003020100", // a length alone
+        "30060201000401aa", // the length before the nonce
+        "30070401aa0202007f", // a length that is padded with a zero
+        "30080401aa0201000500", // NULL behind the length
+        "31060401aa020100", // another tag
     ],
 };
 
@@ -74,14 +74,25 @@ const AES: Table<'static> = Table {
         ("3011040cffffffffffffffffffffffff02010c", 3),
     ],
     rows: &[],
-    refused: &["050100", "020100", "3000", "0601", "05000500"],
+    refused: &[
+        "050100", // a content of the NULL
+        "020100", // INTEGER, which is none of the three
+        "3000", // no nonce
+        "0601", // another tag, and cut short
+        "05000500", // a second NULL
+    ],
 };
 
 /// The curve P-256, and any other identifier.
 const CURVES: Table<'static> = Table {
     strict: &[("06082a8648ce3d030107", 1), ("06012a", 1)],
     rows: &[],
-    refused: &["0500", "0600", "300306012a", "060180"],
+    refused: &[
+        "0500", // NULL in place of the identifier
+        "0600", // no content
+        "300306012a", // SEQUENCE around the identifier
+        "060180", // a padded number without its last byte
+    ],
 };
 
 /// An identifier for which no other stands, since the parameters are its own.
@@ -182,24 +193,24 @@ const ALGORITHMS: Table<'static> = Table {
     ],
     rows: ROWS,
     refused: &[
-        "300e06092a864886f70d010101050100",
-        "300d06092a864886f70d0101010400",
-        "300f06092a864886f70d01010105000500",
-        "300b0609608648016503040201",
-        "300b06072a8648ce3804030500",
-        "300d06092a864886f70d0101040500",
-        "300c06082a864886f70d02050500",
-        "300a06086086480165030401",
-        "300c060860864801650304020500",
-        "300906072a8648ce3d0201",
-        "300b06072a8648ce3d02010500",
-        "300b06092a864886f70d01010a",
-        "300d06092a864886f70d01010a0500",
-        "300d06096086480165030403110500",
-        "300e0609608648016503040129020100",
-        "3003060129",
-        "310d06092a864886f70d0101010500",
-        "3000",
+        "300e06092a864886f70d010101050100", // a content of the NULL
+        "300d06092a864886f70d0101010400", // OCTET STRING in place of the NULL
+        "300f06092a864886f70d01010105000500", // a second NULL
+        "300b0609608648016503040201", // SHA-256 without its NULL
+        "300b06072a8648ce3804030500", // NULL behind DSA with SHA-1
+        "300d06092a864886f70d0101040500", // RSA with MD5, which isn't known
+        "300c06082a864886f70d02050500", // MD5, which isn't known
+        "300a06086086480165030401", // the arcs that AES stands under, by themselves
+        "300c060860864801650304020500", // the arcs that hash functions stand under, by themselves
+        "300906072a8648ce3d0201", // an elliptic curve key without its curve
+        "300b06072a8648ce3d02010500", // NULL in place of the curve
+        "300b06092a864886f70d01010a", // RSASSA-PSS without its parameters
+        "300d06092a864886f70d01010a0500", // NULL in place of the parameters of RSASSA-PSS
+        "300d06096086480165030403110500", // NULL behind ML-DSA-44
+        "300e0609608648016503040129020100", // INTEGER in place of the parameters of AES
+        "3003060129", // the algorithm 1.1, which isn't known
+        "310d06092a864886f70d0101010500", // another tag
+        "3000", // no identifier
     ],
 };
 

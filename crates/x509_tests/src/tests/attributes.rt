@@ -85,14 +85,14 @@ const ATTRIBUTES: Table<'static> = Table {
         },
     ],
     refused: &[
-        "30080603550403160161",
-        "30080603550403140161",
-        "301006092a864886f70d0109010c03614062",
-        "300e06092a864886f70d010901160180",
-        "30050603550403",
-        "300a06035504030c01610500",
-        "310806035504030c0161",
-        "3000",
+        "30080603550403160161", // a common name that is an IA5String
+        "30080603550403140161", // a common name that is a TeletexString
+        "301006092a864886f70d0109010c03614062", // an e-mail address that is a UTF8String
+        "300e06092a864886f70d010901160180", // an e-mail address with a byte above 7F
+        "30050603550403", // no value
+        "300a06035504030c01610500", // NULL behind the value
+        "310806035504030c0161", // another tag
+        "3000", // no type
     ],
 };
 
@@ -154,17 +154,17 @@ const NAMES: Table<'static> = Table {
         fields: FIRST_SET,
     }],
     refused: &[
-        "",
-        "3100",
-        "30023000",
-        "300431023000",
-        "30023100ff",
-        "300c310a30080603550403160161",
-        "3084ffffffff",
-        "3088ffffffffffffffff",
-        "3089010000000000000000",
-        "30800000",
-        "1f8100",
+        "", // no bytes
+        "3100", // another tag
+        "30023000", // SEQUENCE in place of a SET
+        "300431023000", // an attribute without its type
+        "30023100ff", // a byte left over
+        "300c310a30080603550403160161", // a common name that is an IA5String
+        "3084ffffffff", // 2^32 - 1 bytes that aren't there
+        "3088ffffffffffffffff", // 2^64 - 1 bytes that aren't there
+        "3089010000000000000000", // a length above 64 bits
+        "30800000", // an indefinite length
+        "1f8100", // a tag of several bytes
     ],
 };
 

@@ -99,14 +99,14 @@ const EXTENSIONS: Table<'static> = Table {
         },
     ],
     refused: &[
-        "300c0603551d1301010104023000",
-        "300b0603551d13040430000500",
-        "300b0603551d13040230000500",
-        "300a0603551d0f0403040100",
-        "30070603551d133000",
-        "30050603551d13",
-        "31090603551d1304023000",
-        "3000",
+        "300c0603551d1301010104023000", // a BOOLEAN that is neither 00 nor FF
+        "300b0603551d13040430000500", // NULL behind the basic constraints, in the OCTET STRING
+        "300b0603551d13040230000500", // NULL behind the OCTET STRING
+        "300a0603551d0f0403040100", // OCTET STRING in place of the BIT STRING of a key usage
+        "30070603551d133000", // basic constraints without an OCTET STRING around them
+        "30050603551d13", // no value
+        "31090603551d1304023000", // another tag
+        "3000", // no identifier
     ],
 };
 
@@ -141,7 +141,11 @@ const LISTS: Table<'static> = Table {
         headers: 11,
         fields: &[],
     }],
-    refused: &["30020500", "300d30090603551d13040230000500", "3100"],
+    refused: &[
+        "30020500", // NULL in place of an extension
+        "300d30090603551d13040230000500", // NULL behind an extension
+        "3100", // another tag
+    ],
 };
 
 /// The test of this name, over any such allocator.
@@ -187,9 +191,13 @@ const ATTRIBUTES: Table<'static> = Table {
         ],
     }],
     refused: &[
+        // a content type without a SET around it
         "301606092a864886f70d01090306092a864886f70d010701",
+        // a signing time that is a GeneralizedTime
         "301e06092a864886f70d0109053111180f32303139313031373137343132385a",
+        // no values
         "300b06092a864886f70d010907",
+        // no type
         "3000",
     ],
 };

@@ -42,7 +42,13 @@ const USAGES: Table<'static> = Table {
         ("0303070000", 1),
     ],
     rows: &[],
-    refused: &["030201a1", "030101", "0300", "030208a0", "040201a0"],
+    refused: &[
+        "030201a1", // an unused bit that is set
+        "030101", // an unused bit of no byte
+        "0300", // no count of unused bits
+        "030208a0", // eight unused bits
+        "040201a0", // another tag
+    ],
 };
 
 /// The test of this name, over any such allocator.
@@ -83,13 +89,13 @@ const CONSTRAINTS: Table<'static> = Table {
         ],
     }],
     refused: &[
-        "30040202012c",
-        "3003020180",
-        "3003010101",
-        "30060201030101ff",
-        "30060101ff0101ff",
-        "30020500",
-        "3100",
+        "30040202012c", // a path length of 300
+        "3003020180", // a path length of -128
+        "3003010101", // a BOOLEAN that is neither 00 nor FF
+        "30060201030101ff", // the path length before the BOOLEAN
+        "30060101ff0101ff", // two BOOLEANs
+        "30020500", // NULL, which is neither field
+        "3100", // another tag
     ],
 };
 
@@ -128,7 +134,12 @@ const PURPOSES: Table<'static> = Table {
             },
         ],
     }],
-    refused: &["3100", "30020500", "3003060180", "300000"],
+    refused: &[
+        "3100", // another tag
+        "30020500", // NULL in place of a purpose
+        "3003060180", // a padded number without its last byte
+        "300000", // a byte left over
+    ],
 };
 
 /// The test of this name, over any such allocator.
@@ -184,13 +195,13 @@ const AUTHORITIES: Table<'static> = Table {
     ],
     rows: DISORDERED,
     refused: &[
-        "300ca105a203160161a103830162",
-        "30058200820101",
-        "300482020001",
-        "3002a100",
-        "3008a106820161820162",
-        "3003830161",
-        "3100",
+        "300ca105a203160161a103830162", // two issuers, the second with a tag of no form
+        "30058200820101", // two serial numbers, the first of no content
+        "300482020001", // a serial number that is padded with a zero
+        "3002a100", // no name of the issuer
+        "3008a106820161820162", // two names of the issuer
+        "3003830161", // a field with the tag 3
+        "3100", // another tag
     ],
 };
 

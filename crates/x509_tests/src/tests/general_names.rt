@@ -11,14 +11,14 @@ const VERSIONS: Table<'static> = Table {
     strict: &[("020100", 1), ("020101", 1), ("020102", 1)],
     rows: &[],
     refused: &[
-        "020103",
-        "02010f",
-        "0201ff",
-        "02020080",
-        "02020001",
-        "0200",
-        "0a0100",
-        "a003020102",
+        "020103", // version 4, the number 3
+        "02010f", // the number 15
+        "0201ff", // the number -1
+        "02020080", // the number 128
+        "02020001", // padded with a zero
+        "0200", // no content
+        "0a0100", // another tag, that of an ENUMERATED
+        "a003020102", // version 3 under the tag 0
     ],
 };
 
@@ -42,17 +42,15 @@ const TIMES: Table<'static> = Table {
     ],
     rows: &[],
     refused: &[
-        "",
-        "3084ffffffff",
-        "3088ffffffffffffffff",
-        "3089010000000000000000",
-        "30800000",
-        "1f8100",
-        // 190229000000Z
-        "170d3139303232393030303030305a",
-        // 500101000000Z and 20191017174159Z, each under the tag of the other
-        "180d3530303130313030303030305a",
-        "170f32303139313031373137343135395a",
+        "", // no bytes
+        "3084ffffffff", // another tag, and 2^32 - 1 bytes that aren't there
+        "3088ffffffffffffffff", // another tag, and 2^64 - 1 bytes that aren't there
+        "3089010000000000000000", // another tag, and a length above 64 bits
+        "30800000", // another tag, and an indefinite length
+        "1f8100", // a tag of several bytes
+        "170d3139303232393030303030305a", // 190229000000Z: no leap year
+        "180d3530303130313030303030305a", // 500101000000Z under the tag of the other form
+        "170f32303139313031373137343135395a", // 20191017174159Z under the tag of the other form
     ],
 };
 
@@ -119,13 +117,17 @@ const VALIDITIES: Table<'static> = Table {
         },
     ],
     refused: &[
+        // no time
         "3000",
+        // a time alone
         "300f170d3530303130313030303030305a",
         // a number in the place of the first time
         "3012020105170d3530303130313030303030305a",
-        // a byte left over, and another tag
+        // a byte left over
         "301e170d3530303130313030303030305a170d3439313233313233353935395a00",
+        // another tag
         "311e170d3530303130313030303030305a170d3439313233313233353935395a",
+        // a third time
         "302d170d3530303130313030303030305a170d3530303130313030303030305a170d3530303130313030303030305a",
     ],
 };
@@ -169,14 +171,14 @@ const OTHER_NAMES: Table<'static> = Table {
         fields: &[FORM, FORM_VALUE],
     }],
     refused: &[
-        "3000",
-        "300c060a2b060104018237140203",
-        "300f060a2b0601040182371402030c0161",
-        "3011060a2b060104018237140203a1030c0161",
-        "3014060a2b060104018237140203a0060c01610c0162",
-        "3016060a2b060104018237140203a0030c0161a0030c0161",
-        "3011a0030c0161060a2b060104018237140203",
-        PRINCIPAL_NAME,
+        "3000", // no identifier
+        "300c060a2b060104018237140203", // no value
+        "300f060a2b0601040182371402030c0161", // a value without its tag 0
+        "3011060a2b060104018237140203a1030c0161", // a value under the tag 1
+        "3014060a2b060104018237140203a0060c01610c0162", // two elements under the tag 0
+        "3016060a2b060104018237140203a0030c0161a0030c0161", // a second value
+        "3011a0030c0161060a2b060104018237140203", // the value before the identifier
+        PRINCIPAL_NAME, // another tag, that of a general name
     ],
 };
 
@@ -230,15 +232,15 @@ const PARTIES: Table<'static> = Table {
         },
     ],
     refused: &[
-        "3000",
-        "3005a0030c0162",
-        "300aa1030c0161a0030c0162",
-        "300aa1030c0161a1030c0162",
-        "3003810161",
-        "3006800162810161",
-        "3005a103160161",
-        "3005a1030c01ff",
-        "3007a10530030c0161",
+        "3000", // no party
+        "3005a0030c0162", // an assigner alone
+        "300aa1030c0161a0030c0162", // the party before its assigner
+        "300aa1030c0161a1030c0162", // two parties
+        "3003810161", // a party under an implicit tag
+        "3006800162810161", // both under implicit tags
+        "3005a103160161", // a party that is an IA5String
+        "3005a1030c01ff", // a byte that begins no character
+        "3007a10530030c0161", // SEQUENCE around the text of the party
     ],
 };
 
@@ -421,37 +423,34 @@ const NO_FORMS: Table<'static> = Table {
     strict: &[],
     rows: &[],
     refused: &[
-        "",
-        "3084ffffffff",
-        "3088ffffffffffffffff",
-        "3089010000000000000000",
-        "30800000",
-        "1f8100",
-        // a character above 7F
-        "810180",
-        "8503810161",
-        "8505a1030c0161",
-        "8300",
-        "a300",
-        "a505a0030c0162",
-        "a5073005a1030c0161",
-        "8000",
-        "8011060a2b060104018237140203a0030c0161",
-        // another element, none, or two under an explicit tag
-        "a203040161",
-        "a6030c0161",
-        "a7020500",
-        "a803020105",
-        "a200",
-        "a206160161160162",
-        "a103160180",
-        // the content of a name in place of the name, and the other way
-        "a40c310a300806035504030c0161",
-        "84023000",
-        "a400",
-        "8800",
-        "8900",
-        "160161",
+        "", // no bytes
+        "3084ffffffff", // another tag, and 2^32 - 1 bytes that aren't there
+        "3088ffffffffffffffff", // another tag, and 2^64 - 1 bytes that aren't there
+        "3089010000000000000000", // another tag, and a length above 64 bits
+        "30800000", // another tag, and an indefinite length
+        "1f8100", // a tag of several bytes
+        "810180", // a character above 7F
+        "8503810161", // a party under a primitive tag, and its text under an implicit one
+        "8505a1030c0161", // a party under a primitive tag
+        "8300", // the tag of an x400Address, primitive
+        "a300", // the tag of an x400Address
+        "a505a0030c0162", // a party with an assigner alone
+        "a5073005a1030c0161", // SEQUENCE around the fields of a party
+        "8000", // nothing under a primitive tag 0
+        "8011060a2b060104018237140203a0030c0161", // an otherName under a primitive tag
+        "a203040161", // OCTET STRING in place of the IA5String
+        "a6030c0161", // UTF8String in place of the IA5String
+        "a7020500", // NULL in place of the OCTET STRING
+        "a803020105", // INTEGER in place of the OBJECT IDENTIFIER
+        "a200", // nothing under an explicit tag
+        "a206160161160162", // two elements under an explicit tag
+        "a103160180", // a character above 7F under an explicit tag
+        "a40c310a300806035504030c0161", // the content of a name in place of the name
+        "84023000", // a name in place of its content
+        "a400", // nothing under the tag of a name
+        "8800", // an identifier of no content
+        "8900", // the tag 9, of no form
+        "160161", // an IA5String under its own tag
     ],
 };
 

@@ -54,16 +54,16 @@ const HASHES: Table<'static> = Table {
         },
     ],
     refused: &[
-        "300d06096086480165030402050500",
-        "300906052b0e03021a0500",
-        "300c060860864801650304020500",
-        "300e0609608648016503040201050100",
-        "300f060960864801650304020105000500",
-        "300d06096086480165030402010400",
-        "300d05000609608648016503040201",
-        "310d06096086480165030402010500",
-        "30020500",
-        "3000",
+        "300d06096086480165030402050500", // SHA-512/224, which isn't among the eight
+        "300906052b0e03021a0500", // SHA-1, which isn't among the eight
+        "300c060860864801650304020500", // the arcs that hash functions stand under, by themselves
+        "300e0609608648016503040201050100", // a content of the NULL
+        "300f060960864801650304020105000500", // a second NULL
+        "300d06096086480165030402010400", // OCTET STRING in place of the NULL
+        "300d05000609608648016503040201", // the NULL before the identifier
+        "310d06096086480165030402010500", // another tag
+        "30020500", // NULL in place of the identifier
+        "3000", // no identifier
     ],
 };
 
@@ -113,9 +113,13 @@ const MASKS: Table<'static> = Table {
         },
     ],
     refused: &[
+        // no hash function
         "300b06092a864886f70d010108",
+        // the hash function before the identifier
         "301a300d0609608648016503040201050006092a864886f70d010108",
+        // NULL behind the hash function
         "301c06092a864886f70d010108300d060960864801650304020105000500",
+        // SHA-512/224, which isn't among the eight
         "301a06092a864886f70d010108300d06096086480165030402050500",
     ],
 };
@@ -223,17 +227,25 @@ const SALTS: Table<'static> = Table {
         },
     ],
     refused: &[
-        // A negative salt, one that isn't minimal, and none at all.
+        // a salt length of -1
         "3034a00f300d06096086480165030402010500a11c301a06092a864886f70d010108300d06096086480165030402010500a2030201ff",
+        // a salt length of -2^71
         "303ca00f300d06096086480165030402010500a11c301a06092a864886f70d010108300d06096086480165030402010500a20b0209800000000000000000",
+        // a salt length that is padded with a zero
         "3035a00f300d06096086480165030402010500a11c301a06092a864886f70d010108300d06096086480165030402010500a20402020020",
+        // a salt length of no content
         "3033a00f300d06096086480165030402010500a11c301a06092a864886f70d010108300d06096086480165030402010500a2020200",
-        // A field that is missing, two that are exchanged, and the trailer field behind them.
+        // no salt length
         "302fa00f300d06096086480165030402010500a11c301a06092a864886f70d010108300d06096086480165030402010500",
+        // no hash function
         "3023a11c301a06092a864886f70d010108300d06096086480165030402010500a203020120",
+        // no mask generation function
         "3016a00f300d06096086480165030402010500a203020120",
+        // no fields
         "3000",
+        // the mask generation function before the hash function
         "3034a11c301a06092a864886f70d010108300d06096086480165030402010500a00f300d06096086480165030402010500a203020120",
+        // the trailer field behind the salt length
         "3039a00f300d06096086480165030402010500a11c301a06092a864886f70d010108300d06096086480165030402010500a203020120a303020101",
     ],
 };
@@ -289,10 +301,10 @@ const DIGESTS: Table<'static> = Table {
         },
     ],
     refused: &[
-        "3010300b06096086480165030402010401a5",
-        "30120401a5300d06096086480165030402010500",
-        "300f300d06096086480165030402010500",
-        "3014300d060960864801650304020105000401a50500",
+        "3010300b06096086480165030402010401a5", // SHA-256 without its NULL
+        "30120401a5300d06096086480165030402010500", // the digest before its algorithm
+        "300f300d06096086480165030402010500", // no digest
+        "3014300d060960864801650304020105000401a50500", // NULL behind the digest
     ],
 };
 

@@ -76,10 +76,10 @@ const RSA_PUBLIC_KEYS: Table<'static> = Table {
         ],
     }],
     refused: &[
-        "3003020105",
-        "3009020105020103020101",
-        "3106020105020103",
-        "300702010502020003",
+        "3003020105", // the modulus alone
+        "3009020105020103020101", // a third number
+        "3106020105020103", // another tag
+        "300702010502020003", // an exponent that is padded with a zero
     ],
 };
 
@@ -236,13 +236,21 @@ const SUBJECTS: Table<'static> = Table {
         },
     ],
     refused: &[
+        // an unused bit that is set
         "301a300d06092a864886f70d01010105000309013006020105020103",
+        // the algorithm 1.2.3, which isn't known
         "3009300406022a03030100",
+        // SHA-256, which has no keys
         "3012300d06096086480165030402010500030100",
+        // no RSA key in the BIT STRING
         "3012300d06092a864886f70d0101010500030100",
+        // a byte left over behind the RSA key, in the BIT STRING
         "301b300d06092a864886f70d0101010500030a00300602010502010300",
+        // OCTET STRING in place of the BIT STRING
         "300a300506032b6570040100",
+        // no key
         "3007300506032b6570",
+        // NULL behind the key
         "300c300506032b65700301000500",
     ],
 };
@@ -318,8 +326,11 @@ const RSA_PRIVATE_KEYS: Table<'static> = Table {
         ],
     }],
     refused: &[
+        // seven numbers behind the version
         "3018020100020101020101020101020101020101020101020101",
+        // nine numbers behind the version
         "301e020100020101020101020101020101020101020101020101020101020101",
+        // BIT STRING in place of the last number
         "301b020100020101020101020101020101020101020101020101030101",
     ],
 };
@@ -381,13 +392,13 @@ const EC_PRIVATE_KEYS: Table<'static> = Table {
         ],
     }],
     refused: &[
-        "30060201000401aa",
-        "30060201020401aa",
-        "3007020201010401aa",
-        "30180201010401aaa104030200bba00a06082a8648ce3d030107",
-        "30080201010401aaa000",
-        "30080201010401aaa100",
-        "30080201010401aa0500",
+        "30060201000401aa", // version 0
+        "30060201020401aa", // version 2
+        "3007020201010401aa", // version 257
+        "30180201010401aaa104030200bba00a06082a8648ce3d030107", // the public key before the curve
+        "30080201010401aaa000", // no curve under its tag
+        "30080201010401aaa100", // no public key under its tag
+        "30080201010401aa0500", // NULL behind the secret
     ],
 };
 
@@ -634,21 +645,37 @@ const INFOS: Table<'static> = Table {
         },
     ],
     refused: &[
+        // the public key under an implicit tag, behind an element that is skipped
         "3015020100300506032b657004030401aaa000810200bb",
+        // two elements behind the private key, and no public key
         "3013020100300506032b657004030401aaa000a000",
+        // NULL in place of the public key's BIT STRING
         "3013020100300506032b657004030401aaa1020500",
+        // a tag of several bytes behind the private key
         "3011020100300506032b657004030401aa1f00",
+        // no public key under its tag
         "3011020100300506032b657004030401aaa100",
+        // NULL behind the public key, under its tag
         "3017020100300506032b657004030401aaa106030200bb0500",
+        // an element behind the public key
         "3017020100300506032b657004030401aaa104030200bba000",
-        "301d020100300506032b657004030401aaa104030200bba104030200bb",
+        // the public key twice
+        "301b020100300506032b657004030401aaa104030200bba104030200bb",
+        // version 2
         "300f020102300506032b657004030401aa",
+        // version 2, with an RSA key
         "3031020102300d06092a864886f70d0101010500041d301b020100020101020101020101020101020101020101020101020101",
+        // seven numbers behind the version of the RSA key
         "302e020100300d06092a864886f70d0101010500041a3018020100020101020101020101020101020101020101020101",
+        // nine numbers behind the version of the RSA key
         "3034020100300d06092a864886f70d01010105000420301e020100020101020101020101020101020101020101020101020101020101",
+        // ML-DSA-44, whose private keys aren't read
         "3015020100300b060960864801650304031104030401aa",
+        // SHA-256, which has no keys
         "3017020100300d0609608648016503040201050004030401aa",
+        // a secret of Ed25519 without the OCTET STRING of its own
         "300d020100300506032b65700401aa",
+        // version 0 of the elliptic curve key
         "3022020100301306072a8648ce3d020106082a8648ce3d030107040830060201000401aa",
     ],
 };

@@ -32,15 +32,15 @@ const STRINGS: Table<'static> = Table {
     ],
     rows: &[],
     refused: &[
-        "13012a",
-        "0c01ff",
-        "0c03eda080",
-        "1e0161",
-        "140161",
-        "160161",
-        "1c0400000061",
-        "330161",
-        "13016100",
+        "13012a", // an asterisk
+        "0c01ff", // a byte that begins no character
+        "0c03eda080", // a surrogate, U+D800
+        "1e0161", // an odd number of bytes
+        "140161", // a TeletexString
+        "160161", // an IA5String
+        "1c0400000061", // a UniversalString
+        "330161", // the tag of a constructed string
+        "13016100", // a byte left over
     ],
 };
 

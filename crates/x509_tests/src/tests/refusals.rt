@@ -107,7 +107,7 @@ const SMALL_NUMBERS: &[Refusal<'static>] = &[
     ("020200", 1, Some(Truncated)),
     // another tag
     ("030101", 1, Some(WrongTag)),
-    // more digits of the length than are there
+    // a length that is not the shortest, and no content
     ("02820001", 1, Some(BadLength)),
     // below 0
     ("020180", 1, Some(BadNumber)),
@@ -311,9 +311,9 @@ fn texts_of_larger_sets(rt: HostRuntime) {
 
 /// No UTCTime.
 const UTC_TIMES: &[Refusal<'static>] = &[
-    // 190229000000Z
+    // 190229000000Z: no leap year
     ("170d3139303232393030303030305a", 1, Some(BadTime)),
-    // 191017174160Z
+    // 191017174160Z: second 60
     ("170d3139313031373137343136305a", 1, Some(BadTime)),
     // no text
     ("1700", 1, Some(BadTime)),
@@ -327,9 +327,9 @@ const UTC_TIMES: &[Refusal<'static>] = &[
 
 /// No GeneralizedTime.
 const GENERALIZED_TIMES: &[Refusal<'static>] = &[
-    // 19000229000000Z
+    // 19000229000000Z: no leap year
     ("180f31393030303232393030303030305a", 1, Some(BadTime)),
-    // 20191017174159.5Z
+    // 20191017174159.5Z: a fraction
     ("181132303139313031373137343135392e355a", 1, Some(BadTime)),
     // no text
     ("1800", 1, Some(BadTime)),
@@ -487,7 +487,8 @@ fn choices_and_optional_fields(rt: HostRuntime) {
     all_refused::<BasicConstraints>(&rt, alloc, CONSTRAINTS);
 }
 
-/// No identifier, or not the value that it asks for: 1.2.840.113549.1.9.1 an IA5String, 2.5.4.6 a text of several types.
+/// No identifier, or not the value that it asks for: 1.2.840.113549.1.9.1 an IA5String, 2.5.4.6 a text of several
+/// types.
 const ATTRIBUTES: &[Refusal<'static>] = &[
     // no identifier
     ("3000", 2, None),
