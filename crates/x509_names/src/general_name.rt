@@ -4,7 +4,7 @@ ghost use Rattle.std.specs.Prelude.{◌≡◌, refl, IfOk};
 ghost use Rattle.x509_names.specs.declared.general_name.GeneralName.TheVariants as form;
 ghost use Rattle.x509_names.specs.GeneralNames.{strict_name, loose_name, general_meaning};
 ghost use Rattle.x509_names.specs.GeneralNames.{general_name as general_names};
-ghost use Rattle.x509_names.specs.facts.GeneralNames.{general_seen, general_lawful, general_element};
+ghost use Rattle.x509_names.specs.facts.GeneralNames.{general_seen_at, general_lawful, general_element};
 
 use crate::edi_party_name::EdiPartyName;
 use crate::name::Name;
@@ -237,7 +237,7 @@ impl<A: Allocator + Copy> View<Fields<A>, A> for GeneralName<A> {
         }
     }
 
-    ghost is_seen = { λ f. general_seen (record {
+    ghost is_seen = { λ f. general_seen_at _ refl (record {
       other = ⟦<ContentOf<OtherName<A>> as Field<A>>⟧.lawful tt;
       names = ⟦<ContentOf<Name<A>> as Field<A>>⟧.lawful tt;
       edi = ⟦<ContentOf<EdiPartyName<A>> as Field<A>>⟧.lawful tt;
