@@ -1,6 +1,6 @@
 -- What the fields of the signed part of a certificate mean keeps the laws; both deviations may stand over one element.
 use Rattle.std.specs.Prelude.{◌&&◌}
-use Rattle.std.proofs.Common.{◌≡◌, ◌∙◌, refl, ap, subst, ℕ, ◌+◌, ◌≤◌, ◌||◌, eqb, Bool, true, false, List, [], ◌∷◌, ◌++◌, length, length-append, Option, Some, None, arith}
+use Rattle.std.proofs.Common.{◌≡◌, ◌∙◌, refl, ap, sym, subst, ℕ, ◌+◌, ◌≤◌, ◌||◌, eqb, Bool, true, false, List, [], ◌∷◌, ◌++◌, length, length-append, Option, Some, None, arith}
 use Rattle.std.proofs.lemmas.Bool.Decides.{nat_tests}
 use Rattle.x509_der.specs.Types.{Deviation}
 use Rattle.x509_der.specs.Element.{element}
@@ -182,6 +182,11 @@ tbs_seen {A} n m r l = seen_more tbs_meaning tbs_base (tagged_markable 48 tbs_in
       tagged_more 48 tbs_inner f p y a (length (version_kinds f.0)) (first_more (optional version_field) after_version r f.0 f.1 a.content a.part a.spelled (length (version_kinds f.0)) (version_spare n m f.0 a.spelled.front a.spelled.first a.spelled.fore)),
     ))
     (λ f v ks e. subst Ascending (means_tbs {A = A} f v ks e).1.1 (ascends f.0 f.1.1.1.1))
+
+-- over a shape that is this one, so that a check compares the two as such, which takes it seconds in place of half a
+-- minute
+pub tbs_seen_at : {A : Type 0} (s : Shape (TbsFields A)) → s ≡ tbs_base → Lawful version → Lawful version_field → Lawful (after_version {A = A}) → Lawful (tbs_inner {A = A}) → IsSeen (tbs_meaning {A = A}) s
+tbs_seen_at s e n m r l = subst (λ x. IsSeen tbs_meaning x) (sym e) (tbs_seen n m r l)
 
 -- what is written is the strict spelling
 pub core_agrees : {A : Type 0} (c : CoreFields A) → core.strict c ≡ core_bytes c
