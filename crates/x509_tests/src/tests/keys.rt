@@ -661,6 +661,8 @@ const INFOS: Table<'static> = Table {
         "3017020100300506032b657004030401aaa104030200bba000",
         // the public key twice
         "301b020100300506032b657004030401aaa104030200bba104030200bb",
+        // two bytes fewer than the length says, and the public key twice
+        "301d020100300506032b657004030401aaa104030200bba104030200bb",
         // version 2
         "300f020102300506032b657004030401aa",
         // version 2, with an RSA key
