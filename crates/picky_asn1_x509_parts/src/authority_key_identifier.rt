@@ -1,11 +1,11 @@
 //! Which key signed a certificate.
 
-ghost use Rattle.std.specs.Prelude.{◌≡◌, ◌<◌, Option, IfOk, IfSome, IfNone, None};
+ghost use Rattle.std.specs.Prelude.{◌≡◌, ◌<◌, Option, IfOk, IfSome, IfNone, None, refl};
 ghost use Rattle.std.specs.Option.{option_copied};
 ghost use Rattle.x509_der.specs.Items.{items};
 ghost use Rattle.x509_der.specs.Lasts.{ascends};
 ghost use Rattle.x509_der.specs.View.{if_found};
-ghost use Rattle.x509_der.specs.laws.Meaning.{sequence_seen, sequence_lawful, seen_element};
+ghost use Rattle.x509_der.specs.laws.Meaning.{seen_at, sequence_seen, sequence_lawful, seen_element};
 ghost use Rattle.picky_asn1_x509_parts.specs.KeyAuthorities.{part, number, order_kinds, authority_of, authority_base, authority_meaning, authority_key_identifier, authority_bytes, with_part};
 ghost use Rattle.picky_asn1_x509_parts.specs.facts.KeyAuthorityFacts.{parts_apart, issuer_apart, authority_is, one_kind, authority_agrees};
 
@@ -271,8 +271,8 @@ impl<A: Allocator + Copy> View<Fields<A>, A> for AuthorityKeyIdentifier<A> {
         Some((last_of_each(fields), found))
     }
 
-    ghost is_seen = { λ f. sequence_seen authority_meaning (items part) (⟦<Inner<A> as Field<A>>⟧.lawful f)
-        authority_is one_kind };
+    ghost is_seen = { λ f. seen_at authority_meaning _ authority_base refl
+        (sequence_seen authority_meaning (items part) (⟦<Inner<A> as Field<A>>⟧.lawful f) authority_is one_kind) };
 }
 
 impl<A: Allocator + Copy> Field<A> for AuthorityKeyIdentifier<A> {

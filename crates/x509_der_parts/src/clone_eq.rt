@@ -5,7 +5,7 @@ ghost use Rattle.std.specs.Prelude.{◌≡◌, IfOk};
 use std::alloc::{AllocError, Allocator};
 
 /// A value that can be cloned, where the clone equals it.
-pub trait CloneEq: Drop {
+pub trait CloneEq {
     /// A value equal to this one.
     ///
     /// # Errors
@@ -34,7 +34,10 @@ impl<T: CloneEq> CloneEq for Option<T> {
 ///
 /// # Errors
 /// `AllocError` where memory is refused.
-pub fn clone_both<S: CloneEq, T: CloneEq>(first: &S, second: &T) -> Result<(S, T), AllocError>
+pub fn clone_both<S: CloneEq + Drop, T: CloneEq>(
+    first: &S,
+    second: &T,
+) -> Result<(S, T), AllocError>
     ensures { IfOk result (λ copies. copies ≡ (first.now, second.now)) }
 {
     let first = first.clone_eq()?;
@@ -46,7 +49,7 @@ pub fn clone_both<S: CloneEq, T: CloneEq>(first: &S, second: &T) -> Result<(S, T
 ///
 /// # Errors
 /// `AllocError` where memory is refused.
-pub fn clone_three<S: CloneEq, T: CloneEq, U: CloneEq>(
+pub fn clone_three<S: CloneEq + Drop, T: CloneEq + Drop, U: CloneEq>(
     first: &S,
     second: &T,
     third: &U,
@@ -63,7 +66,10 @@ pub fn clone_three<S: CloneEq, T: CloneEq, U: CloneEq>(
 ///
 /// # Errors
 /// `AllocError` where memory is refused.
-pub fn clone_items<T: CloneEq, A: Allocator>(alloc: A, items: &[T]) -> Result<Vec<T, A>, AllocError>
+pub fn clone_items<T: CloneEq + Drop, A: Allocator>(
+    alloc: A,
+    items: &[T],
+) -> Result<Vec<T, A>, AllocError>
     ensures { IfOk result (λ copies. copies.items ≡ items.now) }
 {
     let mut copies = Vec::with_capacity(alloc, items.len())?;

@@ -60,7 +60,7 @@ impl<A: Allocator + Copy, T: Content<A>> Field<A> for ContentOf<T> {
 }
 
 /// A type under an implicit tag is read alone too.
-impl<A: Allocator + Copy, N: Tag, T: Content<A>> FromDer<A> for Tagged<N, ContentOf<T>> {
+impl<A: Allocator + Copy, N: Tag, T: Content<A> + Drop> FromDer<A> for Tagged<N, ContentOf<T>> {
     ghost always = { T.content_always };
 
     ghost whole = { tt };

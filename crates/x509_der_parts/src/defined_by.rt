@@ -41,7 +41,7 @@ impl<K: ToDer, V: ToDer> ToDer for DefinedBy<K, V> {
     }
 }
 
-impl<A: Allocator + Copy, K: Field<A>, V: AnyDefinedBy<K, A>> Field<A> for DefinedBy<K, V> {
+impl<A: Allocator + Copy, K: Field<A> + Drop, V: AnyDefinedBy<K, A>> Field<A> for DefinedBy<K, V> {
     ghost shape = { defined_by (λ c. c.0) (λ c. c.1) K.shape V.shapes V.starts V.avoids };
 
     ghost fits = { K.fits × KeyApart K.shape V.starts };

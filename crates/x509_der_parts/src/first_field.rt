@@ -34,7 +34,7 @@ pub struct FirstField<'a, T> {
 ///
 /// # Errors
 /// As the fields.
-fn read_both<F: Field<A>, G: Field<A>, A: Allocator + Copy>(
+fn read_both<F: Field<A> + Drop, G: Field<A>, A: Allocator + Copy>(
     alloc: A,
     reader: &mut Reader<'_, A>,
 ) -> Result<(Join<F, G>, usize, Deviations), ReadError>
@@ -61,8 +61,8 @@ fn read_both<F: Field<A>, G: Field<A>, A: Allocator + Copy>(
 pub fn read_first_field<
     'a,
     T: Structure<Tagged<Sequence, Join<F, G>>>,
-    F: Field<A>,
-    G: Field<A>,
+    F: Field<A> + Drop,
+    G: Field<A> + Drop,
     A: Allocator + Copy,
 >(alloc: A, bytes: &'a [u8]) -> Result<FirstField<'a, T>, ReadError>
     requires first { F.fits }

@@ -1,7 +1,7 @@
 //! Elliptic curve private keys.
 
 ghost use Rattle.std.specs.Prelude.{◌≡◌, IfOk, refl};
-ghost use Rattle.x509_der.specs.laws.Meaning.{sequence_seen, sequence_lawful, seen_element};
+ghost use Rattle.x509_der.specs.laws.Meaning.{seen_at, sequence_seen, sequence_lawful, seen_element};
 ghost use Rattle.x509_keys.specs.EcPrivateKeys.{ec_key_parts, ec_key_inner, ec_key_base, is_one, ec_key_meaning, ec_private_key};
 ghost use Rattle.x509_keys.specs.facts.EcPrivateKeys.{ec_key_is, ec_key_one, point_apart};
 
@@ -143,8 +143,8 @@ impl<A: Allocator + Copy> View<Fields<A>, A> for ECPrivateKey<A> {
         }
     }
 
-    ghost is_seen = { λ f. sequence_seen ec_key_meaning ec_key_inner (⟦<Inner<A> as Field<A>>⟧.lawful f)
-        ec_key_is ec_key_one };
+    ghost is_seen = { λ f. seen_at ec_key_meaning _ ec_key_base refl
+        (sequence_seen ec_key_meaning ec_key_inner (⟦<Inner<A> as Field<A>>⟧.lawful f) ec_key_is ec_key_one) };
 }
 
 impl<A: Allocator + Copy> Refusal<Fields<A>> for ECPrivateKey<A> {

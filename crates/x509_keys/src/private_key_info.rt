@@ -5,7 +5,7 @@ ghost use Rattle.x509_der.specs.BitString.{bit_content};
 ghost use Rattle.x509_der.specs.Element.{element};
 ghost use Rattle.x509_der.specs.Optional.{optional};
 ghost use Rattle.x509_der.specs.View.{if_found};
-ghost use Rattle.x509_der.specs.laws.Meaning.{sequence_seen, sequence_lawful, seen_element};
+ghost use Rattle.x509_der.specs.laws.Meaning.{seen_at, sequence_seen, sequence_lawful, seen_element};
 ghost use Rattle.x509_keys.specs.PrivateKeyInfos.{is_version, is_skipped, skipped_kinds, info_public_key, info_inner, info_base, info_meaning, private_key_info, info_bytes, curve_unless, version_with, rsa_info, ec_info, ed_info};
 ghost use Rattle.x509_keys.specs.EcPrivateKeys.{ec_key_with};
 ghost use Rattle.x509_keys.specs.KeyKinds.{rsa_encryption};
@@ -450,8 +450,8 @@ impl<A: Allocator + Copy> View<Fields<A>, A> for PrivateKeyInfo<A> {
         is_version(version).then_some((info, found))
     }
 
-    ghost is_seen = { λ f. sequence_seen info_meaning info_inner (⟦<Inner<A> as Field<A>>⟧.lawful f) info_is
-        info_one };
+    ghost is_seen = { λ f. seen_at info_meaning _ info_base refl
+        (sequence_seen info_meaning info_inner (⟦<Inner<A> as Field<A>>⟧.lawful f) info_is info_one) };
 }
 
 impl<A: Allocator + Copy> Refusal<Fields<A>> for PrivateKeyInfo<A> {

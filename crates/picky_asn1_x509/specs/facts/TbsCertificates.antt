@@ -183,10 +183,6 @@ tbs_seen {A} n m r l = seen_more tbs_meaning tbs_base (tagged_markable 48 tbs_in
     ))
     (λ f v ks e. subst Ascending (means_tbs {A = A} f v ks e).1.1 (ascends f.0 f.1.1.1.1))
 
--- over a shape that is this one, so that a check compares the two as such, and not inside of IsSeen
-pub tbs_seen_at : {A : Type 0} (s : Shape (TbsFields A)) → s ≡ tbs_base → Lawful version → Lawful version_field → Lawful (after_version {A = A}) → Lawful (tbs_inner {A = A}) → IsSeen (tbs_meaning {A = A}) s
-tbs_seen_at s e n m r l = subst (λ x. IsSeen tbs_meaning x) (sym e) (tbs_seen n m r l)
-
 -- what is written is the strict spelling
 pub core_agrees : {A : Type 0} (c : CoreFields A) → core.strict c ≡ core_bytes c
 core_agrees c =

@@ -33,7 +33,11 @@ fn contained_values_are_as_stated(rt: HostRuntime) {
 }
 
 /// What a run showed that should read this value under an implicit tag.
-fn content_turn<A: Heap, T: Content<A> + PartialEq>(heap: A, bytes: &[u8], stated: &T) -> Turn {
+fn content_turn<A: Heap, T: Content<A> + PartialEq + Drop>(
+    heap: A,
+    bytes: &[u8],
+    stated: &T,
+) -> Turn {
     match from_bytes::<Tagged<Explicit0, ContentOf<T>>, A>(heap, bytes) {
         Ok(element) => {
             let ContentOf(value) = element.into_inner();

@@ -1,5 +1,5 @@
 -- What the forms of a general name mean keeps the laws.
-use Rattle.std.proofs.Common.{ℕ, ◌≡◌, refl, ap, sym, ◌∙◌, subst, lit<, ◌≤◌, List, [], ◌∷◌, length, Some, arith}
+use Rattle.std.proofs.Common.{ℕ, ◌≡◌, refl, ap, sym, ◌∙◌, lit<, ◌≤◌, List, [], ◌∷◌, length, Some, arith}
 use Rattle.x509_der.specs.Types.{Choice, Deviation}
 use Rattle.x509_der.specs.Types.choice.{First, Second}
 use Rattle.x509_der.specs.Types.deviation
@@ -137,11 +137,6 @@ general_alternatives l = either_of (strict_alternatives l) (loose_alternatives l
 
 pub general_seen : {A : Type 0} → ContentsLawful A → IsSeen (general_meaning {A = A}) general_base
 general_seen l = seen_one general_meaning general_base (general_alternatives l).markable general_is general_one
-
--- over a shape that is this one: a check that compares the two shapes as such takes seconds, and one that compares them
--- inside of IsSeen, where the fields' own shape is asked for, a minute
-pub general_seen_at : {A : Type 0} (s : Shape (Choice (Strict A) (Loose A))) → s ≡ general_base → ContentsLawful A → IsSeen (general_meaning {A = A}) s
-general_seen_at s e l = subst (λ x. IsSeen general_meaning x) (sym e) (general_seen l)
 
 pub general_lawful : {A : Type 0} → ContentsLawful A → Lawful (general_name {A = A})
 general_lawful l = seen_lawful general_meaning general_base (general_alternatives l).lawful (general_seen l)

@@ -21,7 +21,7 @@ use x509_prim::{
 };
 
 /// A type that is cloned by a call of its own.
-pub trait OwnClone: CloneEq {
+pub trait OwnClone: CloneEq + Drop {
     /// What that call answers. A value that is copied is its own clone.
     fn own_clone(&self) -> Result<Self, AllocError>;
 }
@@ -194,25 +194,25 @@ impl OwnClone for GeneralizedTimeAsn1 {
     }
 }
 
-impl<T: CloneEq, A: Allocator + Copy> OwnClone for Asn1SequenceOf<T, A> {
+impl<T: CloneEq + Drop, A: Allocator + Copy> OwnClone for Asn1SequenceOf<T, A> {
     fn own_clone(&self) -> Result<Self, AllocError> {
         self.clone()
     }
 }
 
-impl<T: CloneEq, A: Allocator + Copy> OwnClone for Asn1SetOf<T, A> {
+impl<T: CloneEq + Drop, A: Allocator + Copy> OwnClone for Asn1SetOf<T, A> {
     fn own_clone(&self) -> Result<Self, AllocError> {
         self.clone()
     }
 }
 
-impl<T: CloneEq> OwnClone for OctetStringAsn1Container<T> {
+impl<T: CloneEq + Drop> OwnClone for OctetStringAsn1Container<T> {
     fn own_clone(&self) -> Result<Self, AllocError> {
         self.clone()
     }
 }
 
-impl<T: CloneEq> OwnClone for BitStringAsn1Container<T> {
+impl<T: CloneEq + Drop> OwnClone for BitStringAsn1Container<T> {
     fn own_clone(&self) -> Result<Self, AllocError> {
         self.clone()
     }

@@ -363,7 +363,7 @@ fn fills<T: ToDer>(rt: &impl Abort, value: &T, strict: &[u8], room: &mut [u8]) {
 }
 
 /// What a run showed that should clone the one value, where the other is as it was before.
-pub(super) fn copy_turn<T: CloneEq + PartialEq>(
+pub(super) fn copy_turn<T: CloneEq + PartialEq + Drop>(
     answer: Result<T, AllocError>,
     value: &T,
     before: &T,
@@ -376,7 +376,7 @@ pub(super) fn copy_turn<T: CloneEq + PartialEq>(
 
 /// How many requests a clone of a value makes where it is equal, and want of memory where one is refused. The other
 /// value is as the first was before.
-fn copies_in_turn<'v, A: Heap, T: CloneEq + PartialEq>(
+fn copies_in_turn<'v, A: Heap, T: CloneEq + PartialEq + Drop>(
     heap: A,
     value: &'v T,
     before: &'v T,
