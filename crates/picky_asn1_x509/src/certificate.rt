@@ -15,8 +15,8 @@ pub use crate::tbs_certificate::TbsCertificate;
 use picky_asn1_x509_parts::{AuthorityKeyIdentifier, BasicConstraints, Extension, ExtensionView};
 use std::alloc::{AllocError, Allocator, Global};
 use x509_der::parts::{
-    Field, Join, Reader, SEQUENCE_TAG, Sequence, Structure, Tagged, clone_three, read_fields,
-    read_first_field,
+    Field, Join, Reader, SEQUENCE_TAG, Sequence, Structure, Tagged, clone_three, read_first_field,
+    read_sequence,
 };
 use x509_der::{BitStringAsn1, CloneEq, FromDer, ReadError, ToDer, TooLong};
 use x509_keys::AlgorithmIdentifier;
@@ -168,8 +168,11 @@ pub type Signature<A> = Join<AlgorithmIdentifier<A>, BitStringAsn1<A>>;
 /// The fields as they stand in the SEQUENCE, owned or borrowed.
 type Nest<T, S, V> = Tagged<Sequence, Join<T, Join<S, V>>>;
 
-/// The fields, owned.
+/// The SEQUENCE, owned.
 type Fields<A> = Nest<TbsCertificate<A>, AlgorithmIdentifier<A>, BitStringAsn1<A>>;
+
+/// The fields, owned.
+type Inner<A> = Join<TbsCertificate<A>, Signature<A>>;
 
 impl<A: Allocator> ToDer for Certificate<A> {
     ghost strict = { certificate_bytes };
@@ -185,11 +188,11 @@ impl<A: Allocator> ToDer for Certificate<A> {
     }
 }
 
-impl<A: Allocator> Structure<Fields<A>> for Certificate<A> {
+impl<A: Allocator> Structure<Inner<A>> for Certificate<A> {
     ghost fields = { certificate_parts };
 
-    fn from_fields(parts: Fields<A>) -> Self {
-        let Join(tbs_certificate, Join(signature_algorithm, signature_value)) = parts.into_inner();
+    fn from_fields(parts: Inner<A>) -> Self {
+        let Join(tbs_certificate, Join(signature_algorithm, signature_value)) = parts;
         Certificate {
             tbs_certificate,
             signature_algorithm,
@@ -222,7 +225,7 @@ impl<A: Allocator + Copy> Field<A> for Certificate<A> {
     }
 
     fn read(alloc: A, reader: &mut Reader<'_, A>) -> Result<Self, ReadError> {
-        read_fields::<Self, Fields<A>, A>(alloc, reader)
+        read_sequence::<Self, Inner<A>, A>(alloc, reader)
     }
 }
 

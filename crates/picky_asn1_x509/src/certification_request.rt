@@ -15,7 +15,7 @@ use std::alloc::{AllocError, Allocator, Global};
 use std::marker::Model;
 use x509_der::parts::{
     ContentOf, Explicit0, Field, Join, Reader, SEQUENCE_TAG, Sequence, Structure, Tag, Tagged,
-    clone_three, read_fields, read_first_field,
+    clone_three, read_first_field, read_sequence,
 };
 use x509_der::{Asn1SequenceOf, BitStringAsn1, CloneEq, FromDer, ReadError, ToDer, TooLong};
 use x509_keys::{AlgorithmIdentifier, SubjectPublicKeyInfo};
@@ -218,8 +218,11 @@ impl<A: Allocator + Copy> CloneEq for CertificationRequestInfo<A> {
 /// The fields as they stand in the SEQUENCE, owned or borrowed.
 type InfoNest<V, S, K, L> = Tagged<Sequence, Join<V, Join<S, Join<K, L>>>>;
 
-/// The fields, owned.
+/// The SEQUENCE, owned.
 type InfoFields<A> = InfoNest<u8, Name<A>, SubjectPublicKeyInfo<A>, OpenSslAttributes<A>>;
+
+/// The fields, owned.
+type InfoInner<A> = Join<u8, Join<Name<A>, Join<SubjectPublicKeyInfo<A>, OpenSslAttributes<A>>>>;
 
 impl<A: Allocator> ToDer for CertificationRequestInfo<A> {
     ghost strict = { info_bytes };
@@ -235,12 +238,11 @@ impl<A: Allocator> ToDer for CertificationRequestInfo<A> {
     }
 }
 
-impl<A: Allocator> Structure<InfoFields<A>> for CertificationRequestInfo<A> {
+impl<A: Allocator> Structure<InfoInner<A>> for CertificationRequestInfo<A> {
     ghost fields = { info_parts };
 
-    fn from_fields(parts: InfoFields<A>) -> Self {
-        let Join(version, Join(subject, Join(subject_public_key_info, attributes))) =
-            parts.into_inner();
+    fn from_fields(parts: InfoInner<A>) -> Self {
+        let Join(version, Join(subject, Join(subject_public_key_info, attributes))) = parts;
         CertificationRequestInfo {
             version,
             subject,
@@ -275,7 +277,7 @@ impl<A: Allocator + Copy> Field<A> for CertificationRequestInfo<A> {
     }
 
     fn read(alloc: A, reader: &mut Reader<'_, A>) -> Result<Self, ReadError> {
-        read_fields::<Self, InfoFields<A>, A>(alloc, reader)
+        read_sequence::<Self, InfoInner<A>, A>(alloc, reader)
     }
 }
 
@@ -355,6 +357,9 @@ impl<A: Allocator + Copy> CloneEq for CertificationRequest<A> {
 type RequestNest<I, S, V> = Tagged<Sequence, Join<I, Join<S, V>>>;
 
 /// The fields, owned.
+type RequestInner<A> = Join<CertificationRequestInfo<A>, Signature<A>>;
+
+/// The SEQUENCE, owned.
 type RequestFields<A> = RequestNest<
     CertificationRequestInfo<A>,
     AlgorithmIdentifier<A>,
@@ -375,12 +380,11 @@ impl<A: Allocator> ToDer for CertificationRequest<A> {
     }
 }
 
-impl<A: Allocator> Structure<RequestFields<A>> for CertificationRequest<A> {
+impl<A: Allocator> Structure<RequestInner<A>> for CertificationRequest<A> {
     ghost fields = { request_parts };
 
-    fn from_fields(parts: RequestFields<A>) -> Self {
-        let Join(certification_request_info, Join(signature_algorithm, signature)) =
-            parts.into_inner();
+    fn from_fields(parts: RequestInner<A>) -> Self {
+        let Join(certification_request_info, Join(signature_algorithm, signature)) = parts;
         CertificationRequest {
             certification_request_info,
             signature_algorithm,
@@ -413,7 +417,7 @@ impl<A: Allocator + Copy> Field<A> for CertificationRequest<A> {
     }
 
     fn read(alloc: A, reader: &mut Reader<'_, A>) -> Result<Self, ReadError> {
-        read_fields::<Self, RequestFields<A>, A>(alloc, reader)
+        read_sequence::<Self, RequestInner<A>, A>(alloc, reader)
     }
 }
 

@@ -4,9 +4,9 @@ ghost use Rattle.std.specs.Prelude.{◌≡◌, ◌∷◌, refl, IfOk};
 ghost use Rattle.x509_der.specs.Element.{element};
 ghost use Rattle.x509_der.specs.Optional.{optional, optional_strict};
 ghost use Rattle.x509_der.specs.View.{if_found};
-ghost use Rattle.x509_der.specs.laws.Meaning.{seen_at, seen_lawful, seen_element};
+ghost use Rattle.x509_der.specs.laws.Meaning.{seen_lawful, seen_element};
 ghost use Rattle.picky_asn1_x509.specs.TbsCertificates.{version_field, issuer_id_field, subject_id_field, extensions_field, tbs_base, version_in, written_version, version_kinds, list_in, written_list, list_kinds, is_absent, is_nil, ids_fit, extensions_fit, is_fitting, tbs_with, tbs_meaning, tbs_refusal, tbs_certificate, core, core_of, core_bytes, id_bytes, list_bytes, tbs_bytes};
-ghost use Rattle.picky_asn1_x509.specs.facts.TbsCertificates.{version_apart, issuer_id_apart, subject_id_apart, tbs_is, tbs_seen, core_agrees, tbs_agrees};
+ghost use Rattle.picky_asn1_x509.specs.facts.TbsCertificates.{version_apart, issuer_id_apart, subject_id_apart, tbs_is, tbs_keeps, core_agrees, tbs_agrees};
 
 use picky_asn1_x509_parts::Extensions;
 use std::alloc::{AllocError, Allocator, Global};
@@ -482,8 +482,34 @@ fn allocator_of<A: Allocator + Copy>(core: &Core<A>) -> A {
     *core.0.1.1.0.0.0.allocator()
 }
 
-impl<A: Allocator + Copy> View<Fields<A>, A> for TbsCertificate<A> {
+impl<A: Allocator + Copy> View<Fields<A>> for TbsCertificate<A> {
+    ghost base = { tbs_base };
+
     ghost view = { tbs_meaning };
+
+    ghost keeps = { tbs_keeps (⟦<Version as Field<A>>⟧.lawful tt) (⟦<Tagged<Explicit0, Version> as Field<A>>⟧.lawful tt)
+        (⟦<AfterVersion<A> as Field<A>>⟧.lawful (
+          tt,
+          (
+            (tt, tt),
+            ((tt, tt), (tt, tt), subject_id_apart),
+            issuer_id_apart,
+          ),
+          λ c h. refl,
+        ))
+        (⟦<Inner<A> as Field<A>>⟧.lawful (
+          (tt, tt),
+          (
+            tt,
+            (
+              (tt, tt),
+              ((tt, tt), (tt, tt), subject_id_apart),
+              issuer_id_apart,
+            ),
+            λ c h. refl,
+          ),
+          version_apart,
+        )) };
 
     fn meaning(parts: Fields<A>) -> Option<(Self, Found)> {
         let Join(version, Join(core, Join(issuer, Join(subject, extensions)))) = parts.into_inner();
@@ -502,10 +528,6 @@ impl<A: Allocator + Copy> View<Fields<A>, A> for TbsCertificate<A> {
             None
         }
     }
-
-    ghost is_seen = { λ f. seen_at tbs_meaning _ tbs_base refl (tbs_seen (⟦<Version as Field<A>>⟧.lawful tt)
-        (⟦<Tagged<Explicit0, Version> as Field<A>>⟧.lawful tt) (⟦<AfterVersion<A> as Field<A>>⟧.lawful f.1)
-        (⟦<Inner<A> as Field<A>>⟧.lawful f)) };
 }
 
 /// Says that a version is one of its type. It does nothing when it runs.
@@ -544,38 +566,7 @@ impl<A: Allocator + Copy> Refusal<Fields<A>> for TbsCertificate<A> {
 impl<A: Allocator + Copy> Field<A> for TbsCertificate<A> {
     ghost shape = { tbs_certificate };
 
-    ghost lawful = { λ h. seen_lawful tbs_meaning tbs_base (⟦<Fields<A> as Field<A>>⟧.lawful (
-      (tt, tt),
-      (
-        tt,
-        ((tt, tt), ((tt, tt), (tt, tt), subject_id_apart), issuer_id_apart),
-        λ c h. refl,
-      ),
-      version_apart,
-    ))
-        (tbs_seen (⟦<Version as Field<A>>⟧.lawful tt) (⟦<Tagged<Explicit0, Version> as Field<A>>⟧.lawful tt)
-        (⟦<AfterVersion<A> as Field<A>>⟧.lawful (
-          tt,
-          (
-            (tt, tt),
-            ((tt, tt), (tt, tt), subject_id_apart),
-            issuer_id_apart,
-          ),
-          λ c h. refl,
-        ))
-        (⟦<Inner<A> as Field<A>>⟧.lawful (
-          (tt, tt),
-          (
-            tt,
-            (
-              (tt, tt),
-              ((tt, tt), (tt, tt), subject_id_apart),
-              issuer_id_apart,
-            ),
-            λ c h. refl,
-          ),
-          version_apart,
-        ))) };
+    ghost lawful = { λ h. seen_lawful tbs_meaning tbs_base ⟦<TbsCertificate<A> as View<Fields<A>>>⟧.keeps };
 
     ghost elements = { λ h. seen_element tbs_meaning tbs_base (⟦<Fields<A> as Field<A>>⟧.elements tt) tbs_is };
 

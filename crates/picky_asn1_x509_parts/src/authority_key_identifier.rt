@@ -5,7 +5,7 @@ ghost use Rattle.std.specs.Option.{option_copied};
 ghost use Rattle.x509_der.specs.Items.{items};
 ghost use Rattle.x509_der.specs.Lasts.{ascends};
 ghost use Rattle.x509_der.specs.View.{if_found};
-ghost use Rattle.x509_der.specs.laws.Meaning.{seen_at, sequence_seen, sequence_lawful, seen_element};
+ghost use Rattle.x509_der.specs.laws.Meaning.{sequence_keeps, seen_lawful, seen_element};
 ghost use Rattle.picky_asn1_x509_parts.specs.KeyAuthorities.{part, number, order_kinds, authority_of, authority_base, authority_meaning, authority_key_identifier, authority_bytes, with_part};
 ghost use Rattle.picky_asn1_x509_parts.specs.facts.KeyAuthorityFacts.{parts_apart, issuer_apart, authority_is, one_kind, authority_agrees};
 
@@ -262,23 +262,12 @@ impl<A: Allocator> ToDer for AuthorityKeyIdentifier<A> {
     }
 }
 
-impl<A: Allocator + Copy> View<Fields<A>, A> for AuthorityKeyIdentifier<A> {
+impl<A: Allocator + Copy> View<Fields<A>> for AuthorityKeyIdentifier<A> {
+    ghost base = { authority_base };
+
     ghost view = { authority_meaning };
 
-    fn meaning(parts: Fields<A>) -> Option<(Self, Found)> {
-        let Items(fields) = parts.into_inner();
-        let found = Found::of(disorder(fields.as_slice()));
-        Some((last_of_each(fields), found))
-    }
-
-    ghost is_seen = { λ f. seen_at authority_meaning _ authority_base refl
-        (sequence_seen authority_meaning (items part) (⟦<Inner<A> as Field<A>>⟧.lawful f) authority_is one_kind) };
-}
-
-impl<A: Allocator + Copy> Field<A> for AuthorityKeyIdentifier<A> {
-    ghost shape = { authority_key_identifier };
-
-    ghost lawful = { λ h. sequence_lawful authority_meaning (items part)
+    ghost keeps = { sequence_keeps authority_meaning (items part)
         (⟦<Inner<A> as Field<A>>⟧.lawful (
           (
             (tt, ((tt, tt), ((tt, tt), issuer_apart))),
@@ -286,6 +275,18 @@ impl<A: Allocator + Copy> Field<A> for AuthorityKeyIdentifier<A> {
           ),
           (tt, (tt, tt)),
         )) authority_is one_kind };
+
+    fn meaning(parts: Fields<A>) -> Option<(Self, Found)> {
+        let Items(fields) = parts.into_inner();
+        let found = Found::of(disorder(fields.as_slice()));
+        Some((last_of_each(fields), found))
+    }
+}
+
+impl<A: Allocator + Copy> Field<A> for AuthorityKeyIdentifier<A> {
+    ghost shape = { authority_key_identifier };
+
+    ghost lawful = { λ h. seen_lawful authority_meaning authority_base ⟦<AuthorityKeyIdentifier<A> as View<Fields<A>>>⟧.keeps };
 
     ghost elements = { λ h. seen_element authority_meaning authority_base
         (⟦<Fields<A> as Field<A>>⟧.elements tt) authority_is };

@@ -3,7 +3,7 @@
 ghost use Rattle.std.specs.Prelude.{◌≡◌, ◌↔◌, true, false, refl, Contains, IfOk, IsTrue};
 ghost use Rattle.std.proofs.Common.{eqb};
 ghost use Rattle.x509_der.specs.View.{if_found};
-ghost use Rattle.x509_der.specs.laws.Meaning.{sequence_seen, sequence_lawful, seen_element};
+ghost use Rattle.x509_der.specs.laws.Meaning.{sequence_keeps, seen_lawful, seen_element};
 ghost use Rattle.x509_der.specs.Reading.{Ready, Reads};
 ghost use Rattle.picky_asn1_x509_parts.specs.declared.extension.ExtensionValue.TheVariants as value;
 ghost use Rattle.picky_asn1_x509_parts.specs.Extensions.{authority_key_arcs, subject_key_arcs, key_usage_arcs, subject_name_arcs, issuer_name_arcs, constraints_arcs, extended_usage_arcs, crl_number_arcs, any_usage_arcs, kind_of as kind_by, kind_in, value_bytes, IsValue, by_kind, critical_of, written_critical, critical_kinds, Fields as FieldsOf, AreFitting, inner, fields_bytes, ExtensionFields, IsFitting, extension_base, extension_meaning, extension_bytes, extension, made, viewed, with_critical};
@@ -707,10 +707,15 @@ impl<A: Allocator> ToDer for Extension<A> {
     }
 }
 
-impl<A: Allocator + Copy> View<Fields<A>, A> for Extension<A> {
+impl<A: Allocator + Copy> View<Fields<A>> for Extension<A> {
     ghost use Rattle.picky_asn1_x509_parts.specs.facts.ExtensionFacts.{extension_is, extension_one};
 
+    ghost base = { extension_base };
+
     ghost view = { extension_meaning };
+
+    ghost keeps = { sequence_keeps extension_meaning inner
+        (⟦<Fitting<A> as Field<A>>⟧.lawful tt) extension_is extension_one };
 
     fn meaning(parts: Fields<A>) -> Option<(Self, Found)> {
         let Fitting(DefinedBy(Join(extn_id, Optional(spelled)), extn_value)) = parts.into_inner();
@@ -725,9 +730,6 @@ impl<A: Allocator + Copy> View<Fields<A>, A> for Extension<A> {
             found,
         ))
     }
-
-    ghost is_seen = { λ f. sequence_seen extension_meaning inner (⟦<Fitting<A> as Field<A>>⟧.lawful tt)
-        extension_is extension_one };
 }
 
 impl<A: Allocator + Copy> Field<A> for Extension<A> {
@@ -735,8 +737,7 @@ impl<A: Allocator + Copy> Field<A> for Extension<A> {
 
     ghost shape = { extension };
 
-    ghost lawful = { λ h. sequence_lawful extension_meaning inner (⟦<Fitting<A> as Field<A>>⟧.lawful tt)
-        extension_is extension_one };
+    ghost lawful = { λ h. seen_lawful extension_meaning extension_base ⟦<Extension<A> as View<Fields<A>>>⟧.keeps };
 
     ghost elements = { λ h. seen_element extension_meaning extension_base
         (⟦<Fields<A> as Field<A>>⟧.elements tt) extension_is };

@@ -12,7 +12,6 @@ use crate::errors::ReadError;
 use crate::join::Join;
 use crate::reader::{Reader, whole_reader};
 use crate::structure::Structure;
-use crate::tagged::{Sequence, Tagged};
 use crate::tags::SEQUENCE_TAG;
 use crate::traits::Field;
 use std::alloc::Allocator;
@@ -60,9 +59,9 @@ fn read_both<F: Field<A> + Drop, G: Field<A>, A: Allocator + Copy>(
 /// without memory are never refused for it.
 pub fn read_first_field<
     'a,
-    T: Structure<Tagged<Sequence, Join<F, G>>>,
+    T: Structure<Join<F, G>> + Drop,
     F: Field<A> + Drop,
-    G: Field<A> + Drop,
+    G: Field<A>,
     A: Allocator + Copy,
 >(alloc: A, bytes: &'a [u8]) -> Result<FirstField<'a, T>, ReadError>
     requires first { F.fits }
@@ -77,6 +76,7 @@ pub fn read_first_field<
     let behind = reader.enter(SEQUENCE_TAG)?;
     let start = reader.spot().start;
     let (fields, end, inside) = read_both::<F, G, A>(alloc, &mut reader)?;
+    let value = T::from_fields(fields);
     if !reader.is_empty() {
         return Err(ReadError::LeftOver);
     }
@@ -85,7 +85,6 @@ pub fn read_first_field<
     }
     let slice = &bytes[start..end];
     let outside = reader.deviations().since(&inside);
-    let value = T::from_fields(Tagged::new(fields));
     Ok(FirstField {
         value,
         slice,

@@ -1,7 +1,7 @@
 //! Elliptic curve private keys.
 
 ghost use Rattle.std.specs.Prelude.{◌≡◌, IfOk, refl};
-ghost use Rattle.x509_der.specs.laws.Meaning.{seen_at, sequence_seen, sequence_lawful, seen_element};
+ghost use Rattle.x509_der.specs.laws.Meaning.{sequence_keeps, seen_lawful, seen_element};
 ghost use Rattle.x509_keys.specs.EcPrivateKeys.{ec_key_parts, ec_key_inner, ec_key_base, is_one, ec_key_meaning, ec_private_key};
 ghost use Rattle.x509_keys.specs.facts.EcPrivateKeys.{ec_key_is, ec_key_one, point_apart};
 
@@ -123,8 +123,18 @@ impl<A: Allocator> ToDer for ECPrivateKey<A> {
     }
 }
 
-impl<A: Allocator + Copy> View<Fields<A>, A> for ECPrivateKey<A> {
+impl<A: Allocator + Copy> View<Fields<A>> for ECPrivateKey<A> {
+    ghost base = { ec_key_base };
+
     ghost view = { ec_key_meaning };
+
+    ghost keeps = { sequence_keeps ec_key_meaning ec_key_inner
+        (⟦<Inner<A> as Field<A>>⟧.lawful (
+          tt,
+          (tt, ((tt, tt), (tt, tt), point_apart), λ c h. refl),
+          λ c
+              h. refl,
+        )) ec_key_is ec_key_one };
 
     fn meaning(parts: Fields<A>) -> Option<(Self, Found)> {
         let Join(version, Join(private_key, optional)) = parts.into_inner();
@@ -142,9 +152,6 @@ impl<A: Allocator + Copy> View<Fields<A>, A> for ECPrivateKey<A> {
             None
         }
     }
-
-    ghost is_seen = { λ f. seen_at ec_key_meaning _ ec_key_base refl
-        (sequence_seen ec_key_meaning ec_key_inner (⟦<Inner<A> as Field<A>>⟧.lawful f) ec_key_is ec_key_one) };
 }
 
 impl<A: Allocator + Copy> Refusal<Fields<A>> for ECPrivateKey<A> {
@@ -156,13 +163,7 @@ impl<A: Allocator + Copy> Refusal<Fields<A>> for ECPrivateKey<A> {
 impl<A: Allocator + Copy> Field<A> for ECPrivateKey<A> {
     ghost shape = { ec_private_key };
 
-    ghost lawful = { λ h. sequence_lawful ec_key_meaning ec_key_inner
-        (⟦<Inner<A> as Field<A>>⟧.lawful (
-          tt,
-          (tt, ((tt, tt), (tt, tt), point_apart), λ c h. refl),
-          λ c
-              h. refl,
-        )) ec_key_is ec_key_one };
+    ghost lawful = { λ h. seen_lawful ec_key_meaning ec_key_base ⟦<ECPrivateKey<A> as View<Fields<A>>>⟧.keeps };
 
     ghost elements = { λ h. seen_element ec_key_meaning ec_key_base (⟦<Fields<A> as Field<A>>⟧.elements tt)
         ec_key_is };

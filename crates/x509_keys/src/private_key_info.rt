@@ -5,7 +5,7 @@ ghost use Rattle.x509_der.specs.BitString.{bit_content};
 ghost use Rattle.x509_der.specs.Element.{element};
 ghost use Rattle.x509_der.specs.Optional.{optional};
 ghost use Rattle.x509_der.specs.View.{if_found};
-ghost use Rattle.x509_der.specs.laws.Meaning.{seen_at, sequence_seen, sequence_lawful, seen_element};
+ghost use Rattle.x509_der.specs.laws.Meaning.{sequence_keeps, seen_lawful, seen_element};
 ghost use Rattle.x509_keys.specs.PrivateKeyInfos.{is_version, is_skipped, skipped_kinds, info_public_key, info_inner, info_base, info_meaning, private_key_info, info_bytes, curve_unless, version_with, rsa_info, ec_info, ed_info};
 ghost use Rattle.x509_keys.specs.EcPrivateKeys.{ec_key_with};
 ghost use Rattle.x509_keys.specs.KeyKinds.{rsa_encryption};
@@ -434,8 +434,22 @@ type Inner<A> = Join<
 /// The fields, owned.
 type Fields<A> = Tagged<Sequence, Inner<A>>;
 
-impl<A: Allocator + Copy> View<Fields<A>, A> for PrivateKeyInfo<A> {
+impl<A: Allocator + Copy> View<Fields<A>> for PrivateKeyInfo<A> {
+    ghost base = { info_base };
+
     ghost view = { info_meaning };
+
+    ghost keeps = { sequence_keeps info_meaning info_inner
+        (⟦<Inner<A> as Field<A>>⟧.lawful (
+          tt,
+          (
+            (tt, λ c h. refl),
+            ((tt, tt), (tt, tt), public_key_apart),
+            λ c
+                h. refl,
+          ),
+          λ c h. refl,
+        )) info_is info_one };
 
     fn meaning(parts: Fields<A>) -> Option<(Self, Found)> {
         let Join(version, Join(key, Join(Optional(skipped), public_key))) = parts.into_inner();
@@ -449,9 +463,6 @@ impl<A: Allocator + Copy> View<Fields<A>, A> for PrivateKeyInfo<A> {
         };
         is_version(version).then_some((info, found))
     }
-
-    ghost is_seen = { λ f. seen_at info_meaning _ info_base refl
-        (sequence_seen info_meaning info_inner (⟦<Inner<A> as Field<A>>⟧.lawful f) info_is info_one) };
 }
 
 impl<A: Allocator + Copy> Refusal<Fields<A>> for PrivateKeyInfo<A> {
@@ -463,17 +474,7 @@ impl<A: Allocator + Copy> Refusal<Fields<A>> for PrivateKeyInfo<A> {
 impl<A: Allocator + Copy> Field<A> for PrivateKeyInfo<A> {
     ghost shape = { private_key_info };
 
-    ghost lawful = { λ h. sequence_lawful info_meaning info_inner
-        (⟦<Inner<A> as Field<A>>⟧.lawful (
-          tt,
-          (
-            (tt, λ c h. refl),
-            ((tt, tt), (tt, tt), public_key_apart),
-            λ c
-                h. refl,
-          ),
-          λ c h. refl,
-        )) info_is info_one };
+    ghost lawful = { λ h. seen_lawful info_meaning info_base ⟦<PrivateKeyInfo<A> as View<Fields<A>>>⟧.keeps };
 
     ghost elements = { λ h. seen_element info_meaning info_base (⟦<Fields<A> as Field<A>>⟧.elements tt)
         info_is };

@@ -7,7 +7,7 @@ ghost use Rattle.x509_keys.specs.facts.RsaPrivateKeys.{private_key_same};
 
 use std::alloc::{AllocError, Allocator, Global};
 use x509_der::parts::{
-    Field, Join, Reader, SEQUENCE_TAG, Sequence, Structure, Tagged, clone_three, read_fields,
+    Field, Join, Reader, SEQUENCE_TAG, Sequence, Structure, Tagged, clone_three, read_sequence,
 };
 use x509_der::{CloneEq, FromDer, IntegerAsn1, ReadError, SameEq, ToDer, TooLong};
 
@@ -187,9 +187,15 @@ impl<A: Allocator> SameEq for RsaPrivateKey<A> {
 type Four<I, R> = Join<I, Join<I, Join<I, Join<I, R>>>>;
 
 /// The fields as they stand in the SEQUENCE, owned or borrowed.
-type Nest<I> = Tagged<Sequence, Four<I, Four<I, I>>>;
+type Parts<I> = Four<I, Four<I, I>>;
+
+/// The SEQUENCE.
+type Nest<I> = Tagged<Sequence, Parts<I>>;
 
 /// The fields, owned.
+type Inner<A> = Parts<IntegerAsn1<A>>;
+
+/// The SEQUENCE of them.
 type Fields<A> = Nest<IntegerAsn1<A>>;
 
 /// The fields of a key, to be written.
@@ -215,11 +221,11 @@ impl<A: Allocator> ToDer for RsaPrivateKey<A> {
     }
 }
 
-impl<A: Allocator> Structure<Fields<A>> for RsaPrivateKey<A> {
+impl<A: Allocator> Structure<Inner<A>> for RsaPrivateKey<A> {
     ghost fields = { private_parts };
 
-    fn from_fields(parts: Fields<A>) -> Self {
-        let Join(version, Join(modulus, Join(public_exponent, rest))) = parts.into_inner();
+    fn from_fields(parts: Inner<A>) -> Self {
+        let Join(version, Join(modulus, Join(public_exponent, rest))) = parts;
         let Join(private_exponent, Join(prime_1, Join(prime_2, factors))) = rest;
         let Join(exponent_1, Join(exponent_2, coefficient)) = factors;
         RsaPrivateKey {
@@ -279,7 +285,7 @@ impl<A: Allocator + Copy> Field<A> for RsaPrivateKey<A> {
     }
 
     fn read(alloc: A, reader: &mut Reader<'_, A>) -> Result<Self, ReadError> {
-        read_fields::<Self, Fields<A>, A>(alloc, reader)
+        read_sequence::<Self, Inner<A>, A>(alloc, reader)
     }
 }
 

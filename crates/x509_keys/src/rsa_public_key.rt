@@ -7,7 +7,7 @@ ghost use Rattle.x509_keys.specs.facts.RsaPublicKeys.{public_key_same};
 
 use std::alloc::{AllocError, Allocator, Global};
 use x509_der::parts::{
-    Field, Join, Reader, SEQUENCE_TAG, Sequence, Structure, Tagged, read_fields,
+    Field, Join, Reader, SEQUENCE_TAG, Sequence, Structure, Tagged, read_sequence,
 };
 use x509_der::{
     BitStringAsn1Container, CloneEq, FromDer, IntegerAsn1, ReadError, SameEq, ToDer, TooLong,
@@ -62,8 +62,11 @@ impl<A: Allocator> SameEq for RsaPublicKey<A> {
 /// The fields as they stand in the SEQUENCE, owned or borrowed.
 type Nest<I> = Tagged<Sequence, Join<I, I>>;
 
-/// The fields, owned.
+/// The SEQUENCE, owned.
 type Fields<A> = Nest<IntegerAsn1<A>>;
+
+/// The fields, owned.
+type Inner<A> = Join<IntegerAsn1<A>, IntegerAsn1<A>>;
 
 impl<A: Allocator> ToDer for RsaPublicKey<A> {
     ghost strict = { λ v. public_base.strict (public_parts v) };
@@ -77,11 +80,11 @@ impl<A: Allocator> ToDer for RsaPublicKey<A> {
     }
 }
 
-impl<A: Allocator> Structure<Fields<A>> for RsaPublicKey<A> {
+impl<A: Allocator> Structure<Inner<A>> for RsaPublicKey<A> {
     ghost fields = { public_parts };
 
-    fn from_fields(parts: Fields<A>) -> Self {
-        let Join(modulus, public_exponent) = parts.into_inner();
+    fn from_fields(parts: Inner<A>) -> Self {
+        let Join(modulus, public_exponent) = parts;
         RsaPublicKey {
             modulus,
             public_exponent,
@@ -112,7 +115,7 @@ impl<A: Allocator + Copy> Field<A> for RsaPublicKey<A> {
     }
 
     fn read(alloc: A, reader: &mut Reader<'_, A>) -> Result<Self, ReadError> {
-        read_fields::<Self, Fields<A>, A>(alloc, reader)
+        read_sequence::<Self, Inner<A>, A>(alloc, reader)
     }
 }
 

@@ -10,7 +10,7 @@ use crate::rsa_public_key::RsaPublicKey;
 use std::alloc::{AllocError, Allocator, Global};
 use x509_der::parts::{
     AnyDefinedBy, DefinedBy, Field, Reader, SEQUENCE_TAG, Sequence, Structure, Tagged, clone_both,
-    read_fields,
+    read_sequence,
 };
 use x509_der::{
     BitString, BitStringAsn1, BitStringAsn1Container, CloneEq, FromDer, IntegerAsn1,
@@ -149,8 +149,11 @@ impl<A: Allocator> SameEq for SubjectPublicKeyInfo<A> {
 /// The fields as they stand in the SEQUENCE, owned or borrowed.
 type Nest<K, V> = Tagged<Sequence, DefinedBy<K, V>>;
 
-/// The fields, owned.
+/// The SEQUENCE, owned.
 type Fields<A> = Nest<AlgorithmIdentifier<A>, PublicKey<A>>;
+
+/// The fields, owned.
+type Inner<A> = DefinedBy<AlgorithmIdentifier<A>, PublicKey<A>>;
 
 impl<A: Allocator> ToDer for SubjectPublicKeyInfo<A> {
     ghost strict = { subject_bytes };
@@ -164,11 +167,11 @@ impl<A: Allocator> ToDer for SubjectPublicKeyInfo<A> {
     }
 }
 
-impl<A: Allocator> Structure<Fields<A>> for SubjectPublicKeyInfo<A> {
+impl<A: Allocator> Structure<Inner<A>> for SubjectPublicKeyInfo<A> {
     ghost fields = { subject_parts };
 
-    fn from_fields(parts: Fields<A>) -> Self {
-        let DefinedBy(algorithm, subject_public_key) = parts.into_inner();
+    fn from_fields(parts: Inner<A>) -> Self {
+        let DefinedBy(algorithm, subject_public_key) = parts;
         SubjectPublicKeyInfo {
             algorithm,
             subject_public_key,
@@ -199,7 +202,7 @@ impl<A: Allocator + Copy> Field<A> for SubjectPublicKeyInfo<A> {
     }
 
     fn read(alloc: A, reader: &mut Reader<'_, A>) -> Result<Self, ReadError> {
-        read_fields::<Self, Fields<A>, A>(alloc, reader)
+        read_sequence::<Self, Inner<A>, A>(alloc, reader)
     }
 }
 

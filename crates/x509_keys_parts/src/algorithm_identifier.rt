@@ -227,12 +227,17 @@ fn absence(left_out: bool) -> Option<Deviation>
     }
 }
 
-impl<A: Allocator + Copy> View<Fields<A>, A> for AlgorithmIdentifier<A> {
-    ghost use Rattle.x509_der.specs.laws.Meaning.{sequence_seen};
-    ghost use Rattle.x509_keys_parts.specs.AlgorithmIdentifier.{inner, algorithm_meaning};
+impl<A: Allocator + Copy> View<Fields<A>> for AlgorithmIdentifier<A> {
+    ghost use Rattle.x509_der.specs.laws.Meaning.{sequence_keeps};
+    ghost use Rattle.x509_keys_parts.specs.AlgorithmIdentifier.{inner, base, algorithm_meaning};
     ghost use Rattle.x509_keys_parts.specs.facts.AlgorithmIdentifier.{algorithm_means, algorithm_one};
 
+    ghost base = { base };
+
     ghost view = { algorithm_meaning };
+
+    ghost keeps = { sequence_keeps algorithm_meaning inner
+        (⟦<Inner<A> as Field<A>>⟧.lawful (tt, λ c h. refl)) algorithm_means algorithm_one };
 
     fn meaning(parts: Fields<A>) -> Option<(Self, Found)> {
         let DefinedBy(algorithm, parameters) = parts.into_inner();
@@ -243,20 +248,16 @@ impl<A: Allocator + Copy> View<Fields<A>, A> for AlgorithmIdentifier<A> {
         };
         Some((value, Found::of(absence(left_out))))
     }
-
-    ghost is_seen = { λ f. sequence_seen algorithm_meaning inner (⟦<Inner<A> as Field<A>>⟧.lawful f)
-        algorithm_means algorithm_one };
 }
 
 impl<A: Allocator + Copy> Field<A> for AlgorithmIdentifier<A> {
-    ghost use Rattle.x509_der.specs.laws.Meaning.{sequence_lawful, seen_element};
-    ghost use Rattle.x509_keys_parts.specs.AlgorithmIdentifier.{inner, base, algorithm_meaning, algorithm_identifier};
-    ghost use Rattle.x509_keys_parts.specs.facts.AlgorithmIdentifier.{algorithm_means, algorithm_one, algorithm_agrees};
+    ghost use Rattle.x509_der.specs.laws.Meaning.{seen_lawful, seen_element};
+    ghost use Rattle.x509_keys_parts.specs.AlgorithmIdentifier.{base, algorithm_meaning, algorithm_identifier};
+    ghost use Rattle.x509_keys_parts.specs.facts.AlgorithmIdentifier.{algorithm_means, algorithm_agrees};
 
     ghost shape = { algorithm_identifier };
 
-    ghost lawful = { λ h. sequence_lawful algorithm_meaning inner
-        (⟦<Inner<A> as Field<A>>⟧.lawful (tt, λ c h. refl)) algorithm_means algorithm_one };
+    ghost lawful = { λ h. seen_lawful algorithm_meaning base ⟦<AlgorithmIdentifier<A> as View<Fields<A>>>⟧.keeps };
 
     ghost elements = { λ h. seen_element algorithm_meaning base (⟦<Fields<A> as Field<A>>⟧.elements tt)
         algorithm_means };

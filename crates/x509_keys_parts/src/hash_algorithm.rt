@@ -3,13 +3,13 @@
 ghost use Rattle.std.specs.Prelude.{◌≡◌, false, refl, IfOk, IfErr, None, Some};
 ghost use Rattle.x509_der.specs.ObjectIdentifier.{dotted};
 ghost use Rattle.x509_der.specs.View.{if_found};
-ghost use Rattle.x509_der.specs.laws.Meaning.{seen_lawful, seen_element, sequence_seen, sequence_lawful};
+ghost use Rattle.x509_der.specs.laws.Meaning.{seen_lawful, seen_element, sequence_keeps};
 ghost use Rattle.x509_keys_parts.specs.HashAlgorithms.{hash_arcs, hash_len, hash_number, hash_of, hash_name_base, hash_name_meaning, hash_name, null_kinds, hash_inner, hash_base, hash_fields, hash_meaning, hash_algorithm};
 ghost use Rattle.x509_keys_parts.specs.Unsupported.{Names};
-ghost use Rattle.x509_keys_parts.specs.facts.HashAlgorithmFacts.{hash_name_is, hash_name_seen, hash_is, few_kinds};
+ghost use Rattle.x509_keys_parts.specs.facts.HashAlgorithmFacts.{hash_name_is, hash_name_keeps, hash_is, few_kinds};
 
 use crate::errors::{AlgorithmError, unsupported};
-use std::alloc::{AllocError, Allocator};
+use std::alloc::{AllocError, Allocator, Global};
 use std::marker::Model;
 use x509_der::parts::{
     Field, Found, Join, OBJECT_IDENTIFIER_TAG, Optional, Reader, SEQUENCE_TAG, Sequence, Tagged,
@@ -206,22 +206,23 @@ impl ToDer for HashName {
     }
 }
 
-impl<A: Allocator + Copy> View<ObjectIdentifierAsn1<A>, A> for HashName {
+impl<A: Allocator + Copy> View<ObjectIdentifierAsn1<A>> for HashName {
+    ghost base = { hash_name_base };
+
     ghost view = { hash_name_meaning };
+
+    ghost keeps = { hash_name_keeps };
 
     fn meaning(parts: ObjectIdentifierAsn1<A>) -> Option<(Self, Found)> {
         let hash = known(&parts.0)?;
         Some((HashName(hash), Found::Nothing))
     }
-
-    ghost is_seen = { λ f. hash_name_seen };
 }
 
 impl<A: Allocator + Copy> Field<A> for HashName {
     ghost shape = { hash_name };
 
-    ghost lawful = { λ h. seen_lawful hash_name_meaning hash_name_base
-        (⟦<ObjectIdentifierAsn1<A> as Field<A>>⟧.lawful tt) hash_name_seen };
+    ghost lawful = { λ h. seen_lawful hash_name_meaning hash_name_base hash_name_keeps };
 
     ghost elements = { λ h. seen_element hash_name_meaning hash_name_base
         (⟦<ObjectIdentifierAsn1<A> as Field<A>>⟧.elements tt) hash_name_is };
@@ -271,23 +272,24 @@ type Inner = Join<HashName, Optional<()>>;
 /// The fields that are read.
 type Fields = Tagged<Sequence, Inner>;
 
-impl<A: Allocator + Copy> View<Fields, A> for HashAlgorithm {
+impl View<Fields> for HashAlgorithm {
+    ghost base = { hash_base };
+
     ghost view = { hash_meaning };
+
+    ghost keeps = { sequence_keeps hash_meaning hash_inner
+        (⟦<Inner as Field<Global>>⟧.lawful (tt, (tt, tt), λ c h. refl)) hash_is few_kinds };
 
     fn meaning(parts: Fields) -> Option<(Self, Found)> {
         let Join(HashName(hash), Optional(null)) = parts.into_inner();
         Some((hash, Found::of(absence(null))))
     }
-
-    ghost is_seen = { λ f. sequence_seen hash_meaning hash_inner (⟦<Inner as Field<A>>⟧.lawful f) hash_is
-        few_kinds };
 }
 
 impl<A: Allocator + Copy> Field<A> for HashAlgorithm {
     ghost shape = { hash_algorithm };
 
-    ghost lawful = { λ h. sequence_lawful hash_meaning hash_inner
-        (⟦<Inner as Field<A>>⟧.lawful (tt, (tt, tt), λ c h. refl)) hash_is few_kinds };
+    ghost lawful = { λ h. seen_lawful hash_meaning hash_base ⟦<HashAlgorithm as View<Fields>>⟧.keeps };
 
     ghost elements = { λ h. seen_element hash_meaning hash_base (⟦<Fields as Field<A>>⟧.elements tt)
         hash_is };

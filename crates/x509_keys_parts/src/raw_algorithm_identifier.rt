@@ -272,12 +272,17 @@ type Inner<A> = Join<ObjectIdentifierAsn1<A>, Optional<ReadParameters<A>>>;
 /// The fields, owned.
 type Fields<A> = Tagged<Sequence, Inner<A>>;
 
-impl<A: Allocator + Copy> View<Fields<A>, A> for RawAlgorithmIdentifier<A> {
-    ghost use Rattle.x509_der.specs.laws.Meaning.{sequence_seen};
-    ghost use Rattle.x509_keys_parts.specs.RawAlgorithm.{inner, raw_meaning};
+impl<A: Allocator + Copy> View<Fields<A>> for RawAlgorithmIdentifier<A> {
+    ghost use Rattle.x509_der.specs.laws.Meaning.{sequence_keeps};
+    ghost use Rattle.x509_keys_parts.specs.RawAlgorithm.{inner, base, raw_meaning};
     ghost use Rattle.x509_keys_parts.specs.facts.RawAlgorithmFacts.{raw_algorithm_means, one_kind};
 
+    ghost base = { base };
+
     ghost view = { raw_meaning };
+
+    ghost keeps = { sequence_keeps raw_meaning inner
+        (⟦<Inner<A> as Field<A>>⟧.lawful (tt, (tt, tt), λ c h. refl)) raw_algorithm_means one_kind };
 
     fn meaning(parts: Fields<A>) -> Option<(Self, Found)> {
         let Join(ObjectIdentifierAsn1(algorithm), Optional(parameters)) = parts.into_inner();
@@ -288,21 +293,17 @@ impl<A: Allocator + Copy> View<Fields<A>, A> for RawAlgorithmIdentifier<A> {
         };
         Some((value, Found::of(absent)))
     }
-
-    ghost is_seen = { λ f. sequence_seen raw_meaning inner (⟦<Inner<A> as Field<A>>⟧.lawful f)
-        raw_algorithm_means one_kind };
 }
 
 impl<A: Allocator + Copy> Field<A> for RawAlgorithmIdentifier<A> {
     ghost use Rattle.std.specs.Prelude.{refl};
-    ghost use Rattle.x509_der.specs.laws.Meaning.{sequence_lawful, seen_element};
-    ghost use Rattle.x509_keys_parts.specs.RawAlgorithm.{inner, base, raw_meaning, raw_algorithm};
+    ghost use Rattle.x509_der.specs.laws.Meaning.{seen_lawful, seen_element};
+    ghost use Rattle.x509_keys_parts.specs.RawAlgorithm.{base, raw_meaning, raw_algorithm};
     ghost use Rattle.x509_keys_parts.specs.facts.RawAlgorithmFacts.{raw_algorithm_means, one_kind};
 
     ghost shape = { raw_algorithm };
 
-    ghost lawful = { λ h. sequence_lawful raw_meaning inner
-        (⟦<Inner<A> as Field<A>>⟧.lawful (tt, (tt, tt), λ c h. refl)) raw_algorithm_means one_kind };
+    ghost lawful = { λ h. seen_lawful raw_meaning base ⟦<RawAlgorithmIdentifier<A> as View<Fields<A>>>⟧.keeps };
 
     ghost elements = { λ h. seen_element raw_meaning base (⟦<Fields<A> as Field<A>>⟧.elements tt)
         raw_algorithm_means };

@@ -3,7 +3,7 @@
 ghost use Rattle.std.specs.Prelude.{◌≡◌, refl, IfOk};
 ghost use Rattle.x509_der.specs.Integer.{sign_bit};
 ghost use Rattle.x509_der.specs.View.{meant};
-ghost use Rattle.x509_der.specs.laws.Meaning.{seen_element, sequence_seen, sequence_lawful};
+ghost use Rattle.x509_der.specs.laws.Meaning.{seen_element, seen_lawful, sequence_keeps};
 ghost use Rattle.x509_der.specs.laws.Structure.{structure_lawful, structure_element};
 ghost use Rattle.x509_keys_parts.specs.RsassaPss.{mask_gen_parts, mask_gen_base, mask_gen, mgf1, pss_inner, pss_base, salt_of, pss_fields, pss_meaning, rsassa_pss, pss_with};
 ghost use Rattle.x509_keys_parts.specs.facts.RsassaPssFacts.{mask_gen_same, pss_is, pss_one};
@@ -267,8 +267,13 @@ fn salt_in<A: Allocator>(salt: &IntegerAsn1<A>) -> Option<(usize, Found)>
     }
 }
 
-impl<A: Allocator + Copy> View<Fields<A>, A> for RsassaPssParams<A> {
+impl<A: Allocator + Copy> View<Fields<A>> for RsassaPssParams<A> {
+    ghost base = { pss_base };
+
     ghost view = { pss_meaning };
+
+    ghost keeps = { sequence_keeps pss_meaning pss_inner
+        (⟦<Inner<A> as Field<A>>⟧.lawful (tt, (tt, tt, λ c h. refl), λ c h. refl)) pss_is pss_one };
 
     fn meaning(parts: Fields<A>) -> Option<(Self, Found)> {
         let Join(hash_algorithm, Join(mask_gen_algorithm, salt)) = parts.into_inner();
@@ -280,16 +285,12 @@ impl<A: Allocator + Copy> View<Fields<A>, A> for RsassaPssParams<A> {
         };
         Some((parameters, found))
     }
-
-    ghost is_seen = { λ f. sequence_seen pss_meaning pss_inner (⟦<Inner<A> as Field<A>>⟧.lawful f) pss_is
-        pss_one };
 }
 
 impl<A: Allocator + Copy> Field<A> for RsassaPssParams<A> {
     ghost shape = { rsassa_pss };
 
-    ghost lawful = { λ h. sequence_lawful pss_meaning pss_inner
-        (⟦<Inner<A> as Field<A>>⟧.lawful (tt, (tt, tt, λ c h. refl), λ c h. refl)) pss_is pss_one };
+    ghost lawful = { λ h. seen_lawful pss_meaning pss_base ⟦<RsassaPssParams<A> as View<Fields<A>>>⟧.keeps };
 
     ghost elements = { λ h. seen_element pss_meaning pss_base (⟦<Fields<A> as Field<A>>⟧.elements tt)
         pss_is };

@@ -1,11 +1,10 @@
 //! General names: what alternative names, key identifiers and other extensions hold.
 
 ghost use Rattle.std.specs.Prelude.{◌≡◌, refl, IfOk};
-ghost use Rattle.x509_der.specs.laws.Meaning.{seen_at};
 ghost use Rattle.x509_names.specs.declared.general_name.GeneralName.TheVariants as form;
 ghost use Rattle.x509_names.specs.GeneralNames.{strict_name, loose_name, general_base, general_meaning};
 ghost use Rattle.x509_names.specs.GeneralNames.{general_name as general_names};
-ghost use Rattle.x509_names.specs.facts.GeneralNames.{general_seen, general_lawful, general_element};
+ghost use Rattle.x509_names.specs.facts.GeneralNames.{general_keeps, general_lawful, general_element};
 
 use crate::edi_party_name::EdiPartyName;
 use crate::name::Name;
@@ -228,8 +227,16 @@ impl<A: Allocator> ToDer for GeneralName<A> {
     }
 }
 
-impl<A: Allocator + Copy> View<Fields<A>, A> for GeneralName<A> {
+impl<A: Allocator + Copy> View<Fields<A>> for GeneralName<A> {
+    ghost base = { general_base };
+
     ghost view = { general_meaning };
+
+    ghost keeps = { general_keeps (record {
+      other = ⟦<ContentOf<OtherName<A>> as Field<A>>⟧.lawful tt;
+      names = ⟦<ContentOf<Name<A>> as Field<A>>⟧.lawful tt;
+      edi = ⟦<ContentOf<EdiPartyName<A>> as Field<A>>⟧.lawful tt;
+    }) };
 
     fn meaning(parts: Fields<A>) -> Option<(Self, Found)> {
         match parts {
@@ -237,12 +244,6 @@ impl<A: Allocator + Copy> View<Fields<A>, A> for GeneralName<A> {
             Second(loose) => { Some((from_loose(loose), Found::One(Deviation::GeneralNameForm))) }
         }
     }
-
-    ghost is_seen = { λ f. seen_at general_meaning _ general_base refl (general_seen (record {
-      other = ⟦<ContentOf<OtherName<A>> as Field<A>>⟧.lawful tt;
-      names = ⟦<ContentOf<Name<A>> as Field<A>>⟧.lawful tt;
-      edi = ⟦<ContentOf<EdiPartyName<A>> as Field<A>>⟧.lawful tt;
-    })) };
 }
 
 impl<A: Allocator + Copy> Field<A> for GeneralName<A> {

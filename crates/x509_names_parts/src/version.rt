@@ -3,7 +3,7 @@
 ghost use Rattle.std.specs.Prelude.{◌≡◌, refl};
 ghost use Rattle.x509_der.specs.laws.Meaning.{seen_lawful, seen_element};
 ghost use Rattle.x509_names_parts.specs.Versions.{version_number, version_of, version_base, version_meaning, version};
-ghost use Rattle.x509_names_parts.specs.facts.Versions.{version_is, version_seen};
+ghost use Rattle.x509_names_parts.specs.facts.Versions.{version_is, version_keeps};
 
 use std::alloc::{AllocError, Allocator};
 use x509_der::parts::{Field, Found, INTEGER_TAG, Reader, Refusal, View, read_viewed_or};
@@ -80,15 +80,17 @@ impl ToDer for Version {
     }
 }
 
-impl<A: Allocator + Copy> View<u8, A> for Version {
+impl View<u8> for Version {
+    ghost base = { version_base };
+
     ghost view = { version_meaning };
+
+    ghost keeps = { version_keeps };
 
     fn meaning(parts: u8) -> Option<(Self, Found)> {
         let version = Version::from_u8(parts)?;
         Some((version, Found::Nothing))
     }
-
-    ghost is_seen = { λ f. version_seen };
 }
 
 impl Refusal<u8> for Version {
@@ -100,8 +102,7 @@ impl Refusal<u8> for Version {
 impl<A: Allocator + Copy> Field<A> for Version {
     ghost shape = { version };
 
-    ghost lawful = { λ h. seen_lawful version_meaning version_base (⟦<u8 as Field<A>>⟧.lawful tt)
-        version_seen };
+    ghost lawful = { λ h. seen_lawful version_meaning version_base version_keeps };
 
     ghost elements = { λ h. seen_element version_meaning version_base
         (⟦<u8 as Field<A>>⟧.elements tt) version_is };

@@ -14,7 +14,7 @@ use Rattle.x509_der.specs.facts.Lists.{same_append}
 use Rattle.x509_der.specs.facts.Tally.{none_marks}
 use Rattle.x509_der.specs.laws.Meaning.{IsMeaning, tagged_markable, tagged_more, first_more, seen_more}
 use Rattle.x509_der.specs.laws.StrictSpelling.{agree_optional}
-use Rattle.x509_der.specs.laws.Tagged.{tagged_spare}
+use Rattle.x509_der.specs.laws.Tagged.{tagged_lawful, tagged_spare}
 use Rattle.x509_names.specs.Types.{Version}
 use Rattle.x509_names.specs.Types.version.{V1, V2, V3}
 use Rattle.x509_names.specs.Validities.{validity}
@@ -172,7 +172,7 @@ ascends (Some V3) None = tt
 ascends (Some V3) (Some []) = (tt, tt)
 ascends (Some V3) (Some (e ∷ es)) = tt
 
-pub tbs_seen : {A : Type 0} → Lawful version → Lawful version_field → Lawful (after_version {A = A}) → Lawful (tbs_inner {A = A}) → IsSeen (tbs_meaning {A = A}) tbs_base
+tbs_seen : {A : Type 0} → Lawful version → Lawful version_field → Lawful (after_version {A = A}) → Lawful (tbs_inner {A = A}) → IsSeen (tbs_meaning {A = A}) tbs_base
 tbs_seen {A} n m r l = seen_more tbs_meaning tbs_base (tagged_markable 48 tbs_inner l) tbs_is
     (λ f v ks p y e a. omega (
       arith,
@@ -182,6 +182,9 @@ tbs_seen {A} n m r l = seen_more tbs_meaning tbs_base (tagged_markable 48 tbs_in
       tagged_more 48 tbs_inner f p y a (length (version_kinds f.0)) (first_more (optional version_field) after_version r f.0 f.1 a.content a.part a.spelled (length (version_kinds f.0)) (version_spare n m f.0 a.spelled.front a.spelled.first a.spelled.fore)),
     ))
     (λ f v ks e. subst Ascending (means_tbs {A = A} f v ks e).1.1 (ascends f.0 f.1.1.1.1))
+
+pub tbs_keeps : {A : Type 0} → Lawful version → Lawful version_field → Lawful (after_version {A = A}) → Lawful (tbs_inner {A = A}) → Lawful (tbs_base {A = A}) × IsSeen (tbs_meaning {A = A}) tbs_base
+tbs_keeps n m r l = (tagged_lawful 48 tbs_inner l, tbs_seen n m r l)
 
 -- what is written is the strict spelling
 pub core_agrees : {A : Type 0} (c : CoreFields A) → core.strict c ≡ core_bytes c

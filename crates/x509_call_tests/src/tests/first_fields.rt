@@ -7,7 +7,7 @@ use super::checks::{is_so, same, same_bytes};
 use refusing::{Refusing, Turn};
 use std::alloc::{Allocator, Global};
 use std::process::Abort;
-use x509_der::parts::{FirstField, Join, Optional, Sequence, Structure, Tagged, read_first_field};
+use x509_der::parts::{FirstField, Join, Optional, Structure, read_first_field};
 use x509_der::{Deviation, Deviations, ReadError};
 use x509_keys::RawAlgorithmIdentifier;
 
@@ -22,13 +22,13 @@ struct Pair<A: Allocator> {
 }
 
 /// The fields of a pair.
-type Both<A> = Tagged<Sequence, Join<RawAlgorithmIdentifier<A>, RawAlgorithmIdentifier<A>>>;
+type Both<A> = Join<RawAlgorithmIdentifier<A>, RawAlgorithmIdentifier<A>>;
 
 impl<A: Allocator> Structure<Both<A>> for Pair<A> {
     ghost fields = { λ v. (v.first, v.second) };
 
     fn from_fields(parts: Both<A>) -> Self {
-        let Join(first, second) = parts.into_inner();
+        let Join(first, second) = parts;
         Pair { first, second }
     }
 
@@ -177,13 +177,13 @@ struct Flagged<A: Allocator> {
 }
 
 /// The fields of a flag.
-type WithFlag<A> = Tagged<Sequence, Join<Optional<RawAlgorithmIdentifier<A>>, bool>>;
+type WithFlag<A> = Join<Optional<RawAlgorithmIdentifier<A>>, bool>;
 
 impl<A: Allocator> Structure<WithFlag<A>> for Flagged<A> {
     ghost fields = { λ v. (v.algorithm, v.flag) };
 
     fn from_fields(parts: WithFlag<A>) -> Self {
-        let Join(Optional(algorithm), flag) = parts.into_inner();
+        let Join(Optional(algorithm), flag) = parts;
         Flagged { algorithm, flag }
     }
 

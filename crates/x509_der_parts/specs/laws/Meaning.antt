@@ -1,5 +1,5 @@
 -- Types whose values are what those of a base shape mean, some with one or two marks over the whole.
-use Rattle.std.proofs.Common.{◌≡◌, sym, subst, ℕ, ◌+◌, ◌≤◌, List, [], ◌∷◌, length, Some, ap, arith}
+use Rattle.std.proofs.Common.{◌≡◌, ℕ, ◌+◌, ◌≤◌, List, [], ◌∷◌, length, Some, ap, arith}
 use Rattle.std.proofs.lemmas.List.{length-map}
 use Rattle.x509_der_parts.specs.declared.deviation.Deviation.{Deviation}
 use Rattle.x509_der_parts.specs.Element.{header}
@@ -71,19 +71,12 @@ module _ {B V : Type 0} (m : Meaning B V) (s : Shape B) (w : Markable s) (i : Is
   pub seen_more : ((b : B) (v : V) (ks : List Deviation) (p : List ℕ) (y : Tally) → m.of b ≡ Some (v, ks) → s.spelled b p y → length ks + length y.marks ≤ y.headers) → ((b : B) (v : V) (ks : List Deviation) → m.of b ≡ Some (v, ks) → Ascending ks) → IsSeen m s
   seen_more few ascending = record { written = i.written; clean = i.clean; kept = i.kept; read = i.read; few = few; deep = w.deep; inner = w.inner; ascending = ascending }
 
--- a SEQUENCE of fields, with one mark at most
-pub sequence_seen : {B V : Type 0} (m : Meaning B V) (s : Shape B) → Lawful s → IsMeaning m (tagged 48 s) → ((b : B) (v : V) (ks : List Deviation) → m.of b ≡ Some (v, ks) → length ks ≤ 1) → IsSeen m (tagged 48 s)
-sequence_seen m s l i one = seen_one m (tagged 48 s) (tagged_markable 48 s l) i one
+-- a SEQUENCE of fields, with one mark at most, keeps what a view asks
+pub sequence_keeps : {B V : Type 0} (m : Meaning B V) (s : Shape B) → Lawful s → IsMeaning m (tagged 48 s) → ((b : B) (v : V) (ks : List Deviation) → m.of b ≡ Some (v, ks) → length ks ≤ 1) → Lawful (tagged 48 s) × IsSeen m (tagged 48 s)
+sequence_keeps m s l i one = (tagged_lawful 48 s l, seen_one m (tagged 48 s) (tagged_markable 48 s l) i one)
 
--- over a shape that is this base, so that a check compares the two as such, and not inside of IsSeen, where it takes far longer
-pub seen_at : {B V : Type 0} (m : Meaning B V) (s base : Shape B) → s ≡ base → IsSeen m base → IsSeen m s
-seen_at m s base e h = subst (λ x. IsSeen m x) (sym e) h
-
-pub seen_lawful : {B V : Type 0} (m : Meaning B V) (s : Shape B) → Lawful s → IsSeen m s → Lawful (seen m s)
-seen_lawful m s l h = viewed_lawful m.of m.back m.valid m.readable s l h
-
-pub sequence_lawful : {B V : Type 0} (m : Meaning B V) (s : Shape B) → Lawful s → IsMeaning m (tagged 48 s) → ((b : B) (v : V) (ks : List Deviation) → m.of b ≡ Some (v, ks) → length ks ≤ 1) → Lawful (seen m (tagged 48 s))
-sequence_lawful m s l i one = seen_lawful m (tagged 48 s) (tagged_lawful 48 s l) (sequence_seen m s l i one)
+pub seen_lawful : {B V : Type 0} (m : Meaning B V) (s : Shape B) → Lawful s × IsSeen m s → Lawful (seen m s)
+seen_lawful m s k = viewed_lawful m.of m.back m.valid m.readable s k.0 k.1
 
 pub seen_element : {B V : Type 0} (m : Meaning B V) (s : Shape B) → IsElement s → IsMeaning m s → IsElement (seen m s)
 seen_element m s e i = viewed_element m.of m.back m.valid m.readable s e i.stays

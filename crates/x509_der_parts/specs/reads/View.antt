@@ -1,5 +1,5 @@
 -- Reading a type by way of a plain shape, with deviations over the whole.
-use Rattle.std.proofs.Common.{◌≡◌, ℕ, ◌≤◌, ◌<◌, List, [], ◌∷◌, ◌++◌, length, sum, refl, sym, ap, ◌∙◌, arith, length-append, Option, Some, None}
+use Rattle.std.proofs.Common.{◌≡◌, ℕ, ◌+◌, ◌≤◌, ◌<◌, List, [], ◌∷◌, ◌++◌, length, sum, refl, sym, ap, ◌∙◌, arith, length-append, Option, Some, None}
 use Rattle.x509_der_parts.specs.declared.deviation.Deviation.{Deviation}
 use Rattle.x509_der_parts.specs.declared.reader.Spot.{Spot}
 use Rattle.x509_der_parts.specs.declared.errors.ReadError.{ReadError}
@@ -8,7 +8,7 @@ use Rattle.x509_der_parts.specs.Tally.{Tally, marked}
 use Rattle.x509_der_parts.specs.facts.Tally.{marked_headers, marked_length, marked_clean}
 use Rattle.x509_der_parts.specs.reads.Counts.{tallied_sum, tallied_length, one_more_sum}
 use Rattle.x509_der_parts.specs.Shape.{Shape, Lawful, Follows}
-use Rattle.x509_der_parts.specs.View.{viewed, Viewed, IsView}
+use Rattle.x509_der_parts.specs.View.{viewed, Viewed}
 use Rattle.x509_der_parts.specs.laws.View.{some_one}
 use Rattle.x509_der_parts.specs.Reading.{Cursor, Ready, Accepts, Refuses, Marked, NotMarked, put_in}
 use Rattle.x509_der_parts.specs.reads.Cursor.{Booked, moved_marked, ready_after, still_none}
@@ -22,7 +22,11 @@ ready_marked old new kind spot r h m = record {
   ends = omega (arith, r.ends, m.at, ap length m.rest);
 }
 
-module _ {B V : Type 0} (of : B → Option (V × List Deviation)) (back : V → B) (valid : V → Type 0) (readable : V → Type 0) (s : Shape B) (l : Lawful s) (h : IsView of back valid readable s) where
+-- the marks over the whole have headers to spare
+abbrev pub Few : {B V : Type 0} → (B → Option (V × List Deviation)) → Shape B → Type 0
+Few {B} {V} of s = (b : B) (v : V) (ks : List Deviation) (p : List ℕ) (y : Tally) → of b ≡ Some (v, ks) → s.spelled b p y → length ks + length y.marks ≤ y.headers
+
+module _ {B V : Type 0} (of : B → Option (V × List Deviation)) (back : V → B) (valid : V → Type 0) (readable : V → Type 0) (s : Shape B) (l : Lawful s) (few : Few of s) where
   pub viewed_accepts : (old mid new : Cursor) (b : B) (v : V) (ks : List Deviation) → Ready old → Accepts s old mid b → of b ≡ Some (v, ks) → Booked old mid new ks → Accepts (viewed of back valid readable s) old new v
   viewed_accepts old mid new b v ks r a m k =
       let y = marked ks (length a.bytes) a.tally in
@@ -34,7 +38,7 @@ module _ {B V : Type 0} (of : B → Option (V × List Deviation)) (back : V → 
         tally = y;
         spelled = record { base = b; kinds = ks; part = a.tally; spelled = a.spelled; means = m; tally = refl };
         moved = n;
-        ready = ready_after old new a.bytes y r n (omega (arith, l.cost b a.bytes a.tally a.spelled, mh)) (omega (arith, h.few b v ks a.bytes a.tally m a.spelled, mh, ml));
+        ready = ready_after old new a.bytes y r n (omega (arith, l.cost b a.bytes a.tally a.spelled, mh)) (omega (arith, few b v ks a.bytes a.tally m a.spelled, mh, ml));
         min_headers = λ n z. omega (arith, a.min_headers n z, mh);
         only = λ w p q z i e g.
             let o = a.only i.base p q i.part i.spelled e g in
@@ -95,13 +99,13 @@ module _ {B V : Type 0} (of : B → Option (V × List Deviation)) (back : V → 
   pub mark_room : (old mid : Cursor) (b : B) (v : V) (ks : List Deviation) → Ready old → Accepts s old mid b → of b ≡ Some (v, ks) → 1 ≤ length ks → sum mid.counts < mid.headers
   mark_room old mid b v ks r a m n =
       let am = a.moved in
-      omega (arith, r.booked, am.headers, ap sum am.counts, tallied_sum old.counts a.tally.marks, h.few b v ks a.bytes a.tally m a.spelled)
+      omega (arith, r.booked, am.headers, ap sum am.counts, tallied_sum old.counts a.tally.marks, few b v ks a.bytes a.tally m a.spelled)
 
   -- and for a second one
   pub mark_room_more : (old mid last : Cursor) (b : B) (v : V) (ks : List Deviation) (kind : Deviation) (spot : Spot) → Ready old → Accepts s old mid b → of b ≡ Some (v, ks) → 2 ≤ length ks → Marked mid last kind spot → sum last.counts < last.headers
   mark_room_more old mid last b v ks kind spot r a m n k =
       let am = a.moved in
-      omega (arith, r.booked, am.headers, k.headers, ap sum am.counts, ap sum k.counts, tallied_sum old.counts a.tally.marks, one_more_sum mid.counts kind, h.few b v ks a.bytes a.tally m a.spelled)
+      omega (arith, r.booked, am.headers, k.headers, ap sum am.counts, ap sum k.counts, tallied_sum old.counts a.tally.marks, one_more_sum mid.counts kind, few b v ks a.bytes a.tally m a.spelled)
 
   -- no memory for the place of a second mark
   pub viewed_memory_more : (old mid last new : Cursor) (b : B) (v : V) (ks : List Deviation) (kind : Deviation) (spot : Spot) (e : ReadError) → Accepts s old mid b → of b ≡ Some (v, ks) → 1 ≤ length ks → Marked mid last kind spot → NotMarked last new e → Refuses (viewed of back valid readable s) old new e

@@ -6,7 +6,9 @@ use Rattle.x509_der.specs.Types.{Deviation}
 use Rattle.x509_der.specs.Element.{element, digits}
 use Rattle.x509_der.specs.ObjectIdentifier.{IsLawful, oids, septets, high}
 use Rattle.x509_der.specs.laws.View.{some_one}
+use Rattle.x509_der.specs.Shape.{Lawful}
 use Rattle.x509_der.specs.laws.Meaning.{IsMeaning, tagged_markable}
+use Rattle.x509_der.specs.laws.Tagged.{tagged_lawful}
 use Rattle.x509_der.specs.facts.ObjectIdentifier.{oid_lawful}
 use Rattle.x509_der.specs.View.{IsSeen}
 use Rattle.x509_der.specs.facts.Partly.{partly_is, partly_seen}
@@ -31,8 +33,8 @@ hash_again arcs h e = named_is hash_arcs hashes arcs h e
 pub hash_name_is : IsMeaning hash_name_meaning hash_name_base
 hash_name_is = partly_is hash_of hash_arcs hash_name_base hash_there hash_again
 
-pub hash_name_seen : IsSeen hash_name_meaning hash_name_base
-hash_name_seen = partly_seen hash_of hash_arcs hash_name_base hash_there hash_again (tagged_markable 6 oids oid_lawful)
+pub hash_name_keeps : Lawful hash_name_base × IsSeen hash_name_meaning hash_name_base
+hash_name_keeps = (tagged_lawful 6 oids oid_lawful, partly_seen hash_of hash_arcs hash_name_base hash_there hash_again (tagged_markable 6 oids oid_lawful))
 
 last_arc : (n k : ℕ) → n < 128 → k < 1 → slice_index (n ∷ []) k < 2 ^ 64
 last_arc n zero h l = omega arith

@@ -89,7 +89,7 @@ parameters_seen : IsSeen parameters_meaning raws
 parameters_seen = seen_one parameters_meaning raws raws_markable parameters_means no_kind
 
 pub parameters_lawful : Lawful parameters
-parameters_lawful = seen_lawful parameters_meaning raws raws_lawful parameters_seen
+parameters_lawful = seen_lawful parameters_meaning raws (raws_lawful, parameters_seen)
 
 pub parameters_element : IsElement parameters
 parameters_element = seen_element parameters_meaning raws raws_element parameters_means
@@ -97,7 +97,7 @@ parameters_element = seen_element parameters_meaning raws raws_element parameter
 -- an element was taken: it is the parameters
 pub parameters_taken : (old new : Cursor) (p : List ℕ) → Ready old → RawTaken old new p → new.headers ≡ old.headers + 1 → new.counts ≡ old.counts → new.at + length new.rest ≡ old.at + length old.rest → new.places ≡ old.places → Accepts parameters old new (without_null (Some p))
 parameters_taken old new p r t h c at places =
-    viewed_accepts element_meaning written_parameters IsParameters AnyParameters raws raws_lawful parameters_seen old new new p (without_null (Some p)) [] r (raw_accepts old new p p r t refl h c at places) refl (booked_none old new)
+    viewed_accepts element_meaning written_parameters IsParameters AnyParameters raws raws_lawful parameters_seen.few old new new p (without_null (Some p)) [] r (raw_accepts old new p p r t refl h c at places) refl (booked_none old new)
 
 parameters_there : (p : Option (Option (List ℕ))) → (optional parameters).valid p → IsParameters (if_there p)
 parameters_there None h = record { element = tt; not_null = tt }

@@ -135,11 +135,11 @@ loose_alternatives l =
 general_alternatives : {A : Type 0} → ContentsLawful A → Alternative (general_base {A = A}) general_tags
 general_alternatives l = either_of (strict_alternatives l) (loose_alternatives l) refl
 
-pub general_seen : {A : Type 0} → ContentsLawful A → IsSeen (general_meaning {A = A}) general_base
-general_seen l = seen_one general_meaning general_base (general_alternatives l).markable general_is general_one
+pub general_keeps : {A : Type 0} → ContentsLawful A → Lawful (general_base {A = A}) × IsSeen (general_meaning {A = A}) general_base
+general_keeps l = let a = general_alternatives l in (a.lawful, seen_one general_meaning general_base a.markable general_is general_one)
 
 pub general_lawful : {A : Type 0} → ContentsLawful A → Lawful (general_name {A = A})
-general_lawful l = seen_lawful general_meaning general_base (general_alternatives l).lawful (general_seen l)
+general_lawful l = seen_lawful general_meaning general_base (general_keeps l)
 
 pub general_element : {A : Type 0} → ContentsLawful A → IsElement (general_name {A = A})
 general_element l = seen_element general_meaning general_base (general_alternatives l).element general_is

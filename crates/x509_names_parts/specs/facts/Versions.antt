@@ -5,7 +5,9 @@ use Rattle.x509_names_parts.specs.declared.version.Version.{Version}
 use Rattle.x509_names_parts.specs.declared.version.Version.TheVariants.{V1, V2, V3}
 use Rattle.x509_der.specs.SmallInteger.{small_integers}
 use Rattle.x509_der.specs.laws.SmallInteger.{small_integer_lawful}
+use Rattle.x509_der.specs.Shape.{Lawful}
 use Rattle.x509_der.specs.laws.Meaning.{IsMeaning, tagged_markable}
+use Rattle.x509_der.specs.laws.Tagged.{tagged_lawful}
 use Rattle.x509_der.specs.View.{IsSeen}
 use Rattle.x509_der.specs.facts.Partly.{partly_is, partly_seen}
 use Rattle.x509_names_parts.specs.Versions.{version_number, version_of, version_base, version_meaning}
@@ -30,5 +32,5 @@ again (suc (suc (suc n))) v e = let h = none_above n in cc
 pub version_is : IsMeaning version_meaning version_base
 version_is = partly_is version_of version_number version_base there again
 
-pub version_seen : IsSeen version_meaning version_base
-version_seen = partly_seen version_of version_number version_base there again (tagged_markable 2 small_integers small_integer_lawful)
+pub version_keeps : Lawful version_base × IsSeen version_meaning version_base
+version_keeps = (tagged_lawful 2 small_integers small_integer_lawful, partly_seen version_of version_number version_base there again (tagged_markable 2 small_integers small_integer_lawful))

@@ -43,7 +43,7 @@ returns-clause-ok g c =
     let r = c.requires in
     first_part g.T.Structure.fields g.met.T.Structure.same g.F.Field.shape g.G.Field.shape (g.F.Field.lawful r.first) (g.G.Field.lawful r.second) r.apart c.whole_reader-reader.result c.enter.new.self c.read_both.new.reader c.in_ok-behind.behind.now c.args.bytes.now c.whole_reader-reader.ensures.rest c.in_ok-behind.ensures.enters
     c.from_fields-value.result c.in_ok-fields.fields c.spot-start.result.start c.in_ok-fields.end (take (c.in_ok-fields.end - c.spot-start.result.start) (drop c.spot-start.result.start c.args.bytes.now)) c.in_ok-fields.inside c.since-outside.result c.deviations.result
-    (c.from_fields-value.ensures ∙ c.new.ensures) c.whole_reader-reader.ensures.at c.whole_reader-reader.ensures.counts c.in_ok-fields.ensures
+    c.from_fields-value.ensures c.whole_reader-reader.ensures.at c.whole_reader-reader.ensures.counts c.in_ok-fields.ensures
     (empty_is c.read_both.new.reader.rest (sym c.is_empty.ensures ∙ c.if-not-is_empty.false))
     (empty_is c.in_ok-behind.behind.now (sym c.is_empty-2.ensures ∙ c.if-not-is_empty-2.false))
     c.spot-start.ensures.start refl c.deviations.ensures c.since-outside.ensures
