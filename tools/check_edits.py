@@ -17,7 +17,7 @@ FOLDERS = ("must-fail", "more-edits")
 # How many edits the gate tries in these crates together, at most.
 BUDGETS = [
     (15, ["x509_der"]),
-    (13, ["x509_der_parts"]),
+    (14, ["x509_der_parts"]),
     (10, ["x509_prim", "x509_prim_parts"]),
     (20, ["x509_names", "x509_names_parts"]),
     (29, ["x509_keys_parts"]),
