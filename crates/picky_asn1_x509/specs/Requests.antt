@@ -1,5 +1,5 @@
 -- Requests for certificates (RFC 2986, 4).
-use Rattle.std.specs.Prelude.{ℕ, Bool, List, [], ◌++◌}
+use Rattle.std.specs.Prelude.{ℕ, List, [], ◌++◌}
 use Rattle.std.specs.List.{flat_map}
 use Rattle.x509_der.specs.Element.{element}
 use Rattle.x509_der.specs.Items.{items}

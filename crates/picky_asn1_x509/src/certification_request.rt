@@ -15,7 +15,7 @@ use std::alloc::{AllocError, Allocator, Global};
 use std::marker::Model;
 use x509_der::parts::{
     ContentOf, Explicit0, Field, Join, Reader, SEQUENCE_TAG, Sequence, Structure, Tag, Tagged,
-    clone_three, read_first_field, read_sequence,
+    clone_three, known_items, read_first_field, read_sequence,
 };
 use x509_der::{Asn1SequenceOf, BitStringAsn1, CloneEq, FromDer, ReadError, ToDer, TooLong};
 use x509_keys::{AlgorithmIdentifier, SubjectPublicKeyInfo};
@@ -113,7 +113,7 @@ impl<A: Allocator + Copy> Field<A> for OpenSslAttributes<A> {
     }
 
     fn known(&self) {
-        self.0.known();
+        known_items::<Attribute<A>, A>(self.0.0.as_slice());
     }
 
     fn read(alloc: A, reader: &mut Reader<'_, A>) -> Result<Self, ReadError> {

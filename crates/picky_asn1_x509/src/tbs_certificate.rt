@@ -12,8 +12,9 @@ use picky_asn1_x509_parts::Extensions;
 use std::alloc::{AllocError, Allocator, Global};
 use std::marker::Model;
 use x509_der::parts::{
-    ContentOf, Explicit0, Explicit3, Field, Found, Implicit1, Implicit2, Join, Optional, Reader,
-    Refusal, SEQUENCE_TAG, Sequence, Tag, Tagged, View, clone_three, read_viewed_or, write_bytes,
+    ContentOf, Explicit0, Explicit3, Field, Found, INTEGER_TAG, Implicit1, Implicit2, Join,
+    Optional, Reader, Refusal, SEQUENCE_TAG, Sequence, Tag, Tagged, View, clone_three,
+    read_viewed_or, write_bytes,
 };
 use x509_der::{
     BitString, BitStringAsn1, CloneEq, Deviation, FromDer, IntegerAsn1, ReadError, ToDer, TooLong,
@@ -156,11 +157,19 @@ impl<A: Allocator + Copy> Field<A> for Core<A> {
     ghost agrees = { core_agrees };
 
     fn starts(byte: u8) -> bool {
-        <CoreParts<A> as Field<A>>::starts(byte)
+        // with any of the parts, as the shape of a join says
+        byte == INTEGER_TAG || byte == SEQUENCE_TAG
     }
 
     fn known(&self) {
-        self.0.known();
+        let Core(Join(serial_number, Join(signature, Join(issuer, rest)))) = self;
+        let Join(validity, Join(subject, subject_public_key_info)) = rest;
+        serial_number.known();
+        signature.known();
+        issuer.known();
+        Field::<A>::known(validity);
+        subject.known();
+        subject_public_key_info.known();
     }
 
     fn read(alloc: A, reader: &mut Reader<'_, A>) -> Result<Self, ReadError> {

@@ -12,7 +12,7 @@ use Rattle.x509_names.specs.Types.version.{V1, V2, V3}
 use Rattle.x509_keys.specs.ReadIf.{read_if}
 use Rattle.x509_keys.specs.facts.ReadIf.{was_read}
 use Rattle.picky_asn1_x509_parts.specs.Extensions.{ExtensionFields}
-use Rattle.picky_asn1_x509.specs.TbsCertificates.{CoreFields, TbsFields, core, issuer_id_field, subject_id_field, extensions_field, ends, after_version, tbs_inner, version_in, version_kinds, list_in, list_kinds, ids_fit, extensions_fit, tbs_of, tbs_means, tbs_certificate}
+use Rattle.picky_asn1_x509.specs.TbsCertificates.{TbsFields, issuer_id_field, subject_id_field, extensions_field, ends, tbs_inner, version_in, version_kinds, list_in, list_kinds, ids_fit, extensions_fit, tbs_of, tbs_means, tbs_certificate}
 use Rattle.picky_asn1_x509.specs.OlderCertificates.{OlderFields, OlderTbs, older_inner, older_of, is_older, older_means, older_tbs, without_ids}
 
 -- nothing in front

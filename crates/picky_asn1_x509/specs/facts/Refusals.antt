@@ -1,6 +1,5 @@
 -- What the exit of a `?` hands on.
-use Rattle.std.proofs.Common.{◌≡◌, Result, Ok, Err, IfErr, ap, sym, subst}
-use Rattle.std.proofs.lemmas.Result.{err_from_is_err_and}
+use Rattle.std.proofs.Common.{◌≡◌, Result, Ok, Err, IfErr, sym, subst}
 use Rattle.std.specs.Prelude.{IsErrAnd}
 
 -- what holds of the error holds of the result

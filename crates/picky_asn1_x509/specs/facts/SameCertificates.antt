@@ -1,5 +1,5 @@
 -- Equality of certificates and requests holds of the same value alone, where that of each field does.
-use Rattle.std.proofs.Common.{◌≡◌, ap, sym, refl, ◌∙◌, ◌&&◌, Bool, ℕ, List, Option}
+use Rattle.std.proofs.Common.{◌≡◌, ap, sym, refl, ◌∙◌, ◌&&◌, Bool, ℕ, List}
 use Rattle.std.specs.Bool.{Decides}
 use Rattle.std.specs.Option.{option_eq}
 use Rattle.std.proofs.lemmas.Bool.Decides.{Decides-like}

@@ -1,13 +1,12 @@
 -- What the fields of the signed part of a certificate mean keeps the laws; both deviations may stand over one element.
 use Rattle.std.specs.Prelude.{◌&&◌}
-use Rattle.std.proofs.Common.{◌≡◌, ◌∙◌, refl, ap, sym, subst, ℕ, ◌+◌, ◌≤◌, ◌||◌, eqb, Bool, true, false, List, [], ◌∷◌, ◌++◌, length, length-append, Option, Some, None, arith}
+use Rattle.std.proofs.Common.{◌≡◌, ◌∙◌, refl, ap, subst, ℕ, ◌+◌, ◌≤◌, ◌||◌, eqb, Bool, true, false, List, [], ◌∷◌, ◌++◌, length, length-append, Option, Some, None, arith}
 use Rattle.std.proofs.lemmas.Bool.Decides.{nat_tests}
 use Rattle.x509_der.specs.Types.{Deviation}
 use Rattle.x509_der.specs.Element.{element}
 use Rattle.x509_der.specs.MarkOrder.{Ascending}
-use Rattle.x509_der.specs.Optional.{optional, optional_strict}
+use Rattle.x509_der.specs.Optional.{optional}
 use Rattle.x509_der.specs.Shape.{Shape, Lawful}
-use Rattle.x509_der.specs.Tagged.{tagged}
 use Rattle.x509_der.specs.Tally.{Tally}
 use Rattle.x509_der.specs.View.{IsSeen}
 use Rattle.x509_der.specs.facts.Lists.{same_append}
@@ -29,7 +28,7 @@ use Rattle.picky_asn1_x509_parts.specs.Extensions.{ExtensionFields}
 use Rattle.picky_asn1_x509_parts.specs.ExtensionLists.{extensions, extensions_bytes}
 use Rattle.picky_asn1_x509_parts.specs.facts.ExtensionListFacts.{extensions_agree}
 use Rattle.picky_asn1_x509.specs.declared.tbs_certificate.TbsCertificate.{TbsCertificate}
-use Rattle.picky_asn1_x509.specs.TbsCertificates.{CoreFields, EndFields, TbsFields, version_field, core, extensions_field, ends, after_version, tbs_inner, tbs_base, version_in, written_version, version_kinds, list_in, written_list, list_kinds, is_fitting, ids_fit, extensions_fit, tbs_with, core_of, issuer_id_field, subject_id_field, tbs_of, tbs_back, tbs_means, tbs_meaning, tbs_certificate, core_bytes, id_bytes, list_bytes, end_bytes, fields_bytes, tbs_bytes}
+use Rattle.picky_asn1_x509.specs.TbsCertificates.{CoreFields, EndFields, TbsFields, version_field, core, extensions_field, ends, after_version, tbs_inner, tbs_base, version_in, written_version, version_kinds, list_in, written_list, list_kinds, is_fitting, ids_fit, extensions_fit, tbs_with, core_of, issuer_id_field, subject_id_field, tbs_of, tbs_back, tbs_means, tbs_meaning, tbs_certificate, core_bytes, id_bytes, list_bytes, end_bytes, tbs_bytes}
 
 -- fields that are told apart by their first bytes
 pub version_apart : (c : ℕ) → (eqb c 2 || (eqb c 48 || (eqb c 48 || (eqb c 48 || (eqb c 48 || eqb c 48)))) || (eqb c 129 || (eqb c 130 || eqb c 163))) ≡ true → (false || eqb c 160) ≡ false

@@ -5,7 +5,7 @@ use Rattle.x509_der.specs.Types.choice.{First, Second}
 use Rattle.x509_der.specs.Types.deviation
 use Rattle.x509_names.specs.declared.general_name.GeneralName.{GeneralName}
 use Rattle.x509_names.specs.declared.general_name.GeneralName.TheVariants as form
-use Rattle.x509_der.specs.Shape.{Shape, Lawful, IsElement}
+use Rattle.x509_der.specs.Shape.{Lawful, IsElement}
 use Rattle.x509_der.specs.Tagged.{tagged}
 use Rattle.x509_der.specs.laws.Tagged.{tagged_lawful}
 use Rattle.x509_der.specs.PrimitiveContent.{octets}

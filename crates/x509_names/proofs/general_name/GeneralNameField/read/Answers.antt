@@ -4,3 +4,10 @@ use Rattle.x509_names.proofs.general_name.GeneralNameField.read.Goals as goal
 
 pub read_viewed-requires-clause-fits : goal.read_viewed-requires-clause-fits
 read_viewed-requires-clause-fits g c = search (rules, byte_apart, either_apart)
+
+-- these are found without an answer too; with one, a wrong nest is refused sooner
+pub read_viewed-requires-clause-base : goal.read_viewed-requires-clause-base
+read_viewed-requires-clause-base g c = λ b p y x. x
+
+pub returns : goal.returns
+returns g c = c.read_viewed.ensures
