@@ -1,4 +1,4 @@
-//! For tests: an allocator that refuses chosen requests for memory and counts all of them, and a runner that refuses
+//! For tests: an allocator that refuses chosen requests for memory and counts all of them, and `in_turn`, which refuses
 //! each request of a call in turn.
 #![tactic(auto)]
 
@@ -6,6 +6,7 @@ ghost use Rattle.std.specs.Prelude.{◌≡◌, true, false};
 
 use std::alloc::{AllocError, Allocator};
 use std::cell::Cell;
+use std::ops::ControlFlow;
 
 #[cfg(test)]
 mod tests;
@@ -110,28 +111,43 @@ impl Turn {
     }
 }
 
-/// More requests than any call of a test makes.
-const MOST_REQUESTS: u64 = 1_000_000;
-
-impl<B: Allocator> Refusing<B> {
-    /// Runs a call with its first request refused, then its second, until a run meets no refusal.
-    ///
-    /// The number of requests that the last run made; none where a run was wrong, answered want of memory that it
-    /// wasn't refused, or gave its answer though a request was refused.
-    pub fn in_turn<F: FnMut() -> Turn>(&self, mut call: F) -> Option<u64>
-        requires { F.IsAlwaysCallable call }
-    {
-        for number in 1..MOST_REQUESTS {
-            self.refuse(number);
-            let turn = call();
-            let requests = self.requests();
-            self.refuse(0);
-            match turn {
-                Turn::Refused if requests >= number => {}
-                Turn::Granted if requests == number - 1 => return Some(requests),
-                _ => return None,
+/// Runs an expression with its first request to an allocator refused, then its second, until a run meets no refusal. The
+/// allocator is a name; the expression is a `Turn`.
+///
+/// The number of requests that the last run made, as an `Option<u64>`; none where a run was wrong, answered want of
+/// memory that it wasn't refused, or gave its answer though a request was refused. A loop and no closure, since a
+/// closure is proved as three functions more.
+#[macro_export]
+macro_rules! in_turn {
+    ($heap:ident, $run:expr) => {{
+        let mut requests = None;
+        for number in 1..$crate::MOST_REQUESTS {
+            $heap.refuse(number);
+            if let std::ops::ControlFlow::Break(answer) = $heap.judge(number, $run) {
+                requests = answer;
+                break;
             }
         }
-        None
+        requests
+    }};
+}
+
+/// More requests than any call of a test makes.
+pub const MOST_REQUESTS: u64 = 1_000_000;
+
+impl<B: Allocator> Refusing<B> {
+    /// Whether the run in which the request of this number was refused has the next one follow. Else the number of its
+    /// requests; none where it was wrong, answered want of memory that it wasn't refused, or gave its answer though a
+    /// request was refused. Refuses nothing from then on.
+    pub fn judge(&self, number: u64, turn: Turn) -> ControlFlow<Option<u64>> {
+        let requests = self.requests();
+        self.refuse(0);
+        match turn {
+            Turn::Refused if requests >= number => ControlFlow::Continue(()),
+            Turn::Granted if requests == number.saturating_sub(1) => ControlFlow::Break(Some(
+                requests,
+            )),
+            _ => ControlFlow::Break(None),
+        }
     }
 }

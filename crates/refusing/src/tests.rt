@@ -1,6 +1,6 @@
 //! The allocator refuses what it was told to refuse, and the runner tells right calls from wrong ones.
 
-use crate::{Refusing, Turn};
+use crate::{Refusing, Turn, in_turn};
 use std::alloc::{AllocError, Allocator};
 
 /// Takes memory twice.
@@ -43,16 +43,19 @@ fn all_requests_are_refused(rt: HostRuntime) {
 #[test]
 fn each_request_is_refused_in_turn(rt: HostRuntime) {
     let heap = Refusing::new(rt.alloc());
-    assert_eq!(rt; heap.in_turn(|| turn_of(two_requests(&heap))), Some(2));
-    assert_eq!(rt; heap.in_turn(|| Turn::Granted), Some(0));
+    assert_eq!(rt; in_turn!(heap, turn_of(two_requests(&heap))), Some(2));
+    assert_eq!(rt; in_turn!(heap, Turn::Granted), Some(0));
     // A call that always answers want of memory, and one that goes on without it, are wrong.
-    assert_eq!(rt; heap.in_turn(|| Turn::Refused), None);
+    assert_eq!(rt; in_turn!(heap, Turn::Refused), None);
     assert_eq!(rt;
-        heap.in_turn(|| {
-            let _ = two_requests(&heap);
-            Turn::Granted
-        }),
+        in_turn!(
+            heap,
+            {
+                let _ = two_requests(&heap);
+                Turn::Granted
+            }
+        ),
         None
     );
-    assert_eq!(rt; heap.in_turn(|| Turn::Wrong), None);
+    assert_eq!(rt; in_turn!(heap, Turn::Wrong), None);
 }

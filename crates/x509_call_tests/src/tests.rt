@@ -27,6 +27,7 @@ mod times;
 
 use refusing::{Refusing, Turn};
 use std::alloc::{Allocator, Global};
+use std::ops::ControlFlow;
 
 /// An allocator that refuses what it is told to. This is all that most tests name of it: a function over any such
 /// allocator is proved in a third of the time that it takes over the one that there is.
@@ -40,10 +41,9 @@ pub trait Heap: Allocator + Copy {
     /// The number of requests since the last `refuse` or `refuse_all`, those refused too.
     fn requests(self) -> u64;
 
-    /// Runs a call with its first request refused, then its second, until a run meets no refusal, and answers how many
-    /// requests that one made; none where a run was wrong.
-    fn in_turn<F: FnMut() -> Turn>(self, call: F) -> Option<u64>
-        requires { F.IsAlwaysCallable call };
+    /// Whether the run in which the request of this number was refused has the next one follow; else the number of its
+    /// requests, or none where it was wrong. Refuses nothing from then on.
+    fn judge(self, number: u64, turn: Turn) -> ControlFlow<Option<u64>>;
 }
 
 impl Heap for &Refusing<Global> {
@@ -59,7 +59,7 @@ impl Heap for &Refusing<Global> {
         Refusing::requests(self)
     }
 
-    fn in_turn<F: FnMut() -> Turn>(self, call: F) -> Option<u64> {
-        Refusing::in_turn(self, call)
+    fn judge(self, number: u64, turn: Turn) -> ControlFlow<Option<u64>> {
+        Refusing::judge(self, number, turn)
     }
 }

@@ -3,7 +3,7 @@
 use crate::console::{Stop, only, read_input, show};
 use crate::fault::ToolFault;
 use crate::run_text::run_text;
-use refusing::{Refusing, Turn};
+use refusing::{Refusing, Turn, in_turn};
 use std::alloc::{AllocError, Allocator, Global};
 use std::io::{self, ErrorKind};
 use std::process::Abort;
@@ -11,11 +11,14 @@ use std::test::Fail;
 
 /// The text gives these two lines as a value of the type, and want of memory where a request is refused.
 fn prints_as(rt: &impl Abort, heap: &Refusing<Global>, type_name: &str, input: &[u8], lines: &str) {
-    let requests = heap.in_turn(|| match run_text(heap, type_name, input) {
-        Ok(output) => Turn::right(output.as_slice() == lines.as_bytes()),
-        Err(ToolFault::OutOfMemory) => Turn::Refused,
-        Err(_other) => Turn::Wrong,
-    });
+    let requests = in_turn!(
+        heap,
+        match run_text(heap, type_name, input) {
+            Ok(output) => Turn::right(output.as_slice() == lines.as_bytes()),
+            Err(ToolFault::OutOfMemory) => Turn::Refused,
+            Err(_other) => Turn::Wrong,
+        }
+    );
     assert!(rt; requests.is_some(), "{input:?}");
 }
 
@@ -32,11 +35,14 @@ fn faults_as(
     input: &[u8],
     fault: ToolFault,
 ) {
-    let requests = heap.in_turn(|| match run_text(heap, type_name, input) {
-        Ok(_output) => Turn::Wrong,
-        Err(ToolFault::OutOfMemory) => Turn::Refused,
-        Err(other) => Turn::right(other == fault),
-    });
+    let requests = in_turn!(
+        heap,
+        match run_text(heap, type_name, input) {
+            Ok(_output) => Turn::Wrong,
+            Err(ToolFault::OutOfMemory) => Turn::Refused,
+            Err(other) => Turn::right(other == fault),
+        }
+    );
     assert!(rt; requests.is_some(), "{input:?}");
 }
 
@@ -210,9 +216,12 @@ fn input_turn<A: Allocator>(answer: Result<Vec<u8, A>, Stop>, bytes: &[u8]) -> T
 fn inputs_are_read(rt: HostRuntime) {
     let heap = Refusing::new(rt.alloc());
     let bytes = [0xA5u8; 10000];
-    let requests = heap.in_turn(|| input_turn(read_input(&heap, bytes.as_slice()), &bytes));
+    let requests = in_turn!(
+        heap,
+        input_turn(read_input(&heap, bytes.as_slice()), &bytes)
+    );
     assert!(rt; requests > Some(0));
-    let requests = heap.in_turn(|| input_turn(read_input(&heap, b"".as_slice()), b""));
+    let requests = in_turn!(heap, input_turn(read_input(&heap, b"".as_slice()), b""));
     assert!(rt; requests == Some(0));
 }
 
@@ -262,7 +271,7 @@ fn broken_turn(stop: Option<Stop>) -> Turn {
 #[test]
 fn failed_reads_are_refused(rt: HostRuntime) {
     let heap = Refusing::new(rt.alloc());
-    let requests = heap.in_turn(|| broken_turn(stop_of(&heap, ErrorKind::BrokenPipe)));
+    let requests = in_turn!(heap, broken_turn(stop_of(&heap, ErrorKind::BrokenPipe)));
     assert!(rt; requests == Some(1));
     let refused = stop_of(rt.alloc(), ErrorKind::OutOfMemory);
     assert!(rt; matches!(refused, Some(Stop::Fault(ToolFault::OutOfMemory))));

@@ -2,7 +2,7 @@
 
 use super::Heap;
 use super::checks::{bytes_of, is_so, same, same_bytes};
-use refusing::{Refusing, Turn};
+use refusing::{Refusing, Turn, in_turn};
 use std::alloc::{AllocError, Allocator, Global};
 use std::process::Abort;
 use x509_der::{
@@ -75,7 +75,7 @@ fn algorithms_with_null_over<A: Heap>(rt: &impl Abort, heap: A, alloc: Global) {
     let mut maker = 0usize;
     for text in WITH_NULL {
         let bytes = bytes_of(rt, alloc, *text);
-        let requests = heap.in_turn(|| made_turn(with_null(heap, maker), &bytes));
+        let requests = in_turn!(heap, made_turn(with_null(heap, maker), &bytes));
         same(rt, &requests, &Some(1), *text);
         maker = maker.saturating_add(1);
     }
@@ -130,7 +130,7 @@ fn algorithms_without_parameters_over<A: Heap>(rt: &impl Abort, heap: A, alloc: 
     let mut maker = 0usize;
     for text in BARE {
         let bytes = bytes_of(rt, alloc, *text);
-        let requests = heap.in_turn(|| made_turn(bare(heap, maker), &bytes));
+        let requests = in_turn!(heap, made_turn(bare(heap, maker), &bytes));
         same(rt, &requests, &Some(1), *text);
         maker = maker.saturating_add(1);
     }
@@ -204,15 +204,18 @@ const AES: &[(AesMode, &str, &str, &str, &str)] = &[
 
 /// How many requests the maker of an AES algorithm makes.
 fn aes_requests<A: Heap>(heap: A, size: usize, mode: AesMode, bytes: &[u8]) -> Option<u64> {
-    heap.in_turn(|| {
-        let made = match size {
-            128 => AlgorithmIdentifier::new_aes128(heap, mode, AesParameters::Null),
-            192 => AlgorithmIdentifier::new_aes192(heap, mode, AesParameters::Null),
-            256 => AlgorithmIdentifier::new_aes256(heap, mode, AesParameters::Null),
-            _ => AlgorithmIdentifier::new_aes256_empty(heap, mode),
-        };
-        made_turn(made, bytes)
-    })
+    in_turn!(
+        heap,
+        {
+            let made = match size {
+                128 => AlgorithmIdentifier::new_aes128(heap, mode, AesParameters::Null),
+                192 => AlgorithmIdentifier::new_aes192(heap, mode, AesParameters::Null),
+                256 => AlgorithmIdentifier::new_aes256(heap, mode, AesParameters::Null),
+                _ => AlgorithmIdentifier::new_aes256_empty(heap, mode),
+            };
+            made_turn(made, bytes)
+        }
+    )
 }
 
 /// Each takes memory once.
@@ -242,7 +245,7 @@ fn initialized<A: Heap>(heap: A) -> Result<AlgorithmIdentifier<A>, AllocError> {
 fn a_vector_is_kept_over<A: Heap>(rt: &impl Abort, heap: A, alloc: Global) {
     let text = "30190609608648016503040101040ca5a5a5a5a5a5a5a5a5a5a5a5";
     let bytes = bytes_of(rt, alloc, text);
-    let requests = heap.in_turn(|| made_turn(initialized(heap), &bytes));
+    let requests = in_turn!(heap, made_turn(initialized(heap), &bytes));
     same(rt, &requests, &Some(2), text);
 }
 
@@ -274,10 +277,10 @@ const HASHES: &[(ShaVariant, &str)] = &[
 fn hash_algorithms_over<A: Heap>(rt: &impl Abort, heap: A, alloc: Global) {
     for (variant, text) in HASHES {
         let bytes = bytes_of(rt, alloc, *text);
-        let requests = heap.in_turn(|| made_turn(
-            AlgorithmIdentifier::new_sha(heap, *variant),
-            &bytes,
-        ));
+        let requests = in_turn!(
+            heap,
+            made_turn(AlgorithmIdentifier::new_sha(heap, *variant), &bytes,)
+        );
         same(rt, &requests, &Some(1), *text);
     }
 }
@@ -338,21 +341,27 @@ fn other_turn<A: Allocator>(
 fn rsa_with_hashes_over<A: Heap>(rt: &impl Abort, heap: A, alloc: Global) {
     for (variant, text) in RSA_HASHES {
         let bytes = bytes_of(rt, alloc, *text);
-        let requests = heap.in_turn(|| {
-            known_turn(
-                AlgorithmIdentifier::new_rsa_encryption_with_sha(heap, *variant),
-                &bytes,
-            )
-        });
+        let requests = in_turn!(
+            heap,
+            {
+                known_turn(
+                    AlgorithmIdentifier::new_rsa_encryption_with_sha(heap, *variant),
+                    &bytes,
+                )
+            }
+        );
         same(rt, &requests, &Some(1), *text);
     }
     for (variant, name) in OTHER_HASHES {
-        let requests = heap.in_turn(|| {
-            other_turn(
-                AlgorithmIdentifier::new_rsa_encryption_with_sha(heap, *variant),
-                *name,
-            )
-        });
+        let requests = in_turn!(
+            heap,
+            {
+                other_turn(
+                    AlgorithmIdentifier::new_rsa_encryption_with_sha(heap, *variant),
+                    *name,
+                )
+            }
+        );
         same(rt, &requests, &Some(1), *name);
     }
 }
@@ -417,13 +426,13 @@ const AUTHENTICATED: &str = "301e06096086480165030401013011040cfffffffffffffffff
 /// The identifiers take memory, the nonce and the length.
 fn algorithms_with_parameters_over<A: Heap>(rt: &impl Abort, heap: A, alloc: Global) {
     let bytes = bytes_of(rt, alloc, PSS);
-    let requests = heap.in_turn(|| made_turn(pss(heap), &bytes));
+    let requests = in_turn!(heap, made_turn(pss(heap), &bytes));
     same(rt, &requests, &Some(2), PSS);
     let bytes = bytes_of(rt, alloc, CURVE);
-    let requests = heap.in_turn(|| made_turn(curve(heap), &bytes));
+    let requests = in_turn!(heap, made_turn(curve(heap), &bytes));
     same(rt, &requests, &Some(2), CURVE);
     let bytes = bytes_of(rt, alloc, AUTHENTICATED);
-    let requests = heap.in_turn(|| made_turn(authenticated(heap), &bytes));
+    let requests = in_turn!(heap, made_turn(authenticated(heap), &bytes));
     same(rt, &requests, &Some(3), AUTHENTICATED);
 }
 
@@ -453,7 +462,7 @@ fn nonce_aa<A: Allocator + Copy>(
 fn integrity_check_values_over<A: Heap>(rt: &impl Abort, heap: A, alloc: Global) {
     for (icv_len, text) in ICV_LENS {
         let bytes = bytes_of(rt, alloc, *text);
-        let requests = heap.in_turn(|| made_turn(nonce_aa(heap, *icv_len), &bytes));
+        let requests = in_turn!(heap, made_turn(nonce_aa(heap, *icv_len), &bytes));
         same(rt, &requests, &Some(2), *text);
     }
 }
@@ -481,7 +490,7 @@ fn is_cloned<A: Heap>(
     what: &str,
 ) {
     let value = made.expect(rt, what);
-    let counted = heap.in_turn(|| clone_turn(value.parameters()));
+    let counted = in_turn!(heap, clone_turn(value.parameters()));
     same(rt, &counted, &Some(requests), what);
     heap.refuse(0);
     drop(value);

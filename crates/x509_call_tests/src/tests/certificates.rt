@@ -5,7 +5,7 @@ use super::checks::{granted, is_so, same, same_bytes};
 use picky_asn1_x509::certificate::{Certificate, TbsCertificate};
 use picky_asn1_x509::certification_request::{CertificationRequest, CertificationRequestInfo};
 use picky_asn1_x509::{Attribute, SignedRead};
-use refusing::{Refusing, Turn};
+use refusing::{Refusing, Turn, in_turn};
 use std::alloc::Allocator;
 use std::process::Abort;
 use x509_der::{
@@ -152,7 +152,7 @@ fn certificate_turn<A: Heap>(heap: A, input: &[u8], end: usize) -> Turn {
 fn certificate_is_sliced<A: Heap>(rt: &impl Abort, heap: A, text: &str, end: usize) {
     let input = decoded(rt, heap, text);
     let bytes = input.as_slice();
-    let requests = heap.in_turn(|| certificate_turn(heap, bytes, end));
+    let requests = in_turn!(heap, certificate_turn(heap, bytes, end));
     is_so(rt, requests.is_some(), text);
 }
 
@@ -219,7 +219,7 @@ fn request_turn<A: Heap>(heap: A) -> Turn {
 
 /// The test of this name, over any such allocator.
 fn signed_requests_are_sliced_over<A: Heap>(rt: &impl Abort, heap: A) {
-    let requests = heap.in_turn(|| request_turn(heap));
+    let requests = in_turn!(heap, request_turn(heap));
     is_so(rt, requests.is_some(), "a request");
 }
 

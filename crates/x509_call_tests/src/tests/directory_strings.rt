@@ -2,7 +2,7 @@
 
 use super::Heap;
 use super::checks::{is_so, same};
-use refusing::{Refusing, Turn};
+use refusing::{Refusing, Turn, in_turn};
 use std::alloc::{AllocError, Allocator};
 use std::borrow::CowStr;
 use std::fmt::{Display, Write};
@@ -37,7 +37,10 @@ fn text_turn<A: Allocator + Copy>(
 /// A text is copied, which is the one request.
 fn texts_are_copied_over<A: Heap>(rt: &impl Abort, heap: A) {
     let text = "\u{E9}*";
-    let requests = heap.in_turn(|| text_turn(DirectoryString::from_text(heap, text), text));
+    let requests = in_turn!(
+        heap,
+        text_turn(DirectoryString::from_text(heap, text), text)
+    );
     same(rt, &requests, &Some(1), "requests");
 }
 
@@ -64,7 +67,10 @@ fn lossy_turn<A: Allocator + Copy>(
 fn lossy_requests<A: Heap>(rt: &impl Abort, heap: A, bytes: &[u8], text: &str) -> Option<u64> {
     let string = string_of(rt, heap, bytes);
     let before = string_of(rt, heap, bytes);
-    heap.in_turn(|| lossy_turn(string.to_utf8_lossy(heap), text, &string, &before))
+    in_turn!(
+        heap,
+        lossy_turn(string.to_utf8_lossy(heap), text, &string, &before)
+    )
 }
 
 /// The characters of a printable and of a UTF-8 string are lent, and those of a BMP string are made.
@@ -111,7 +117,7 @@ fn turned<A: Allocator + Copy>(
 /// How many requests a copy of a string makes that is turned into text.
 fn owned_requests<A: Heap>(rt: &impl Abort, heap: A, bytes: &[u8], text: &str) -> Option<u64> {
     let before = string_of(rt, heap, bytes);
-    heap.in_turn(|| turned(heap, before.clone(), text, &before))
+    in_turn!(heap, turned(heap, before.clone(), text, &before))
 }
 
 /// The characters of a BMP string are made, and those of the others moved, behind the one request of the copy.

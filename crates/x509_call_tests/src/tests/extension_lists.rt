@@ -6,7 +6,7 @@ use super::checks::{clone_turn, granted, is_so, is_written, made_turn, same};
 use picky_asn1_x509::{
     Attribute, ExtendedKeyUsage, Extension, ExtensionView, Extensions, KeyUsage,
 };
-use refusing::Refusing;
+use refusing::{Refusing, in_turn};
 use std::alloc::{AllocError, Allocator};
 use std::process::Abort;
 use x509_der::{
@@ -125,18 +125,21 @@ const CRL_NUMBER: &[u8] = b"\x30\x0A\x06\x03\x55\x1D\x14\x04\x03\x02\x01\x01";
 
 /// Each maker of keys and constraints gives what is stated, also where memory is refused.
 fn keys_are_made_over<A: Heap>(rt: &impl Abort, heap: A) {
-    let usage = heap.in_turn(|| made_turn(key_usage(heap), KEY_USAGE));
+    let usage = in_turn!(heap, made_turn(key_usage(heap), KEY_USAGE));
     is_so(rt, usage.is_some(), "key usage");
-    let subject = heap.in_turn(|| made_turn(subject_key(heap), SUBJECT_KEY));
+    let subject = in_turn!(heap, made_turn(subject_key(heap), SUBJECT_KEY));
     is_so(rt, subject.is_some(), "subject key");
-    let authority = heap.in_turn(|| made_turn(authority_key(heap), AUTHORITY_KEY));
+    let authority = in_turn!(heap, made_turn(authority_key(heap), AUTHORITY_KEY));
     is_so(rt, authority.is_some(), "authority key");
-    let issuer = heap.in_turn(|| made_turn(authority_issuer(heap), AUTHORITY_ISSUER));
+    let issuer = in_turn!(heap, made_turn(authority_issuer(heap), AUTHORITY_ISSUER));
     is_so(rt, issuer.is_some(), "authority key by its issuer");
-    let constraints = heap.in_turn(|| made_turn(
-        Extension::new_basic_constraints(heap, Some(true), Some(3)),
-        CONSTRAINTS,
-    ));
+    let constraints = in_turn!(
+        heap,
+        made_turn(
+            Extension::new_basic_constraints(heap, Some(true), Some(3)),
+            CONSTRAINTS,
+        )
+    );
     same(rt, &constraints, &Some(1), "basic constraints");
 }
 
@@ -149,11 +152,14 @@ fn keys_are_made(rt: HostRuntime) {
 /// Any purpose, 2.5.29.37.0, makes the extension not critical, and another one doesn't.
 fn purposes_are_made_over<A: Heap>(rt: &impl Abort, heap: A) {
     let any = b"\x30\x0F\x06\x03\x55\x1D\x25\x04\x08\x30\x06\x06\x04\x55\x1D\x25\x00".as_slice();
-    let made = heap.in_turn(|| made_turn(purpose(heap, &[2, 5, 29, 37, 0]), any));
+    let made = in_turn!(heap, made_turn(purpose(heap, &[2, 5, 29, 37, 0]), any));
     is_so(rt, made.is_some(), "any purpose");
     let server =
         b"\x30\x16\x06\x03\x55\x1D\x25\x01\x01\xFF\x04\x0C\x30\x0A\x06\x08\x2B\x06\x01\x05\x05\x07\x03\x01".as_slice();
-    let made = heap.in_turn(|| made_turn(purpose(heap, &[1, 3, 6, 1, 5, 5, 7, 3, 1]), server));
+    let made = in_turn!(
+        heap,
+        made_turn(purpose(heap, &[1, 3, 6, 1, 5, 5, 7, 3, 1]), server)
+    );
     is_so(rt, made.is_some(), "a server's purpose");
 }
 
@@ -165,11 +171,11 @@ fn purposes_are_made(rt: HostRuntime) {
 
 /// The makers of names and numbers.
 fn names_are_made_over<A: Heap>(rt: &impl Abort, heap: A) {
-    let subject = heap.in_turn(|| made_turn(subject_names(heap), SUBJECT_NAMES));
+    let subject = in_turn!(heap, made_turn(subject_names(heap), SUBJECT_NAMES));
     is_so(rt, subject.is_some(), "the subject's");
-    let issuer = heap.in_turn(|| made_turn(issuer_names(heap), ISSUER_NAMES));
+    let issuer = in_turn!(heap, made_turn(issuer_names(heap), ISSUER_NAMES));
     is_so(rt, issuer.is_some(), "the issuer's");
-    let number = heap.in_turn(|| made_turn(crl_number(heap), CRL_NUMBER));
+    let number = in_turn!(heap, made_turn(crl_number(heap), CRL_NUMBER));
     is_so(rt, number.is_some(), "a list's number");
 }
 
@@ -206,16 +212,22 @@ const DIGEST: &[u8] = b"\x30\x10\x06\x09\x2A\x86\x48\x86\xF7\x0D\x01\x09\x04\x31
 
 /// Each maker of attributes gives what is stated, also where memory is refused.
 fn attributes_are_made_over<A: Heap>(rt: &impl Abort, heap: A) {
-    let request = heap.in_turn(|| made_turn(
-        Attribute::new_extension_request(heap, Vec::new(heap)),
-        REQUEST,
-    ));
+    let request = in_turn!(
+        heap,
+        made_turn(
+            Attribute::new_extension_request(heap, Vec::new(heap)),
+            REQUEST,
+        )
+    );
     is_so(rt, request.is_some(), "a request");
-    let content = heap.in_turn(|| made_turn(Attribute::new_content_type_pkcs7(heap), CONTENT_TYPE));
+    let content = in_turn!(
+        heap,
+        made_turn(Attribute::new_content_type_pkcs7(heap), CONTENT_TYPE)
+    );
     is_so(rt, content.is_some(), "a content type");
-    let time = heap.in_turn(|| made_turn(signing_time(heap), SIGNING_TIME));
+    let time = in_turn!(heap, made_turn(signing_time(heap), SIGNING_TIME));
     is_so(rt, time.is_some(), "a time");
-    let digest = heap.in_turn(|| made_turn(digest(heap), DIGEST));
+    let digest = in_turn!(heap, made_turn(digest(heap), DIGEST));
     is_so(rt, digest.is_some(), "a digest");
 }
 
@@ -233,7 +245,7 @@ fn values_requests<A: Heap>(
 ) -> Option<u64> {
     let attribute = granted(rt, made);
     let values = &attribute.value;
-    let requests = heap.in_turn(|| clone_turn(values.clone(), values));
+    let requests = in_turn!(heap, clone_turn(values.clone(), values));
     drop(attribute);
     requests
 }

@@ -3,7 +3,7 @@
 use super::Heap;
 use super::checks::{is_so, is_written, same, same_bytes};
 use picky_asn1_x509::{AuthorityKeyIdentifier, BasicConstraints, ExtendedKeyUsage, KeyUsage};
-use refusing::{Refusing, Turn};
+use refusing::{Refusing, Turn, in_turn};
 use std::alloc::{AllocError, Allocator};
 use std::process::Abort;
 use x509_der::{ObjectIdentifier, ObjectIdentifierAsn1, from_bytes};
@@ -19,9 +19,9 @@ fn made_turn<A: Allocator>(answer: Result<KeyUsage<A>, AllocError>, bytes: &[u8]
 
 /// The test of this name, over any such allocator.
 fn usages_are_made_over<A: Heap>(rt: &impl Abort, heap: A) {
-    let nine = heap.in_turn(|| made_turn(KeyUsage::new_default(heap), b"\x00\x00"));
+    let nine = in_turn!(heap, made_turn(KeyUsage::new_default(heap), b"\x00\x00"));
     same(rt, &nine, &Some(1), "nine bits");
-    let seven = heap.in_turn(|| made_turn(KeyUsage::new(heap, 7), b"\x00"));
+    let seven = in_turn!(heap, made_turn(KeyUsage::new(heap, 7), b"\x00"));
     same(rt, &seven, &Some(1), "seven bits");
 }
 
@@ -86,14 +86,15 @@ const LENGTHENED: &[(usize, &[u8], &[u8])] = &[
 /// A setter past the end lengthens to its bit and no further, also to clear it, and takes memory once.
 fn usages_are_lengthened_over<A: Heap>(rt: &impl Abort, heap: A) {
     for (bit, set, cleared) in LENGTHENED {
-        let requests = heap.in_turn(|| lengthened_turn(KeyUsage::new(heap, 0), *bit, true, *set));
+        let requests = in_turn!(
+            heap,
+            lengthened_turn(KeyUsage::new(heap, 0), *bit, true, *set)
+        );
         same(rt, &requests, &Some(1), "set");
-        let requests = heap.in_turn(|| lengthened_turn(
-            KeyUsage::new(heap, 0),
-            *bit,
-            false,
-            *cleared,
-        ));
+        let requests = in_turn!(
+            heap,
+            lengthened_turn(KeyUsage::new(heap, 0), *bit, false, *cleared,)
+        );
         same(rt, &requests, &Some(1), "cleared");
     }
 }

@@ -4,7 +4,7 @@ ghost use Rattle.std.proofs.Common.{◌≡◌, ap};
 
 use super::Heap;
 use super::checks::{is_so, same, same_bytes};
-use refusing::{Refusing, Turn};
+use refusing::{Refusing, Turn, in_turn};
 use std::alloc::{Allocator, Global};
 use std::process::Abort;
 use x509_der::parts::{FirstField, Join, Optional, Structure, read_first_field};
@@ -218,10 +218,10 @@ fn flagged_turn<A: Heap>(heap: A, bytes: &[u8], slice: &[u8]) -> Turn {
 fn optional_first_fields_are_sliced_over<A: Heap>(rt: &impl Abort, heap: A) {
     let algorithm = b"\x30\x05\x06\x01\x2A\x05\x00".as_slice();
     let there = b"\x30\x0A\x30\x05\x06\x01\x2A\x05\x00\x01\x01\xFF".as_slice();
-    let requests = heap.in_turn(|| flagged_turn(heap, there, algorithm));
+    let requests = in_turn!(heap, flagged_turn(heap, there, algorithm));
     same(rt, &requests, &Some(1), "an algorithm");
     let absent = b"\x30\x03\x01\x01\xFF".as_slice();
-    let requests = heap.in_turn(|| flagged_turn(heap, absent, b""));
+    let requests = in_turn!(heap, flagged_turn(heap, absent, b""));
     same(rt, &requests, &Some(0), "no algorithm");
 }
 

@@ -2,7 +2,7 @@
 
 use super::Heap;
 use super::checks::{bytes_of, is_so, same, same_bytes};
-use refusing::{Refusing, Turn};
+use refusing::{Refusing, Turn, in_turn};
 use std::alloc::{AllocError, Allocator, Global};
 use std::process::Abort;
 use x509_der::{ObjectIdentifier, ToDer, from_bytes, write_to_slice};
@@ -100,7 +100,7 @@ fn arcs_turn<A: Allocator>(answer: Result<ObjectIdentifier<A>, AllocError>, arcs
 fn hash_identifiers_over<A: Heap>(rt: &impl Abort, heap: A) {
     for (hash, last, _len) in HASHES {
         let arcs = [2, 16, 840, 1, 101, 3, 4, 2, *last];
-        let requests = heap.in_turn(|| arcs_turn(hash.to_oid(heap), &arcs));
+        let requests = in_turn!(heap, arcs_turn(hash.to_oid(heap), &arcs));
         same(rt, &requests, &Some(1), "requests");
     }
 }
@@ -114,7 +114,7 @@ fn hash_identifiers(rt: HostRuntime) {
 /// The identifier of a hash function takes memory once.
 fn sha_identifiers_over<A: Heap>(rt: &impl Abort, heap: A) {
     for (sha, arcs, _name) in SHAS {
-        let requests = heap.in_turn(|| arcs_turn(sha.to_oid(heap), arcs));
+        let requests = in_turn!(heap, arcs_turn(sha.to_oid(heap), arcs));
         same(rt, &requests, &Some(1), "requests");
     }
 }
@@ -197,17 +197,17 @@ fn unsupported_turn<T: Drop, A: Allocator>(
 /// refused first.
 fn others_are_named_over<A: Heap>(rt: &impl Abort, heap: A) {
     let sha1 = ObjectIdentifier::from_arcs(heap, &[1, 3, 14, 3, 2, 26]).expect(rt, "lawful arcs");
-    let requests = heap.in_turn(|| unsupported_turn(
-        HashAlgorithm::from_oid(heap, &sha1),
-        "1.3.14.3.2.26",
-    ));
+    let requests = in_turn!(
+        heap,
+        unsupported_turn(HashAlgorithm::from_oid(heap, &sha1), "1.3.14.3.2.26",)
+    );
     is_so(rt, requests.is_some(), "SHA-1");
     let front = ObjectIdentifier::from_arcs(heap, &[2, 16, 840, 1, 101, 3, 4, 2]);
     let front = front.expect(rt, "lawful arcs");
-    let requests = heap.in_turn(|| unsupported_turn(
-        ShaVariant::from_oid(heap, &front),
-        "2.16.840.1.101.3.4.2",
-    ));
+    let requests = in_turn!(
+        heap,
+        unsupported_turn(ShaVariant::from_oid(heap, &front), "2.16.840.1.101.3.4.2",)
+    );
     is_so(rt, requests.is_some(), "the prefix");
 }
 
@@ -289,13 +289,16 @@ fn masks_are_made_over<A: Heap>(rt: &impl Abort, heap: A) {
     let strict = strict_of(rt, heap, MASK);
     let mut room = Vec::from_elem(heap, 0u8, strict.len()).expect(rt, "memory");
     let room = room.as_mut_slice();
-    let requests = heap.in_turn(|| {
-        made_turn(
-            MaskGenAlgorithm::new(heap, HashAlgorithm::SHA3_384),
-            &strict,
-            room,
-        )
-    });
+    let requests = in_turn!(
+        heap,
+        {
+            made_turn(
+                MaskGenAlgorithm::new(heap, HashAlgorithm::SHA3_384),
+                &strict,
+                room,
+            )
+        }
+    );
     same(rt, &requests, &Some(1), "requests");
 }
 
@@ -310,7 +313,10 @@ fn parameters_are_made<A: Heap>(rt: &impl Abort, heap: A, hash: HashAlgorithm, t
     let strict = strict_of(rt, heap, text);
     let mut room = Vec::from_elem(heap, 0u8, strict.len()).expect(rt, "memory");
     let room = room.as_mut_slice();
-    let requests = heap.in_turn(|| made_turn(RsassaPssParams::new(heap, hash), &strict, room));
+    let requests = in_turn!(
+        heap,
+        made_turn(RsassaPssParams::new(heap, hash), &strict, room)
+    );
     same(rt, &requests, &Some(1), text);
 }
 

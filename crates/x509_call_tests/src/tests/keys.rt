@@ -2,7 +2,7 @@
 
 use super::Heap;
 use super::checks::{bytes_of, is_so, same_bytes};
-use refusing::{Refusing, Turn};
+use refusing::{Refusing, Turn, in_turn};
 use std::alloc::{AllocError, Allocator, Global};
 use std::process::Abort;
 use x509_der::{
@@ -120,9 +120,9 @@ fn ec_key<A: Allocator + Copy>(alloc: A) -> Result<SubjectPublicKeyInfo<A>, Allo
 
 /// The makers of public keys that take memory.
 fn public_keys_are_made_over<A: Heap>(rt: &impl Abort, heap: A) {
-    let requests = heap.in_turn(|| made_turn(rsa_key(heap), RSA_SUBJECT));
+    let requests = in_turn!(heap, made_turn(rsa_key(heap), RSA_SUBJECT));
     is_so(rt, requests.is_some(), "an RSA key");
-    let requests = heap.in_turn(|| made_turn(ec_key(heap), EC_SUBJECT));
+    let requests = in_turn!(heap, made_turn(ec_key(heap), EC_SUBJECT));
     is_so(rt, requests.is_some(), "a point");
 }
 
@@ -208,9 +208,9 @@ fn rsa_turn<A: Allocator + Copy>(alloc: A, numbers: &[u8], bytes: &[u8]) -> Turn
 
 /// The numbers are taken in their order, and both versions are 0.
 fn rsa_private_keys_are_made_over<A: Heap>(rt: &impl Abort, heap: A) {
-    let requests = heap.in_turn(|| rsa_turn(heap, RSA_KEY, RSA_INFO));
+    let requests = in_turn!(heap, rsa_turn(heap, RSA_KEY, RSA_INFO));
     is_so(rt, requests.is_some(), "the numbers 1 to 8");
-    let requests = heap.in_turn(|| rsa_turn(heap, RSA_KEY_OF_ONES, RSA_INFO_OF_ONES));
+    let requests = in_turn!(heap, rsa_turn(heap, RSA_KEY_OF_ONES, RSA_INFO_OF_ONES));
     is_so(rt, requests.is_some(), "eight numbers 1");
 }
 
@@ -240,11 +240,14 @@ fn ec_info_with_point<A: Allocator + Copy>(alloc: A) -> Result<PrivateKeyInfo<A>
 
 /// The curve is left out of the key, or stands in it; and so does a point.
 fn ec_private_keys_are_made_over<A: Heap>(rt: &impl Abort, heap: A) {
-    let requests = heap.in_turn(|| made_turn(ec_info(heap, true), EC_INFO));
+    let requests = in_turn!(heap, made_turn(ec_info(heap, true), EC_INFO));
     is_so(rt, requests.is_some(), "the curve left out");
-    let requests = heap.in_turn(|| made_turn(ec_info(heap, false), EC_INFO_WITH_CURVE));
+    let requests = in_turn!(heap, made_turn(ec_info(heap, false), EC_INFO_WITH_CURVE));
     is_so(rt, requests.is_some(), "the curve in the key");
-    let requests = heap.in_turn(|| made_turn(ec_info_with_point(heap), EC_INFO_WITH_POINT));
+    let requests = in_turn!(
+        heap,
+        made_turn(ec_info_with_point(heap), EC_INFO_WITH_POINT)
+    );
     is_so(rt, requests.is_some(), "a point in the key");
 }
 
@@ -290,11 +293,11 @@ fn is_of_no_version<T: FromDer<A>, A: Heap>(heap: A, bytes: &[u8]) -> bool {
 
 /// Keys of versions that no reader takes are written by their parts, and aren't read back.
 fn other_versions_are_written_over<A: Heap>(rt: &impl Abort, heap: A) {
-    let requests = heap.in_turn(|| made_turn(other_info(heap), OTHER_INFO));
+    let requests = in_turn!(heap, made_turn(other_info(heap), OTHER_INFO));
     is_so(rt, requests.is_some(), "version 2");
     let is_refused = is_of_no_version::<PrivateKeyInfo<A>, A>(heap, OTHER_INFO);
     is_so(rt, is_refused, "version 2 is refused");
-    let requests = heap.in_turn(|| made_turn(other_ec_key(heap), OTHER_EC_KEY));
+    let requests = in_turn!(heap, made_turn(other_ec_key(heap), OTHER_EC_KEY));
     is_so(rt, requests.is_some(), "version 0 of a curve's key");
     let is_refused = is_of_no_version::<ECPrivateKey<A>, A>(heap, OTHER_EC_KEY);
     is_so(rt, is_refused, "version 0 of a curve's key is refused");

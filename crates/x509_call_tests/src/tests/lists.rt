@@ -1,7 +1,7 @@
 //! Lists and containers.
 
 use super::Heap;
-use refusing::{Refusing, Turn};
+use refusing::{Refusing, Turn, in_turn};
 use std::alloc::Global;
 use std::process::Abort;
 use x509_der::parts::{Content, ContentOf, Explicit0, Tagged};
@@ -56,7 +56,7 @@ fn content_is_read<A: Heap, T: FromDer<A> + Content<A> + PartialEq>(
     under: &[u8],
 ) {
     let stated = from_bytes::<T, _>(heap, element).expect(rt, "a value");
-    let requests = heap.in_turn(|| content_turn(heap, under, &stated));
+    let requests = in_turn!(heap, content_turn(heap, under, &stated));
     assert!(rt; requests.is_some(), "{element:?}");
 }
 

@@ -2,7 +2,7 @@
 
 use super::Heap;
 use super::checks::same;
-use refusing::{Refusing, Turn};
+use refusing::{Refusing, Turn, in_turn};
 use std::alloc::{AllocError, Allocator};
 use std::process::Abort;
 use x509_der::{
@@ -30,7 +30,10 @@ fn arcs_turn<A: Allocator>(answer: Result<ObjectIdentifier<A>, OidError>, arcs: 
 /// The test of this name, over any such allocator.
 fn identifiers_are_made_over<A: Heap>(rt: &impl Abort, heap: A) {
     let arcs = [1, 2, 840, 113549, 2, 9];
-    let requests = heap.in_turn(|| arcs_turn(ObjectIdentifier::from_arcs(heap, &arcs), &arcs));
+    let requests = in_turn!(
+        heap,
+        arcs_turn(ObjectIdentifier::from_arcs(heap, &arcs), &arcs)
+    );
     same(rt, &requests, &Some(1), "requests");
 }
 
@@ -56,7 +59,7 @@ fn read_turn<A: Allocator>(
 fn identifiers_are_read_over<A: Heap>(rt: &impl Abort, heap: A) {
     let bytes = b"\x06\x08\x2A\x86\x48\x86\xF7\x0D\x02\x09".as_slice();
     let arcs = [1, 2, 840, 113549, 2, 9];
-    let requests = heap.in_turn(|| read_turn(from_bytes(heap, bytes), &arcs));
+    let requests = in_turn!(heap, read_turn(from_bytes(heap, bytes), &arcs));
     same(rt, &requests, &Some(1), "requests");
 }
 
@@ -88,12 +91,12 @@ fn unsigned_is_right<A: Allocator + Copy>(
 
 /// How many requests the bytes of a signed number make.
 fn signed_requests<A: Heap>(heap: A, given: &[u8], held: &[u8]) -> Option<u64> {
-    heap.in_turn(|| made_turn(signed_is_right(heap, given, held)))
+    in_turn!(heap, made_turn(signed_is_right(heap, given, held)))
 }
 
 /// How many requests the bytes of a number without a sign make.
 fn unsigned_requests<A: Heap>(heap: A, given: &[u8], held: &[u8]) -> Option<u64> {
-    heap.in_turn(|| made_turn(unsigned_is_right(heap, given, held)))
+    in_turn!(heap, made_turn(unsigned_is_right(heap, given, held)))
 }
 
 /// Zero is one byte.
@@ -132,7 +135,7 @@ fn unsigned_integers_are_made(rt: HostRuntime) {
 
 /// The test of this name, over any such allocator.
 fn zero_is_made_over<A: Heap>(rt: &impl Abort, heap: A) {
-    let requests = heap.in_turn(|| made_turn(zero_is_right(heap)));
+    let requests = in_turn!(heap, made_turn(zero_is_right(heap)));
     same(rt, &requests, &Some(1), "requests");
 }
 
@@ -154,7 +157,7 @@ fn natural_is_right<A: Allocator + Copy>(
 
 /// How many requests the integer of a number makes.
 fn natural_requests<A: Heap>(heap: A, number: u64, held: &[u8]) -> Option<u64> {
-    heap.in_turn(|| made_turn(natural_is_right(heap, number, held)))
+    in_turn!(heap, made_turn(natural_is_right(heap, number, held)))
 }
 
 /// Numbers, and the contents of their integers.
@@ -204,12 +207,12 @@ fn resized_is_right<A: Allocator + Copy>(
 
 /// How many requests that makes, with the byte's own.
 fn resized_requests<A: Heap>(heap: A, bits: usize, held: &[u8]) -> Option<u64> {
-    heap.in_turn(|| made_turn(resized_is_right(heap, bits, held)))
+    in_turn!(heap, made_turn(resized_is_right(heap, bits, held)))
 }
 
 /// The test of this name, over any such allocator.
 fn bit_strings_are_made_over<A: Heap>(rt: &impl Abort, heap: A) {
-    let requests = heap.in_turn(|| made_turn(unset_bits_are_right(heap)));
+    let requests = in_turn!(heap, made_turn(unset_bits_are_right(heap)));
     same(rt, &requests, &Some(1), "requests");
 }
 
@@ -249,7 +252,7 @@ fn growth_turn<A: Allocator>(bytes: Result<Vec<u8, A>, AllocError>) -> Turn {
 
 /// A refused `set_num_bits` leaves the bits as they were.
 fn bit_strings_are_grown_over<A: Heap>(rt: &impl Abort, heap: A) {
-    let requests = heap.in_turn(|| growth_turn(Vec::from_slice(heap, b"\xA5")));
+    let requests = in_turn!(heap, growth_turn(Vec::from_slice(heap, b"\xA5")));
     same(rt, &requests, &Some(2), "requests");
 }
 
@@ -264,10 +267,13 @@ const UNITS: &[u8] = b"\xD8\x3D\xDE\x00\x00a\x00b\x00c\x00d\x00e\x00f";
 
 /// The bytes of a text's units take memory as they come.
 fn units_are_made_over<A: Heap>(rt: &impl Abort, heap: A) {
-    let requests = heap.in_turn(|| match BmpString::from_string(heap, "\u{1F600}abcdef") {
-        Ok(made) => Turn::right(made.as_bytes() == UNITS),
-        Err(AllocError) => Turn::Refused,
-    });
+    let requests = in_turn!(
+        heap,
+        match BmpString::from_string(heap, "\u{1F600}abcdef") {
+            Ok(made) => Turn::right(made.as_bytes() == UNITS),
+            Err(AllocError) => Turn::Refused,
+        }
+    );
     assert!(rt; requests > Some(0));
 }
 

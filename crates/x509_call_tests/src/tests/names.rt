@@ -2,7 +2,7 @@
 
 use super::Heap;
 use super::checks::{clone_turn, is_so, is_written, made_turn, same};
-use refusing::{Refusing, Turn};
+use refusing::{Refusing, Turn, in_turn};
 use std::alloc::{AllocError, Allocator};
 use std::process::Abort;
 use x509_der::{FromDer, ObjectIdentifier, from_bytes};
@@ -80,7 +80,7 @@ fn attribute_turn<A: Allocator + Copy>(alloc: A, attr: &NameAttr, arc: u8) -> Tu
 /// Each is made by two requests: one for the text, and one for the type.
 fn attributes_are_made_over<A: Heap>(rt: &impl Abort, heap: A) {
     for (attr, arc) in ATTRS {
-        let requests = heap.in_turn(|| attribute_turn(heap, attr, *arc));
+        let requests = in_turn!(heap, attribute_turn(heap, attr, *arc));
         same(rt, &requests, &Some(2), "requests");
     }
 }
@@ -107,7 +107,7 @@ fn email_turn<A: Allocator + Copy>(alloc: A) -> Turn {
 
 /// The test of this name, over any such allocator.
 fn addresses_are_made_over<A: Heap>(rt: &impl Abort, heap: A) {
-    let requests = heap.in_turn(|| email_turn(heap));
+    let requests = in_turn!(heap, email_turn(heap));
     same(rt, &requests, &Some(2), "requests");
 }
 
@@ -144,9 +144,9 @@ const CONTOSO: &[u8] = b"\x30\x1D\x31\x1B\x30\x19\x06\x03\x55\x04\x03\x0C\x12tes
 
 /// A name takes four requests: for the text, its type, the set and the list.
 fn names_are_made_over<A: Heap>(rt: &impl Abort, heap: A) {
-    let requests = heap.in_turn(|| made_turn(named(heap, "a"), NAMED));
+    let requests = in_turn!(heap, made_turn(named(heap, "a"), NAMED));
     same(rt, &requests, &Some(4), "one letter");
-    let requests = heap.in_turn(|| made_turn(named(heap, "test.contoso.local"), CONTOSO));
+    let requests = in_turn!(heap, made_turn(named(heap, "test.contoso.local"), CONTOSO));
     same(rt, &requests, &Some(4), "18 letters");
 }
 
@@ -180,7 +180,7 @@ fn addressed_turn<A: Allocator + Copy>(alloc: A) -> Turn {
 
 /// A name takes as many requests by its e-mail address.
 fn names_of_addresses_are_made_over<A: Heap>(rt: &impl Abort, heap: A) {
-    let requests = heap.in_turn(|| addressed_turn(heap));
+    let requests = in_turn!(heap, addressed_turn(heap));
     same(rt, &requests, &Some(4), "requests");
 }
 
@@ -223,7 +223,7 @@ fn email_added_turn<A: Allocator + Copy>(alloc: A, name: &mut Name<A>) -> Turn {
 /// A telephone number is added behind what stands there, or nothing is.
 fn attributes_are_added_over<A: Heap>(rt: &impl Abort, heap: A) {
     let mut name = named(heap, "a").expect(rt, "memory");
-    let requests = heap.in_turn(|| phone_turn(heap, &mut name));
+    let requests = in_turn!(heap, phone_turn(heap, &mut name));
     is_so(rt, requests.is_some(), "a telephone number");
 }
 
@@ -236,7 +236,7 @@ fn attributes_are_added(rt: HostRuntime) {
 /// An e-mail address is added behind what stands there, or nothing is.
 fn addresses_are_added_over<A: Heap>(rt: &impl Abort, heap: A) {
     let mut name = named(heap, "a").expect(rt, "memory");
-    let requests = heap.in_turn(|| email_added_turn(heap, &mut name));
+    let requests = in_turn!(heap, email_added_turn(heap, &mut name));
     is_so(rt, requests.is_some(), "an e-mail address");
 }
 
@@ -335,7 +335,7 @@ fn values_are_cloned_over<A: Heap>(rt: &impl Abort, heap: A) {
     let text = text_of(heap, "a").expect(rt, "memory");
     let attribute = AttributeTypeAndValue::new_common_name(heap, text).expect(rt, "memory");
     let value = &attribute.value;
-    let requests = heap.in_turn(|| clone_turn(value.clone(), value));
+    let requests = in_turn!(heap, clone_turn(value.clone(), value));
     same(rt, &requests, &Some(1), "requests");
     drop(attribute);
 }

@@ -11,7 +11,7 @@ macro_rules! lines {
 mod algorithms;
 mod objects;
 
-use refusing::{Refusing, Turn};
+use refusing::{Refusing, Turn, in_turn};
 use std::alloc::{AllocError, Allocator};
 use std::fmt::{self, Write};
 use x509_der::{ObjectIdentifier, OidError};
@@ -88,17 +88,23 @@ impl Checked {
 #[test]
 fn each_line_is_as_stated(rt: HostRuntime) {
     let heap = Refusing::new(rt.alloc());
-    let requests = heap.in_turn(|| {
-        let mut checked = NONE;
-        algorithms::lines(&heap, &mut checked);
-        checked.turn()
-    });
+    let requests = in_turn!(
+        heap,
+        {
+            let mut checked = NONE;
+            algorithms::lines(&heap, &mut checked);
+            checked.turn()
+        }
+    );
     assert_eq!(rt; requests, Some(95));
-    let requests = heap.in_turn(|| {
-        let mut checked = NONE;
-        objects::lines(&heap, &mut checked);
-        checked.turn()
-    });
+    let requests = in_turn!(
+        heap,
+        {
+            let mut checked = NONE;
+            objects::lines(&heap, &mut checked);
+            checked.turn()
+        }
+    );
     assert_eq!(rt; requests, Some(90));
 }
 
@@ -140,7 +146,10 @@ fn texts_are_read(rt: HostRuntime) {
         "1.3.6.1.5.2.3.2",
         "0.0",
     ] {
-        let requests = heap.in_turn(|| read_turn(ObjectIdentifier::from_text(&heap, *text), *text));
+        let requests = in_turn!(
+            heap,
+            read_turn(ObjectIdentifier::from_text(&heap, *text), *text)
+        );
         assert!(rt; requests.is_some(), "{text}");
     }
 }
@@ -175,7 +184,7 @@ fn other_texts_are_bad(rt: HostRuntime) {
         "a.b",
         "1,2",
     ] {
-        let requests = heap.in_turn(|| bad_turn(ObjectIdentifier::from_text(&heap, *text)));
+        let requests = in_turn!(heap, bad_turn(ObjectIdentifier::from_text(&heap, *text)));
         assert!(rt; requests.is_some(), "{text}");
     }
 }

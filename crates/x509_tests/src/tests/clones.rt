@@ -1,7 +1,7 @@
 //! The clones that types have of their own, beside that of `CloneEq`, so that every row calls both.
 
 use super::rows::{Heap, copy_turn};
-use refusing::Refusing;
+use refusing::{Refusing, in_turn};
 use std::alloc::{AllocError, Allocator};
 use std::process::Abort;
 use x509_der::{
@@ -225,7 +225,7 @@ pub(super) fn clones_in_turn<'v, A: Heap, T: OwnClone + PartialEq>(
     value: &'v T,
     before: &'v T,
 ) -> Option<u64> {
-    heap.in_turn(|| copy_turn(value.own_clone(), value, before))
+    in_turn!(heap, copy_turn(value.own_clone(), value, before))
 }
 
 /// A clone of the one makes one request and is equal to the other.

@@ -3,8 +3,9 @@
 
 use super::clones::{OwnClone, clones_in_turn};
 use super::fields::{Field, SAMPLES, replaced};
-use refusing::{Refusing, Turn};
+use refusing::{Refusing, Turn, in_turn};
 use std::alloc::{AllocError, Allocator, Global};
+use std::ops::ControlFlow;
 use std::process::Abort;
 use x509_der::{
     CloneEq, Deviation, Deviations, FromDer, Place, ReadError, SliceError, ToDer, WriteError,
@@ -23,10 +24,9 @@ pub trait Heap: Allocator + Copy {
     /// The number of requests since the last `refuse` or `refuse_all`, those refused too.
     fn requests(self) -> u64;
 
-    /// Runs a call with its first request refused, then its second, until a run meets no refusal, and answers how many
-    /// requests that one made; none where a run was wrong.
-    fn in_turn<F: FnMut() -> Turn>(self, call: F) -> Option<u64>
-        requires { F.IsAlwaysCallable call };
+    /// Whether the run in which the request of this number was refused has the next one follow; else the number of its
+    /// requests, or none where it was wrong. Refuses nothing from then on.
+    fn judge(self, number: u64, turn: Turn) -> ControlFlow<Option<u64>>;
 }
 
 impl Heap for &Refusing<Global> {
@@ -42,8 +42,8 @@ impl Heap for &Refusing<Global> {
         Refusing::requests(self)
     }
 
-    fn in_turn<F: FnMut() -> Turn>(self, call: F) -> Option<u64> {
-        Refusing::in_turn(self, call)
+    fn judge(self, number: u64, turn: Turn) -> ControlFlow<Option<u64>> {
+        Refusing::judge(self, number, turn)
     }
 }
 
@@ -271,7 +271,10 @@ fn requests_of<A: Heap, T: FromDer<A>>(
     strict: &[u8],
     room: &mut [u8],
 ) -> Option<u64> {
-    heap.in_turn(|| read_turn(read_by::<A, T>(reading, heap, input), strict, room))
+    in_turn!(
+        heap,
+        read_turn(read_by::<A, T>(reading, heap, input), strict, room)
+    )
 }
 
 /// Each call that reads answers want of memory where a request of its own is refused, and the value where none is.
@@ -300,11 +303,14 @@ pub(super) fn reads_in_turn<A: Heap, T: FromDer<A>>(
 
 /// How many requests `to_vec` makes where it gives these bytes, and want of memory where one is refused.
 fn writes_in_turn<A: Heap, T: ToDer>(heap: A, value: &T, strict: &[u8]) -> Option<u64> {
-    heap.in_turn(|| match to_vec(heap, value) {
-        Ok(bytes) => Turn::right(bytes.as_slice() == strict),
-        Err(WriteError::OutOfMemory) => Turn::Refused,
-        Err(WriteError::TooLong) => Turn::Wrong,
-    })
+    in_turn!(
+        heap,
+        match to_vec(heap, value) {
+            Ok(bytes) => Turn::right(bytes.as_slice() == strict),
+            Err(WriteError::OutOfMemory) => Turn::Refused,
+            Err(WriteError::TooLong) => Turn::Wrong,
+        }
+    )
 }
 
 /// Every call that writes gives the DER encoding and leaves what stands behind it; `to_vec` takes memory once, and the
@@ -381,7 +387,7 @@ fn copies_in_turn<'v, A: Heap, T: CloneEq + PartialEq + Drop>(
     value: &'v T,
     before: &'v T,
 ) -> Option<u64> {
-    heap.in_turn(|| copy_turn(value.clone_eq(), value, before))
+    in_turn!(heap, copy_turn(value.clone_eq(), value, before))
 }
 
 /// The value of the encoding is cloned as itself, by either call, also where memory is refused first.
@@ -417,7 +423,7 @@ fn refused_turn<T: Drop>(answer: Result<T, ReadError>) -> Turn {
 /// No call reads the bytes, also where memory is refused first, and the headers are bounded.
 pub(super) fn refuses<A: Heap, T: FromDer<A>>(rt: &impl Abort, heap: A, input: &[u8]) {
     for reading in READINGS {
-        let requests = heap.in_turn(|| refused_turn(read_by::<A, T>(*reading, heap, input)));
+        let requests = in_turn!(heap, refused_turn(read_by::<A, T>(*reading, heap, input)));
         assert!(rt; requests.is_some(), "{input:?} is read");
     }
     assert!(rt;
