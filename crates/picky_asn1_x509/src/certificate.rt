@@ -12,11 +12,11 @@ ghost use Rattle.picky_asn1_x509.specs.facts.Certificates.{certificate_same, cer
 
 use crate::signed_read::SignedRead;
 pub use crate::tbs_certificate::TbsCertificate;
+use crate::three::{read_three, three_len, write_three};
 use picky_asn1_x509_parts::{AuthorityKeyIdentifier, BasicConstraints, Extension, ExtensionView};
 use std::alloc::{AllocError, Allocator, Global};
 use x509_der::parts::{
     Field, Join, Reader, SEQUENCE_TAG, Sequence, Structure, Tagged, clone_three, read_first_field,
-    read_sequence,
 };
 use x509_der::{BitStringAsn1, CloneEq, FromDer, ReadError, ToDer, TooLong};
 use x509_keys::AlgorithmIdentifier;
@@ -165,11 +165,8 @@ impl<A: Allocator + Copy> CloneEq for Certificate<A> {
 /// The signature behind its algorithm, owned.
 pub type Signature<A> = Join<AlgorithmIdentifier<A>, BitStringAsn1<A>>;
 
-/// The fields as they stand in the SEQUENCE, owned or borrowed.
-type Nest<T, S, V> = Tagged<Sequence, Join<T, Join<S, V>>>;
-
 /// The SEQUENCE, owned.
-type Fields<A> = Nest<TbsCertificate<A>, AlgorithmIdentifier<A>, BitStringAsn1<A>>;
+type Fields<A> = Tagged<Sequence, Inner<A>>;
 
 /// The fields, owned.
 type Inner<A> = Join<TbsCertificate<A>, Signature<A>>;
@@ -178,13 +175,20 @@ impl<A: Allocator> ToDer for Certificate<A> {
     ghost strict = { certificate_bytes };
 
     fn encoded_len(&self) -> Result<usize, TooLong> {
-        let signature = Join(&self.signature_algorithm, &self.signature_value);
-        Nest::new(Join(&self.tbs_certificate, signature)).encoded_len()
+        three_len(
+            &self.tbs_certificate,
+            &self.signature_algorithm,
+            &self.signature_value,
+        )
     }
 
     fn write_back(&self, out: &mut [u8]) -> usize {
-        let signature = Join(&self.signature_algorithm, &self.signature_value);
-        Nest::new(Join(&self.tbs_certificate, signature)).write_back(out)
+        write_three(
+            &self.tbs_certificate,
+            &self.signature_algorithm,
+            &self.signature_value,
+            out,
+        )
     }
 }
 
@@ -225,7 +229,9 @@ impl<A: Allocator + Copy> Field<A> for Certificate<A> {
     }
 
     fn read(alloc: A, reader: &mut Reader<'_, A>) -> Result<Self, ReadError> {
-        read_sequence::<Self, Inner<A>, A>(alloc, reader)
+        read_three::<Self, TbsCertificate<A>, AlgorithmIdentifier<A>, BitStringAsn1<A>, A>(
+            alloc, reader,
+        )
     }
 }
 

@@ -3,6 +3,9 @@
 ghost use Rattle.std.specs.Prelude.{◌≡◌, ◌++◌, ◌∷◌, [], refl, IfOk, IfErr, OnOk, OnErr};
 ghost use Rattle.x509_der.specs.Calls.{NoWhole};
 ghost use Rattle.x509_der.specs.FirstField.{FirstPart};
+ghost use Rattle.x509_der.specs.Items.{items};
+ghost use Rattle.x509_der.specs.Reading.{Ready, Reads};
+ghost use Rattle.x509_der.specs.Tagged.{tagged};
 ghost use Rattle.x509_der.specs.laws.Structure.{structure_lawful, structure_element};
 ghost use Rattle.picky_asn1_x509.specs.Certificates.{signature_fields};
 ghost use Rattle.picky_asn1_x509.specs.Requests.{request_attributes, request_attributes_bytes, info_parts, info_base, request_info, info_bytes, new_info, with_attributes, request_parts, request_base, request, request_bytes};
@@ -10,12 +13,13 @@ ghost use Rattle.picky_asn1_x509.specs.facts.Requests.{request_attributes_agree,
 
 use crate::certificate::Signature;
 use crate::signed_read::SignedRead;
+use crate::three::{read_three, three_len, write_three};
 use picky_asn1_x509_parts::{Attribute, Attributes};
 use std::alloc::{AllocError, Allocator, Global};
 use std::marker::Model;
 use x509_der::parts::{
     ContentOf, Explicit0, Field, Join, Reader, SEQUENCE_TAG, Sequence, Structure, Tag, Tagged,
-    clone_three, known_items, read_first_field, read_sequence,
+    clone_three, known_items, read_first_field,
 };
 use x509_der::{Asn1SequenceOf, BitStringAsn1, CloneEq, FromDer, ReadError, ToDer, TooLong};
 use x509_keys::{AlgorithmIdentifier, SubjectPublicKeyInfo};
@@ -99,6 +103,21 @@ impl<A: Allocator> ToDer for OpenSslAttributes<A> {
     }
 }
 
+/// Reads a list under the tag A0.
+///
+/// # Errors
+/// As the items; also where another element stands there, or its content has bytes behind them.
+fn read_list<T: FromDer<A>, A: Allocator + Copy>(
+    alloc: A,
+    reader: &mut Reader<'_, A>,
+) -> Result<Asn1SequenceOf<T, A>, ReadError>
+    requires { Ready reader.old }
+    ensures { Reads (tagged 160 (items T.shape)) reader.old reader.new result }
+{
+    let list = ListNest::<Asn1SequenceOf<T, A>>::read(alloc, reader)?;
+    Ok(list.into_value())
+}
+
 impl<A: Allocator + Copy> Field<A> for OpenSslAttributes<A> {
     ghost shape = { request_attributes };
 
@@ -117,8 +136,7 @@ impl<A: Allocator + Copy> Field<A> for OpenSslAttributes<A> {
     }
 
     fn read(alloc: A, reader: &mut Reader<'_, A>) -> Result<Self, ReadError> {
-        let list = ListNest::<Attributes<A>>::read(alloc, reader)?;
-        Ok(OpenSslAttributes(list.into_value()))
+        Ok(OpenSslAttributes(read_list(alloc, reader)?))
     }
 }
 
@@ -215,26 +233,26 @@ impl<A: Allocator + Copy> CloneEq for CertificationRequestInfo<A> {
     }
 }
 
-/// The fields as they stand in the SEQUENCE, owned or borrowed.
-type InfoNest<V, S, K, L> = Tagged<Sequence, Join<V, Join<S, Join<K, L>>>>;
-
 /// The SEQUENCE, owned.
-type InfoFields<A> = InfoNest<u8, Name<A>, SubjectPublicKeyInfo<A>, OpenSslAttributes<A>>;
+type InfoFields<A> = Tagged<Sequence, InfoInner<A>>;
+
+/// The last two fields, owned.
+type InfoEnd<A> = Join<SubjectPublicKeyInfo<A>, OpenSslAttributes<A>>;
 
 /// The fields, owned.
-type InfoInner<A> = Join<u8, Join<Name<A>, Join<SubjectPublicKeyInfo<A>, OpenSslAttributes<A>>>>;
+type InfoInner<A> = Join<u8, Join<Name<A>, InfoEnd<A>>>;
 
 impl<A: Allocator> ToDer for CertificationRequestInfo<A> {
     ghost strict = { info_bytes };
 
     fn encoded_len(&self) -> Result<usize, TooLong> {
-        let key = Join(&self.subject_public_key_info, &self.attributes);
-        InfoNest::new(Join(&self.version, Join(&self.subject, key))).encoded_len()
+        let last = Join(&self.subject_public_key_info, &self.attributes);
+        three_len(&self.version, &self.subject, &last)
     }
 
     fn write_back(&self, out: &mut [u8]) -> usize {
-        let key = Join(&self.subject_public_key_info, &self.attributes);
-        InfoNest::new(Join(&self.version, Join(&self.subject, key))).write_back(out)
+        let last = Join(&self.subject_public_key_info, &self.attributes);
+        write_three(&self.version, &self.subject, &last, out)
     }
 }
 
@@ -277,7 +295,7 @@ impl<A: Allocator + Copy> Field<A> for CertificationRequestInfo<A> {
     }
 
     fn read(alloc: A, reader: &mut Reader<'_, A>) -> Result<Self, ReadError> {
-        read_sequence::<Self, InfoInner<A>, A>(alloc, reader)
+        read_three::<Self, u8, Name<A>, InfoEnd<A>, A>(alloc, reader)
     }
 }
 
@@ -353,30 +371,30 @@ impl<A: Allocator + Copy> CloneEq for CertificationRequest<A> {
     }
 }
 
-/// The fields as they stand in the SEQUENCE, owned or borrowed.
-type RequestNest<I, S, V> = Tagged<Sequence, Join<I, Join<S, V>>>;
-
 /// The fields, owned.
 type RequestInner<A> = Join<CertificationRequestInfo<A>, Signature<A>>;
 
 /// The SEQUENCE, owned.
-type RequestFields<A> = RequestNest<
-    CertificationRequestInfo<A>,
-    AlgorithmIdentifier<A>,
-    BitStringAsn1<A>,
->;
+type RequestFields<A> = Tagged<Sequence, RequestInner<A>>;
 
 impl<A: Allocator> ToDer for CertificationRequest<A> {
     ghost strict = { request_bytes };
 
     fn encoded_len(&self) -> Result<usize, TooLong> {
-        let signature = Join(&self.signature_algorithm, &self.signature);
-        RequestNest::new(Join(&self.certification_request_info, signature)).encoded_len()
+        three_len(
+            &self.certification_request_info,
+            &self.signature_algorithm,
+            &self.signature,
+        )
     }
 
     fn write_back(&self, out: &mut [u8]) -> usize {
-        let signature = Join(&self.signature_algorithm, &self.signature);
-        RequestNest::new(Join(&self.certification_request_info, signature)).write_back(out)
+        write_three(
+            &self.certification_request_info,
+            &self.signature_algorithm,
+            &self.signature,
+            out,
+        )
     }
 }
 
@@ -417,7 +435,13 @@ impl<A: Allocator + Copy> Field<A> for CertificationRequest<A> {
     }
 
     fn read(alloc: A, reader: &mut Reader<'_, A>) -> Result<Self, ReadError> {
-        read_sequence::<Self, RequestInner<A>, A>(alloc, reader)
+        read_three::<
+            Self,
+            CertificationRequestInfo<A>,
+            AlgorithmIdentifier<A>,
+            BitStringAsn1<A>,
+            A,
+        >(alloc, reader)
     }
 }
 

@@ -18,6 +18,7 @@ mod same_eq;
 pub mod signed_read;
 pub mod subject_public_key_info;
 pub mod tbs_certificate;
+mod three;
 pub mod validity;
 pub mod version;
 

@@ -1,9 +1,9 @@
 //! The part of a certificate that is signed.
 
-ghost use Rattle.std.specs.Prelude.{◌≡◌, ◌∷◌, refl, IfOk};
+ghost use Rattle.std.specs.Prelude.{◌≡◌, ◌∷◌, ◌++◌, refl, IfOk};
 ghost use Rattle.x509_der.specs.Element.{element};
 ghost use Rattle.x509_der.specs.Optional.{optional, optional_strict};
-ghost use Rattle.x509_der.specs.View.{if_found};
+ghost use Rattle.x509_der.specs.View.{if_found, kinds_in};
 ghost use Rattle.x509_der.specs.laws.Meaning.{seen_lawful, seen_element};
 ghost use Rattle.picky_asn1_x509.specs.TbsCertificates.{version_field, issuer_id_field, subject_id_field, extensions_field, tbs_base, version_in, written_version, version_kinds, list_in, written_list, list_kinds, is_absent, is_nil, ids_fit, extensions_fit, is_fitting, tbs_with, tbs_meaning, tbs_refusal, tbs_certificate, core, core_of, core_bytes, id_bytes, list_bytes, tbs_bytes};
 ghost use Rattle.picky_asn1_x509.specs.facts.TbsCertificates.{version_apart, issuer_id_apart, subject_id_apart, tbs_is, tbs_keeps, core_agrees, tbs_agrees};
@@ -447,6 +447,13 @@ fn spelled_empty<A: Allocator>(spelled: &Option<Extensions<A>>) -> Option<Deviat
     }
 }
 
+/// The deviations over the whole.
+fn found_in<A: Allocator>(version: Option<Version>, extensions: &Option<Extensions<A>>) -> Found
+    ensures { kinds_in result ≡ version_kinds version ++ list_kinds extensions.now }
+{
+    Found::of_two(spelled_first(version), spelled_empty(extensions))
+}
+
 /// Whether a unique identifier is absent.
 fn is_left_out<A: Allocator>(bits: &Option<BitString<A>>) -> bool
     ensures { result ≡ is_absent bits.now }
@@ -524,7 +531,7 @@ impl<A: Allocator + Copy> View<Fields<A>> for TbsCertificate<A> {
         let Join(version, Join(core, Join(issuer, Join(subject, extensions)))) = parts.into_inner();
         let version = version.into_field();
         let extensions = extensions.into_field();
-        let found = Found::of_two(spelled_first(version), spelled_empty(&extensions));
+        let found = found_in(version, &extensions);
         let extensions = extensions_of(allocator_of(&core), extensions);
         let issuer = bits_in(issuer.into_value());
         let subject = bits_in(subject.into_value());

@@ -1,4 +1,0 @@
-use Rattle.picky_asn1_x509.proofs.certification_request.OpenSslAttributesField.read.Goals as goal
-
-pub returns : goal.returns
-returns g c = rw c.into_value.ensures c.in_ok-list.ensures
