@@ -1,3 +1,4 @@
 -- What callers promise.
 pub mod Requested
+pub mod Rewriting
 pub mod facts

@@ -1,6 +1,7 @@
 //! A request builder: a name, a key and its usages become the bytes to sign, and with the signature the request.
 
-ghost use Rattle.std.specs.Prelude.{◌≡◌, [], ◌∷◌, IfOk};
+ghost use Rattle.std.specs.Prelude.{◌≡◌, ◌↔◌, ◌≤◌, ◌^◌, [], ◌∷◌, length, Err, IfOk};
+ghost use Rattle.picky_asn1_x509.specs.Types.write_error.{TooLong};
 ghost use Rattle.picky_asn1_x509.specs.Requests.{new_info, with_attributes, info_bytes, request_bytes};
 ghost use Rattle.x509_callers.specs.Requested.{asked, signed};
 
@@ -10,6 +11,15 @@ use picky_asn1_x509::{
 };
 use std::alloc::{AllocError, Allocator};
 
+/// A list of one item. It is over any type, so that what its exits drop costs the proof little.
+fn list_of_one<T: Drop, A: Allocator>(alloc: A, item: T) -> Result<Vec<T, A>, AllocError>
+    ensures { IfOk result (λ list. list.items ≡ item ∷ []) }
+{
+    let mut list = Vec::with_capacity(alloc, 1)?;
+    list.push(item)?;
+    Ok(list)
+}
+
 /// A request that a key usage stands in the certificate.
 fn extension_request<A: Allocator + Copy>(
     alloc: A,
@@ -18,8 +28,7 @@ fn extension_request<A: Allocator + Copy>(
     ensures { IfOk result (λ attribute. attribute ≡ asked usage) }
 {
     let extension = Extension::new_key_usage(alloc, usage)?;
-    let mut extensions = Vec::with_capacity(alloc, 1)?;
-    extensions.push(extension)?;
+    let extensions = list_of_one(alloc, extension)?;
     Attribute::new_extension_request(alloc, extensions)
 }
 
@@ -51,7 +60,8 @@ pub fn bytes_to_sign<A: Allocator + Copy>(
     alloc: A,
     info: &CertificationRequestInfo<A>,
 ) -> Result<Vec<u8, A>, WriteError>
-    ensures { IfOk result (λ bytes. bytes.items ≡ info_bytes info.now) }
+    ensures ok { IfOk result (λ bytes. bytes.items ≡ info_bytes info.now) }
+    ensures too_long { (result ≡ Err TooLong) ↔ (2 ^ 64 ≤ length (info_bytes info.now)) }
 {
     to_vec(alloc, info)
 }
@@ -66,7 +76,8 @@ pub fn finished<A: Allocator + Copy>(
     algorithm: AlgorithmIdentifier<A>,
     signature: BitString<A>,
 ) -> Result<Vec<u8, A>, WriteError>
-    ensures { IfOk result (λ bytes. bytes.items ≡ request_bytes (signed info algorithm signature)) }
+    ensures ok { IfOk result (λ bytes. bytes.items ≡ request_bytes (signed info algorithm signature)) }
+    ensures too_long { (result ≡ Err TooLong) ↔ (2 ^ 64 ≤ length (request_bytes (signed info algorithm signature))) }
 {
     let request = CertificationRequest {
         certification_request_info: info,
