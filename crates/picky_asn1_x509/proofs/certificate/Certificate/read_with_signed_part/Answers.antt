@@ -5,3 +5,6 @@ use Rattle.picky_asn1_x509.proofs.certificate.Certificate.read_with_signed_part.
 
 pub returns-in_err-read-clause-err : goal.returns-in_err-read-clause-err
 returns-in_err-read-clause-err g c = refused_with (NoWhole (certificate {A = g.row.A.Denot}) c.args.bytes.now) c.from_residual.result _ c.from_residual.ensures.1 c.in_err-read.ensures.err
+
+pub returns-clause-ok : goal.returns-clause-ok
+returns-clause-ok g c = c.in_ok-read.ensures.ok
