@@ -48,7 +48,11 @@ pub fn requested<A: Allocator + Copy>(
     let mut info = CertificationRequestInfo::new(alloc, subject, key);
     match info.add_attribute(attribute) {
         Ok(()) => Ok(info),
-        Err(_given_back) => Err(AllocError),
+        Err(given_back) => {
+            drop(given_back);
+            drop(info);
+            Err(AllocError)
+        }
     }
 }
 
@@ -84,5 +88,7 @@ pub fn finished<A: Allocator + Copy>(
         signature_algorithm: algorithm,
         signature: BitStringAsn1(signature),
     };
-    to_vec(alloc, &request)
+    let written = to_vec(alloc, &request);
+    drop(request);
+    written
 }
