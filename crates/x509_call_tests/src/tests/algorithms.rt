@@ -279,7 +279,7 @@ fn hash_algorithms_over<A: Heap>(rt: &impl Abort, heap: A, alloc: Global) {
         let bytes = bytes_of(rt, alloc, *text);
         let requests = in_turn!(
             heap,
-            made_turn(AlgorithmIdentifier::new_sha(heap, *variant), &bytes,)
+            made_turn(AlgorithmIdentifier::new_sha(heap, *variant), &bytes)
         );
         same(rt, &requests, &Some(1), *text);
     }

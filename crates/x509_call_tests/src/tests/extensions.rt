@@ -93,7 +93,7 @@ fn usages_are_lengthened_over<A: Heap>(rt: &impl Abort, heap: A) {
         same(rt, &requests, &Some(1), "set");
         let requests = in_turn!(
             heap,
-            lengthened_turn(KeyUsage::new(heap, 0), *bit, false, *cleared,)
+            lengthened_turn(KeyUsage::new(heap, 0), *bit, false, *cleared)
         );
         same(rt, &requests, &Some(1), "cleared");
     }

@@ -199,14 +199,14 @@ fn others_are_named_over<A: Heap>(rt: &impl Abort, heap: A) {
     let sha1 = ObjectIdentifier::from_arcs(heap, &[1, 3, 14, 3, 2, 26]).expect(rt, "lawful arcs");
     let requests = in_turn!(
         heap,
-        unsupported_turn(HashAlgorithm::from_oid(heap, &sha1), "1.3.14.3.2.26",)
+        unsupported_turn(HashAlgorithm::from_oid(heap, &sha1), "1.3.14.3.2.26")
     );
     is_so(rt, requests.is_some(), "SHA-1");
     let front = ObjectIdentifier::from_arcs(heap, &[2, 16, 840, 1, 101, 3, 4, 2]);
     let front = front.expect(rt, "lawful arcs");
     let requests = in_turn!(
         heap,
-        unsupported_turn(ShaVariant::from_oid(heap, &front), "2.16.840.1.101.3.4.2",)
+        unsupported_turn(ShaVariant::from_oid(heap, &front), "2.16.840.1.101.3.4.2")
     );
     is_so(rt, requests.is_some(), "the prefix");
 }
