@@ -5,16 +5,16 @@ ghost use Rattle.x509_der.specs.Element.{element};
 ghost use Rattle.x509_der.specs.Optional.{optional, optional_strict};
 ghost use Rattle.x509_der.specs.View.{if_found, kinds_in};
 ghost use Rattle.x509_der.specs.laws.Meaning.{seen_lawful, seen_element};
-ghost use Rattle.picky_asn1_x509.specs.TbsCertificates.{version_field, issuer_id_field, subject_id_field, extensions_field, tbs_base, version_in, written_version, version_kinds, list_in, written_list, list_kinds, is_absent, is_nil, ids_fit, extensions_fit, is_fitting, tbs_with, tbs_meaning, tbs_refusal, tbs_certificate, core, core_of, core_bytes, id_bytes, list_bytes, tbs_bytes};
+ghost use Rattle.picky_asn1_x509.specs.TbsCertificates.{version_field, issuer_id_field, subject_id_field, extensions_field, tbs_base, version_in, written_version, version_kinds, list_in, written_list, list_kinds, is_absent, is_nil, ids_fit, extensions_fit, is_fitting, tbs_with, tbs_meaning, tbs_refusal, tbs_certificate, core, core_of, core_bytes, id_bytes, list_bytes, end_bytes, tbs_back, tbs_bytes};
 ghost use Rattle.picky_asn1_x509.specs.facts.TbsCertificates.{version_apart, issuer_id_apart, subject_id_apart, tbs_is, tbs_keeps, core_agrees, tbs_agrees};
 
+use crate::three::{read_three_meanings, three_len, write_three};
 use picky_asn1_x509_parts::Extensions;
 use std::alloc::{AllocError, Allocator, Global};
 use std::marker::Model;
 use x509_der::parts::{
     ContentOf, Explicit0, Explicit3, Field, Found, INTEGER_TAG, Implicit1, Implicit2, Join,
-    Optional, Reader, Refusal, SEQUENCE_TAG, Sequence, Tag, Tagged, View, clone_three,
-    read_viewed_or, write_bytes,
+    Optional, Reader, Refusal, SEQUENCE_TAG, Sequence, Tag, Tagged, View, clone_three, write_bytes,
 };
 use x509_der::{
     BitString, BitStringAsn1, CloneEq, Deviation, FromDer, IntegerAsn1, ReadError, ToDer, TooLong,
@@ -195,23 +195,20 @@ type EndNest<I, S, E> = Join<
 /// The fields behind them, owned.
 type Ends<A> = EndNest<ContentOf<BitStringAsn1<A>>, ContentOf<BitStringAsn1<A>>, Extensions<A>>;
 
+/// The version, where it is spelled.
+type SpelledVersion = Optional<Tagged<Explicit0, Version>>;
+
 /// The fields behind the version, owned.
 type AfterVersion<A> = Join<Core<A>, Ends<A>>;
 
 /// The fields in the SEQUENCE, owned.
-type Inner<A> = Join<Optional<Tagged<Explicit0, Version>>, AfterVersion<A>>;
+type Inner<A> = Join<SpelledVersion, AfterVersion<A>>;
 
 /// The fields, owned.
 type Fields<A> = Tagged<Sequence, Inner<A>>;
 
 /// The fields behind those that every certificate has, borrowed.
 type WrittenEnds<'a, A> = EndNest<BitContent<'a>, BitContent<'a>, &'a Extensions<A>>;
-
-/// The fields that are written, borrowed.
-type Written<'a, A> = Tagged<
-    Sequence,
-    Join<Optional<Tagged<Explicit0, &'a Version>>, Join<WrittenCore<'a, A>, WrittenEnds<'a, A>>>,
->;
 
 /// The value of these fields.
 fn from_core<A: Allocator>(
@@ -340,27 +337,31 @@ fn lent_core<A: Allocator>(value: &TbsCertificate<A>) -> WrittenCore<'_, A>
     Join(&value.serial_number, Join(&value.signature, rest))
 }
 
-/// The fields, to be written.
-fn written<A: Allocator>(value: &TbsCertificate<A>) -> Written<'_, A>
-    ensures { ⟦<Written<'static, A> as ToDer>⟧.strict result ≡ tbs_bytes value.now }
+/// The fields behind them, to be written.
+fn lent_ends<A: Allocator>(value: &TbsCertificate<A>) -> WrittenEnds<'_, A>
+    ensures { ⟦<WrittenEnds<'static, A> as ToDer>⟧.strict result ≡ end_bytes (tbs_back value.now).1.1 }
 {
-    let version = lent_version(&value.version);
-    let core = lent_core(value);
     let issuer = lent_bits(&value.issuer_unique_id);
     let subject = lent_bits(&value.subject_unique_id);
     let extensions = lent_extensions(&value.extensions);
-    Tagged::new(Join(version, Join(core, Join(issuer, Join(subject, extensions)))))
+    Join(issuer, Join(subject, extensions))
 }
 
 impl<A: Allocator> ToDer for TbsCertificate<A> {
     ghost strict = { tbs_bytes };
 
     fn encoded_len(&self) -> Result<usize, TooLong> {
-        written(self).encoded_len()
+        let version = lent_version(&self.version);
+        let core = lent_core(self);
+        let ends = lent_ends(self);
+        three_len(&version, &core, &ends)
     }
 
     fn write_back(&self, out: &mut [u8]) -> usize {
-        written(self).write_back(out)
+        let version = lent_version(&self.version);
+        let core = lent_core(self);
+        let ends = lent_ends(self);
+        write_three(&version, &core, &ends, out)
     }
 }
 
@@ -385,7 +386,7 @@ fn spelled_first(spelled: Option<Version>) -> Option<Deviation>
 }
 
 /// The version that is spelled, where it is there.
-fn spelled_version(field: &Optional<Tagged<Explicit0, Version>>) -> Option<Version>
+fn spelled_version(field: &SpelledVersion) -> Option<Version>
     ensures { result ≡ field.now }
 {
     match &field.0 {
@@ -606,7 +607,7 @@ impl<A: Allocator + Copy> Field<A> for TbsCertificate<A> {
     }
 
     fn read(alloc: A, reader: &mut Reader<'_, A>) -> Result<Self, ReadError> {
-        read_viewed_or::<Self, Fields<A>, Self, A>(alloc, reader)
+        read_three_meanings::<Self, SpelledVersion, Core<A>, Ends<A>, A>(alloc, reader)
     }
 }
 

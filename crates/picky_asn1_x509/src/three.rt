@@ -1,16 +1,19 @@
 //! A SEQUENCE of three fields, over any three: a proof about it doesn't have all that stands in them.
 
-ghost use Rattle.std.specs.Prelude.{◌≡◌, ◌+◌, ◌≤◌, ◌++◌, length, take};
+ghost use Rattle.std.specs.Prelude.{◌≡◌, ◌+◌, ◌≤◌, ◌++◌, ℕ, List, length, take};
 ghost use Rattle.x509_der.specs.Element.{element};
 ghost use Rattle.x509_der.specs.Join.{join, Apart};
 ghost use Rattle.x509_der.specs.Reading.{Ready, Reads};
 ghost use Rattle.x509_der.specs.Structure.{structure};
 ghost use Rattle.x509_der.specs.Tagged.{tagged};
+ghost use Rattle.x509_der.specs.Tally.{Tally};
+ghost use Rattle.x509_der.specs.View.{seen};
 ghost use Rattle.x509_der.specs.Writing.{Measures};
 
 use std::alloc::Allocator;
 use x509_der::parts::{
-    Field, Join, Reader, SEQUENCE_TAG, Structure, element_len, read_sequence, write_element,
+    Field, Join, Reader, Refusal, SEQUENCE_TAG, Sequence, Structure, Tagged, View, element_len,
+    read_sequence, read_viewed_or, write_element,
 };
 use x509_der::{ReadError, ToDer, TooLong};
 
@@ -64,4 +67,27 @@ pub(crate) fn read_three<
         (join (λ j. j.0) (λ j. j.1) G.shape H.shape)))) reader.old reader.new result }
 {
     read_sequence::<T, Join<F, Join<G, H>>, A>(alloc, reader)
+}
+
+/// Reads a value by way of what the three fields of a SEQUENCE mean.
+///
+/// # Errors
+/// As the fields; also where another element stands there, or its content has bytes behind them, and by the name that
+/// the type gives, where they mean nothing.
+pub(crate) fn read_three_meanings<
+    T: View<Tagged<Sequence, Join<F, Join<G, H>>>> + Refusal<Tagged<Sequence, Join<F, Join<G, H>>>>,
+    F: Field<A> + Drop,
+    G: Field<A> + Drop,
+    H: Field<A> + Drop,
+    A: Allocator + Copy,
+>(alloc: A, reader: &mut Reader<'_, A>) -> Result<T, ReadError>
+    requires ready { Ready reader.old }
+    requires fits { F.fits × (G.fits × H.fits × Apart G.shape H.shape)
+        × Apart F.shape (join (λ (j : G × H). j.0) (λ j. j.1) G.shape H.shape) }
+    requires base { (b : F × (G × H)) (p : List ℕ) (y : Tally) → (tagged 48 (join (λ j. j.0) (λ j. j.1) F.shape
+        (join (λ j. j.0) (λ j. j.1) G.shape H.shape))).spelled b p y → T.base.spelled b p y }
+    ensures { Reads (seen T.view (tagged 48 (join (λ j. j.0) (λ j. j.1) F.shape
+        (join (λ j. j.0) (λ j. j.1) G.shape H.shape)))) reader.old reader.new result }
+{
+    read_viewed_or::<T, Tagged<Sequence, Join<F, Join<G, H>>>, T, A>(alloc, reader)
 }
