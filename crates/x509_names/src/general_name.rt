@@ -1,6 +1,11 @@
 //! General names: what alternative names, key identifiers and other extensions hold.
 
-ghost use Rattle.std.specs.Prelude.{◌≡◌, refl, IfOk};
+ghost use Rattle.std.specs.Prelude.{◌≡◌, ℕ, List, refl, IfOk};
+ghost use Rattle.x509_der.specs.Types.{Choice as fields};
+ghost use Rattle.x509_der.specs.Choice.{choice, Disjoint};
+ghost use Rattle.x509_der.specs.Reading.{Ready, Reads};
+ghost use Rattle.x509_der.specs.Tally.{Tally};
+ghost use Rattle.x509_der.specs.View.{seen};
 ghost use Rattle.x509_names.specs.declared.general_name.GeneralName.TheVariants as form;
 ghost use Rattle.x509_names.specs.GeneralNames.{strict_name, loose_name, general_base, general_meaning};
 ghost use Rattle.x509_names.specs.GeneralNames.{general_name as general_names};
@@ -246,6 +251,24 @@ impl<A: Allocator + Copy> View<Fields<A>> for GeneralName<A> {
     }
 }
 
+/// Reads a value by way of what one of two fields means: over any two, so that a proof about it doesn't have all their
+/// alternatives.
+///
+/// # Errors
+/// As the fields; also where neither begins there.
+fn read_either<T: View<Choice<F, G>>, F: Field<A>, G: Field<A>, A: Allocator + Copy>(
+    alloc: A,
+    reader: &mut Reader<'_, A>,
+) -> Result<T, ReadError>
+    requires ready { Ready reader.old }
+    requires fits { (F.fits × G.fits) × ((F.alone × G.alone) × Disjoint F.shape G.shape) }
+    requires base { (b : fields F G) (p : List ℕ) (y : Tally) → (choice F.shape G.shape).spelled b p y
+        → T.base.spelled b p y }
+    ensures { Reads (seen T.view (choice F.shape G.shape)) reader.old reader.new result }
+{
+    read_viewed::<T, Choice<F, G>, A>(alloc, reader)
+}
+
 impl<A: Allocator + Copy> Field<A> for GeneralName<A> {
     ghost shape = { general_names };
 
@@ -282,7 +305,7 @@ impl<A: Allocator + Copy> Field<A> for GeneralName<A> {
     }
 
     fn read(alloc: A, reader: &mut Reader<'_, A>) -> Result<Self, ReadError> {
-        read_viewed::<Self, Fields<A>, A>(alloc, reader)
+        read_either::<Self, Strict<A>, Loose<A>, A>(alloc, reader)
     }
 }
 
