@@ -2,7 +2,7 @@
 
 ghost use Rattle.std.specs.Prelude.{◌≡◌, ℕ, List, refl, IfOk};
 ghost use Rattle.x509_der.specs.Types.{Choice as fields};
-ghost use Rattle.x509_der.specs.Choice.{choice, Disjoint};
+ghost use Rattle.x509_der.specs.Choice.{choice};
 ghost use Rattle.x509_der.specs.Reading.{Ready, Reads};
 ghost use Rattle.x509_der.specs.Tally.{Tally};
 ghost use Rattle.x509_der.specs.View.{seen};
@@ -131,35 +131,44 @@ impl<A: Allocator> SameEq for GeneralName<A> {
         (parties_decide {E = ⟦<DirectoryString<A> as PartialEq>⟧.eq} (λ a b. Prim.search (rules, bytes_decides))) };
 }
 
-/// The alternatives that are written.
-type Strict<A> = Choice<
+/// The alternatives that are written, the first half of them.
+type StrictFront<A> = Choice<
     Choice<
-        Choice<
-            Tagged<Explicit0, ContentOf<OtherName<A>>>,
-            Tagged<Implicit1, ContentOf<Ia5StringAsn1<A>>>,
-        >,
-        Choice<Tagged<Implicit2, ContentOf<Ia5StringAsn1<A>>>, Tagged<Explicit4, Name<A>>>,
+        Tagged<Explicit0, ContentOf<OtherName<A>>>,
+        Tagged<Implicit1, ContentOf<Ia5StringAsn1<A>>>,
+    >,
+    Choice<Tagged<Implicit2, ContentOf<Ia5StringAsn1<A>>>, Tagged<Explicit4, Name<A>>>,
+>;
+
+/// The other half.
+type StrictBack<A> = Choice<
+    Choice<
+        Tagged<Explicit5, ContentOf<EdiPartyName<A>>>,
+        Tagged<Implicit6, ContentOf<Ia5StringAsn1<A>>>,
     >,
     Choice<
-        Choice<
-            Tagged<Explicit5, ContentOf<EdiPartyName<A>>>,
-            Tagged<Implicit6, ContentOf<Ia5StringAsn1<A>>>,
-        >,
-        Choice<
-            Tagged<Implicit7, ContentOf<OctetStringAsn1<A>>>,
-            Tagged<Implicit8, ContentOf<ObjectIdentifierAsn1<A>>>,
-        >,
+        Tagged<Implicit7, ContentOf<OctetStringAsn1<A>>>,
+        Tagged<Implicit8, ContentOf<ObjectIdentifierAsn1<A>>>,
     >,
 >;
 
-/// The alternatives that are deviations.
-type Loose<A> = Choice<
-    Choice<Tagged<Explicit1, Ia5StringAsn1<A>>, Tagged<Explicit2, Ia5StringAsn1<A>>>,
-    Choice<
-        Choice<Tagged<Explicit6, Ia5StringAsn1<A>>, Tagged<Explicit7, OctetStringAsn1<A>>>,
-        Choice<Tagged<Explicit8, ObjectIdentifierAsn1<A>>, Tagged<Implicit4, ContentOf<Name<A>>>>,
-    >,
+/// The alternatives that are written.
+type Strict<A> = Choice<StrictFront<A>, StrictBack<A>>;
+
+/// The alternatives that are deviations, the first two of them.
+type LooseFront<A> = Choice<
+    Tagged<Explicit1, Ia5StringAsn1<A>>,
+    Tagged<Explicit2, Ia5StringAsn1<A>>,
 >;
+
+/// The other four.
+type LooseBack<A> = Choice<
+    Choice<Tagged<Explicit6, Ia5StringAsn1<A>>, Tagged<Explicit7, OctetStringAsn1<A>>>,
+    Choice<Tagged<Explicit8, ObjectIdentifierAsn1<A>>, Tagged<Implicit4, ContentOf<Name<A>>>>,
+>;
+
+/// The alternatives that are deviations.
+type Loose<A> = Choice<LooseFront<A>, LooseBack<A>>;
 
 /// All alternatives.
 type Fields<A> = Choice<Strict<A>, Loose<A>>;
@@ -251,22 +260,30 @@ impl<A: Allocator + Copy> View<Fields<A>> for GeneralName<A> {
     }
 }
 
-/// Reads a value by way of what one of two fields means: over any two, so that a proof about it doesn't have all their
+/// One of four fields.
+type OfFour<F, G, H, I> = Choice<Choice<F, G>, Choice<H, I>>;
+
+/// Reads a value by way of what one of four fields means: over any four, so that a proof about it doesn't have all their
 /// alternatives.
 ///
 /// # Errors
-/// As the fields; also where neither begins there.
-fn read_either<T: View<Choice<F, G>>, F: Field<A>, G: Field<A>, A: Allocator + Copy>(
-    alloc: A,
-    reader: &mut Reader<'_, A>,
-) -> Result<T, ReadError>
+/// As the fields; also where none begins there.
+fn read_of_four<
+    T: View<OfFour<F, G, H, I>>,
+    F: Field<A>,
+    G: Field<A>,
+    H: Field<A>,
+    I: Field<A>,
+    A: Allocator + Copy,
+>(alloc: A, reader: &mut Reader<'_, A>) -> Result<T, ReadError>
     requires ready { Ready reader.old }
-    requires fits { (F.fits × G.fits) × ((F.alone × G.alone) × Disjoint F.shape G.shape) }
-    requires base { (b : fields F G) (p : List ℕ) (y : Tally) → (choice F.shape G.shape).spelled b p y
-        → T.base.spelled b p y }
-    ensures { Reads (seen T.view (choice F.shape G.shape)) reader.old reader.new result }
+    requires fits { ⟦<OfFour<F, G, H, I> as Field<A>>⟧.fits }
+    requires base { (b : fields (fields F G) (fields H I)) (p : List ℕ) (y : Tally)
+        → (choice (choice F.shape G.shape) (choice H.shape I.shape)).spelled b p y → T.base.spelled b p y }
+    ensures { Reads (seen T.view (choice (choice F.shape G.shape) (choice H.shape I.shape))) reader.old reader.new
+        result }
 {
-    read_viewed::<T, Choice<F, G>, A>(alloc, reader)
+    read_viewed::<T, OfFour<F, G, H, I>, A>(alloc, reader)
 }
 
 impl<A: Allocator + Copy> Field<A> for GeneralName<A> {
@@ -305,7 +322,9 @@ impl<A: Allocator + Copy> Field<A> for GeneralName<A> {
     }
 
     fn read(alloc: A, reader: &mut Reader<'_, A>) -> Result<Self, ReadError> {
-        read_either::<Self, Strict<A>, Loose<A>, A>(alloc, reader)
+        read_of_four::<Self, StrictFront<A>, StrictBack<A>, LooseFront<A>, LooseBack<A>, A>(
+            alloc, reader,
+        )
     }
 }
 
