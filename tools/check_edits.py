@@ -24,7 +24,7 @@ BUDGETS = [
     (17, ["x509_keys"]),
     (22, ["picky_asn1_x509_parts"]),
     (17, ["picky_asn1_x509"]),
-    (13, ["x509_tool", "x509_callers", "refusing"]),
+    (13, ["x509_tool_parts", "x509_callers", "refusing"]),
     (6, ["x509_oids_algorithms", "x509_oids_objects"]),
 ]
 

@@ -2,17 +2,12 @@
 //! deviations of each kind stood in it.
 #![tactic(auto)]
 
-mod console;
-mod fault;
-mod report;
-mod run_text;
-mod served;
 #[cfg(test)]
 mod tests;
 
-use console::{Shown, Stop, outcome, print, show};
 use std::alloc::Global;
 use std::process::ExitCode;
+use x509_tool_parts::console::{Shown, Stop, outcome, print, show};
 
 /// What is left to show once the output is written: nothing of it, or that it couldn't be.
 fn written(rt: &HostRuntime, answer: Shown<Global>) -> Shown<Global> {

@@ -1,13 +1,13 @@
 //! Worked inputs of the program, and the faults of its work.
 
-use crate::console::{Stop, only, read_input, show};
-use crate::fault::ToolFault;
-use crate::run_text::run_text;
 use refusing::{Refusing, Turn, in_turn};
 use std::alloc::{AllocError, Allocator, Global};
 use std::io::{self, ErrorKind};
 use std::process::Abort;
 use std::test::Fail;
+use x509_tool_parts::console::{Stop, only, read_input, show};
+use x509_tool_parts::fault::ToolFault;
+use x509_tool_parts::run_text::run_text;
 
 /// The text gives these two lines as a value of the type, and want of memory where a request is refused.
 fn prints_as(rt: &impl Abort, heap: &Refusing<Global>, type_name: &str, input: &[u8], lines: &str) {

@@ -2,7 +2,7 @@
 
 ghost use Rattle.std.specs.Prelude.{◌≡◌, Some, IfOk};
 ghost use Rattle.std.specs.String.{string_bytes};
-ghost use Rattle.x509_tool.specs.Output.{spaced, report_text};
+ghost use Rattle.x509_tool_parts.specs.Output.{spaced, report_text};
 
 use std::alloc::{AllocError, Allocator};
 use std::fmt;

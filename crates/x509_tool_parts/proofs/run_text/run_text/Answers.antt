@@ -1,6 +1,6 @@
 use Rattle.std.proofs.lemmas.Result.{err_from_is_err_and}
-use Rattle.x509_tool.specs.facts.TextFacts.{text_digits, is_text, decoded_as}
-use Rattle.x509_tool.proofs.run_text.run_text.Goals as goal
+use Rattle.x509_tool_parts.specs.facts.TextFacts.{text_digits, is_text, decoded_as}
+use Rattle.x509_tool_parts.proofs.run_text.run_text.Goals as goal
 
 pub returns-in_err-bytes-clause-text : goal.returns-in_err-bytes-clause-text
 returns-in_err-bytes-clause-text g c = λ bytes served text.

@@ -2,7 +2,7 @@
 //! `specs/Output.antt`.
 
 ghost use Rattle.std.specs.Prelude.{◌≡◌, IfSome, IfNone};
-ghost use Rattle.x509_tool.specs.Output.{Answers, AnswersAs, served_name, listed_answer};
+ghost use Rattle.x509_tool_parts.specs.Output.{Answers, AnswersAs, served_name, listed_answer};
 
 use crate::fault::ToolFault;
 use crate::report::report;

@@ -2,8 +2,8 @@
 use Rattle.std.specs.Prelude.{ℕ, List, codes}
 use Rattle.hex.specs.declared.error.FromHexError.{FromHexError}
 use Rattle.picky_asn1_x509.specs.Types.{ReadError, WriteError}
-use Rattle.x509_tool.specs.declared.fault.ToolFault.{ToolFault}
-use Rattle.x509_tool.specs.declared.fault.ToolFault.TheVariants.{Refused, Usage, OutOfMemory, TooLong}
+use Rattle.x509_tool_parts.specs.declared.fault.ToolFault.{ToolFault}
+use Rattle.x509_tool_parts.specs.declared.fault.ToolFault.TheVariants.{Refused, Usage, OutOfMemory, TooLong}
 use Rattle.hex.specs.declared.error.FromHexError.TheVariants as hex_error
 use Rattle.picky_asn1_x509.specs.Types.read_error
 use Rattle.picky_asn1_x509.specs.Types.write_error

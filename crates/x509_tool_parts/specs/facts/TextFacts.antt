@@ -15,11 +15,11 @@ use Rattle.picky_asn1_x509.specs.Names.{name}
 use Rattle.picky_asn1_x509.specs.Certificates.{certificate}
 use Rattle.picky_asn1_x509.specs.ExtensionLists.{extensions}
 use Rattle.picky_asn1_x509.specs.Requests.{request}
-use Rattle.x509_tool.specs.Faults.{fault_of_hex}
-use Rattle.x509_tool.specs.Output.{Answers, AnswersAs}
-use Rattle.x509_tool.specs.declared.served.Served.{Served}
-use Rattle.x509_tool.specs.declared.served.Served.TheVariants.{Algorithm, Certificate, Extensions, Name, PrivateKey, PublicKey, RawAlgorithm, Request}
-use Rattle.x509_tool.specs.Text.{IsTextOf, IsWithoutLineFeed}
+use Rattle.x509_tool_parts.specs.Faults.{fault_of_hex}
+use Rattle.x509_tool_parts.specs.Output.{Answers, AnswersAs}
+use Rattle.x509_tool_parts.specs.declared.served.Served.{Served}
+use Rattle.x509_tool_parts.specs.declared.served.Served.TheVariants.{Algorithm, Certificate, Extensions, Name, PrivateKey, PublicKey, RawAlgorithm, Request}
+use Rattle.x509_tool_parts.specs.Text.{IsTextOf, IsWithoutLineFeed}
 use Rattle.hex.specs.declared.error.FromHexError.TheVariants as hex_error
 
 last_is : (d : List ℕ) (x : ℕ) → get_or (d ++ x ∷ []) (length d) 0 ≡ x

@@ -1,10 +1,10 @@
 -- What the program shows: its output, or a line and a status.
 use Rattle.std.specs.Prelude.{ℕ, List, [], Option, Some, None, Result, Ok, Err, codes}
 use Rattle.std.specs.declared.io.ErrorKind.{ErrorKind}
-use Rattle.x509_tool.specs.declared.console.Stop.{Stop}
-use Rattle.x509_tool.specs.declared.console.Stop.TheVariants.{Fault, Console}
-use Rattle.x509_tool.specs.declared.fault.ToolFault.TheVariants.{OutOfMemory}
-use Rattle.x509_tool.specs.Faults.{status_of, line_of}
+use Rattle.x509_tool_parts.specs.declared.console.Stop.{Stop}
+use Rattle.x509_tool_parts.specs.declared.console.Stop.TheVariants.{Fault, Console}
+use Rattle.x509_tool_parts.specs.declared.fault.ToolFault.TheVariants.{OutOfMemory}
+use Rattle.x509_tool_parts.specs.Faults.{status_of, line_of}
 use Rattle.std.specs.declared.io.ErrorKind.TheVariants as kind
 
 abbrev pub status_of_stop : Stop → ℕ

@@ -1,5 +1,5 @@
 use Rattle.std.specs.Io.KnownBytes.{Consumes}
-use Rattle.x509_tool.proofs.console.read_input.Given as goal
+use Rattle.x509_tool_parts.proofs.console.read_input.Given as goal
 
 -- what the reader gave up so far is the input
 abbrev pub invariant-loop : goal.invariant-loop

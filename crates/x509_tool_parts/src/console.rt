@@ -2,8 +2,8 @@
 
 ghost use Rattle.std.specs.Prelude.{◌≡◌, false, IfOk, OnOk, IfErr, IfSome};
 ghost use Rattle.std.specs.Io.KnownBytes.{IsAtEnd};
-ghost use Rattle.x509_tool.specs.Input.{Grows, IsGivenUp, only_of};
-ghost use Rattle.x509_tool.specs.Stops.{status_of_stop, line_of_stop, output_of, line_of_outcome, status_of_outcome};
+ghost use Rattle.x509_tool_parts.specs.Input.{Grows, IsGivenUp, only_of};
+ghost use Rattle.x509_tool_parts.specs.Stops.{status_of_stop, line_of_stop, output_of, line_of_outcome, status_of_outcome};
 
 use crate::fault::ToolFault;
 use crate::run_text::run_text;
@@ -50,7 +50,7 @@ impl Stop {
 
 impl From<ToolFault> for Stop {
     ghost use Rattle.std.specs.Prelude.{◌≡◌};
-    ghost use Rattle.x509_tool.specs.declared.console.Stop.TheVariants.{Fault};
+    ghost use Rattle.x509_tool_parts.specs.declared.console.Stop.TheVariants.{Fault};
 
     ghost from_gives = { λ fault stop. stop ≡ Fault fault };
 
@@ -61,8 +61,8 @@ impl From<ToolFault> for Stop {
 
 impl From<AllocError> for Stop {
     ghost use Rattle.std.specs.Prelude.{◌≡◌};
-    ghost use Rattle.x509_tool.specs.declared.console.Stop.TheVariants.{Fault};
-    ghost use Rattle.x509_tool.specs.declared.fault.ToolFault.TheVariants.{OutOfMemory};
+    ghost use Rattle.x509_tool_parts.specs.declared.console.Stop.TheVariants.{Fault};
+    ghost use Rattle.x509_tool_parts.specs.declared.fault.ToolFault.TheVariants.{OutOfMemory};
 
     ghost from_gives = { λ _ stop. stop ≡ Fault OutOfMemory };
 
@@ -75,7 +75,7 @@ impl From<AllocError> for Stop {
 impl From<io::Error> for Stop {
     ghost use Rattle.std.specs.Prelude.{◌≡◌};
     ghost use Rattle.std.specs.IoError.{error_kind};
-    ghost use Rattle.x509_tool.specs.Stops.{stop_of_kind};
+    ghost use Rattle.x509_tool_parts.specs.Stops.{stop_of_kind};
 
     ghost from_gives = { λ error stop. stop ≡ stop_of_kind (error_kind error) };
 
@@ -88,7 +88,7 @@ impl From<io::Error> for Stop {
 }
 
 /// The one argument: the first, where there is no second.
-pub(crate) fn only<T: Drop>(first: Option<T>, second: Option<T>) -> Result<T, Stop>
+pub fn only<T: Drop>(first: Option<T>, second: Option<T>) -> Result<T, Stop>
     ensures { result ≡ only_of first second }
 {
     match (first, second) {
@@ -134,10 +134,7 @@ fn read_more<A: Allocator, R: Read>(reader: &mut R, input: &mut Vec<u8, A>) -> R
 ///
 /// # Errors
 /// A read failed, memory was refused, or the input hadn't ended after `MOST_READS` reads.
-pub(crate) fn read_input<A: Allocator, R: Read + Drop>(
-    alloc: A,
-    mut reader: R,
-) -> Result<Vec<u8, A>, Stop>
+pub fn read_input<A: Allocator, R: Read + Drop>(alloc: A, mut reader: R) -> Result<Vec<u8, A>, Stop>
     ensures ok { IfOk result (λ input. IfSome (R.remaining reader) (λ bytes. input.items ≡ bytes)) }
     ensures err { IfErr result IsGivenUp }
 {

@@ -1,8 +1,8 @@
 //! The program's work, as a function of its argument and its input.
 
 ghost use Rattle.std.specs.Prelude.{◌≡◌, ℕ, List, Err};
-ghost use Rattle.x509_tool.specs.Text.{IsTextOf, IsNoText, IsWithoutLineFeed};
-ghost use Rattle.x509_tool.specs.Output.{AnswersNamed, IsServed, IsUsageOrMemory, listed_answer};
+ghost use Rattle.x509_tool_parts.specs.Text.{IsTextOf, IsNoText, IsWithoutLineFeed};
+ghost use Rattle.x509_tool_parts.specs.Output.{AnswersNamed, IsServed, IsUsageOrMemory, listed_answer};
 
 use crate::fault::ToolFault;
 use crate::served::Served;

@@ -1,7 +1,7 @@
 use Rattle.std.proofs.Common.{◌∷◌, get_or, take}
 use Rattle.std.specs.Fmt.{HasWritten, IsPlainFormatter}
-use Rattle.x509_tool.specs.Output.{spaced}
-use Rattle.x509_tool.proofs.report.SpacedDisplay.fmt.Given as goal
+use Rattle.x509_tool_parts.specs.Output.{spaced}
+use Rattle.x509_tool_parts.proofs.report.SpacedDisplay.fmt.Given as goal
 
 abbrev pub invariant-loop-count : goal.invariant-loop-count
 invariant-loop-count g l =

@@ -1,9 +1,9 @@
 -- The program's argument and its input.
 use Rattle.std.specs.Prelude.{◌≡◌, ◌++◌, ◌⊎◌, ℕ, List, Option, Some, None, Result, Ok, Err}
 use Rattle.std.specs.Io.KnownBytes.{Consumes}
-use Rattle.x509_tool.specs.declared.console.Stop.{Stop}
-use Rattle.x509_tool.specs.declared.console.Stop.TheVariants.{Fault, Console}
-use Rattle.x509_tool.specs.declared.fault.ToolFault.TheVariants.{OutOfMemory, Usage}
+use Rattle.x509_tool_parts.specs.declared.console.Stop.{Stop}
+use Rattle.x509_tool_parts.specs.declared.console.Stop.TheVariants.{Fault, Console}
+use Rattle.x509_tool_parts.specs.declared.fault.ToolFault.TheVariants.{OutOfMemory, Usage}
 
 -- the first, where there is no second
 abbrev pub only_of : {T : Type 0} → Option T → Option T → Result T Stop

@@ -3,10 +3,10 @@ use Rattle.std.specs.Prelude.{◌≡◌, ◌⊎◌, ℕ, ◌≤◌, ◌^◌, Lis
 use Rattle.std.specs.List.{join_with_byte}
 use Rattle.std.specs.Fmt.{decimal}
 use Rattle.hex.specs.Hex.{encode_lower}
-use Rattle.x509_tool.specs.declared.fault.ToolFault.{ToolFault}
-use Rattle.x509_tool.specs.declared.fault.ToolFault.TheVariants.{Refused, Usage, OutOfMemory, TooLong}
-use Rattle.x509_tool.specs.declared.served.Served.{Served}
-use Rattle.x509_tool.specs.declared.served.Served.TheVariants.{Algorithm, Certificate, Extensions, Name, PrivateKey, PublicKey, RawAlgorithm, Request}
+use Rattle.x509_tool_parts.specs.declared.fault.ToolFault.{ToolFault}
+use Rattle.x509_tool_parts.specs.declared.fault.ToolFault.TheVariants.{Refused, Usage, OutOfMemory, TooLong}
+use Rattle.x509_tool_parts.specs.declared.served.Served.{Served}
+use Rattle.x509_tool_parts.specs.declared.served.Served.TheVariants.{Algorithm, Certificate, Extensions, Name, PrivateKey, PublicKey, RawAlgorithm, Request}
 use Rattle.picky_asn1_x509.specs.Tally.{Tally, counts_of}
 use Rattle.picky_asn1_x509.specs.Shape.{Shape}
 use Rattle.picky_asn1_x509.specs.RawAlgorithm.{raw_algorithm}

@@ -1,7 +1,7 @@
 //! Why the program gives no output.
 
 ghost use Rattle.std.specs.Prelude.{◌≡◌};
-ghost use Rattle.x509_tool.specs.Faults.{status_of, line_of};
+ghost use Rattle.x509_tool_parts.specs.Faults.{status_of, line_of};
 
 use hex::FromHexError;
 use picky_asn1_x509::{ReadError, SameEq, WriteError};
@@ -59,7 +59,7 @@ impl ToolFault {
 
 impl From<AllocError> for ToolFault {
     ghost use Rattle.std.specs.Prelude.{◌≡◌};
-    ghost use Rattle.x509_tool.specs.declared.fault.ToolFault.TheVariants as variants;
+    ghost use Rattle.x509_tool_parts.specs.declared.fault.ToolFault.TheVariants as variants;
 
     ghost from_gives = { λ _ fault. fault ≡ variants.OutOfMemory };
 
@@ -70,7 +70,7 @@ impl From<AllocError> for ToolFault {
 
 impl From<ReadError> for ToolFault {
     ghost use Rattle.std.specs.Prelude.{◌≡◌};
-    ghost use Rattle.x509_tool.specs.Faults.{fault_of_read};
+    ghost use Rattle.x509_tool_parts.specs.Faults.{fault_of_read};
 
     ghost from_gives = { λ error fault. fault ≡ fault_of_read error };
 
@@ -84,7 +84,7 @@ impl From<ReadError> for ToolFault {
 
 impl From<WriteError> for ToolFault {
     ghost use Rattle.std.specs.Prelude.{◌≡◌};
-    ghost use Rattle.x509_tool.specs.Faults.{fault_of_write};
+    ghost use Rattle.x509_tool_parts.specs.Faults.{fault_of_write};
 
     ghost from_gives = { λ error fault. fault ≡ fault_of_write error };
 
@@ -98,7 +98,7 @@ impl From<WriteError> for ToolFault {
 
 impl From<FromHexError> for ToolFault {
     ghost use Rattle.std.specs.Prelude.{◌≡◌};
-    ghost use Rattle.x509_tool.specs.Faults.{fault_of_hex};
+    ghost use Rattle.x509_tool_parts.specs.Faults.{fault_of_hex};
 
     ghost from_gives = { λ error fault. fault ≡ fault_of_hex error };
 
