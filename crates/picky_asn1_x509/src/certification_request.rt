@@ -13,7 +13,7 @@ ghost use Rattle.picky_asn1_x509.specs.facts.Requests.{request_attributes_agree,
 
 use crate::certificate::Signature;
 use crate::signed_read::SignedRead;
-use crate::three::{read_three, three_len, write_three};
+use crate::three::{four_len, read_three, three_len, write_four, write_three};
 use picky_asn1_x509_parts::{Attribute, Attributes};
 use std::alloc::{AllocError, Allocator, Global};
 use std::marker::Model;
@@ -246,13 +246,22 @@ impl<A: Allocator> ToDer for CertificationRequestInfo<A> {
     ghost strict = { info_bytes };
 
     fn encoded_len(&self) -> Result<usize, TooLong> {
-        let last = Join(&self.subject_public_key_info, &self.attributes);
-        three_len(&self.version, &self.subject, &last)
+        four_len(
+            &self.version,
+            &self.subject,
+            &self.subject_public_key_info,
+            &self.attributes,
+        )
     }
 
     fn write_back(&self, out: &mut [u8]) -> usize {
-        let last = Join(&self.subject_public_key_info, &self.attributes);
-        write_three(&self.version, &self.subject, &last, out)
+        write_four(
+            &self.version,
+            &self.subject,
+            &self.subject_public_key_info,
+            &self.attributes,
+            out,
+        )
     }
 }
 

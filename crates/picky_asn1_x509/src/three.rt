@@ -1,4 +1,4 @@
-//! A SEQUENCE of three fields, over any three: a proof about it doesn't have all that stands in them.
+//! A SEQUENCE of three or four fields, over any such: a proof about it doesn't have all that stands in them.
 
 ghost use Rattle.std.specs.Prelude.{◌≡◌, ◌+◌, ◌≤◌, ◌++◌, ℕ, List, length, take};
 ghost use Rattle.x509_der.specs.Element.{element};
@@ -47,6 +47,40 @@ pub(crate) fn write_three<F: ToDer, G: ToDer, H: ToDer>(
         ++ element 48 (F.strict first.now ++ (G.strict second.now ++ H.strict third.now)) }
 {
     write_element(SEQUENCE_TAG, &Join(first, Join(second, third)), out)
+}
+
+/// How many bytes the SEQUENCE of four fields is. Takes no memory.
+///
+/// # Errors
+/// `TooLong`, exactly where the length is above the greatest `usize`.
+pub(crate) fn four_len<F: ToDer, G: ToDer, H: ToDer, I: ToDer>(
+    first: &F,
+    second: &G,
+    third: &H,
+    fourth: &I,
+) -> Result<usize, TooLong>
+    ensures { Measures (length (element 48 (F.strict first.now ++ (G.strict second.now
+        ++ (H.strict third.now ++ I.strict fourth.now))))) result }
+{
+    three_len(first, second, &Join(third, fourth))
+}
+
+/// Writes the SEQUENCE of four fields to the end of a slice, and answers where it begins.
+pub(crate) fn write_four<F: ToDer, G: ToDer, H: ToDer, I: ToDer>(
+    first: &F,
+    second: &G,
+    third: &H,
+    fourth: &I,
+    out: &mut [u8],
+) -> usize
+    requires { length (element 48 (F.strict first.now ++ (G.strict second.now
+        ++ (H.strict third.now ++ I.strict fourth.now)))) ≤ length out.old }
+    ensures start { result + length (element 48 (F.strict first.now ++ (G.strict second.now
+        ++ (H.strict third.now ++ I.strict fourth.now)))) ≡ length out.old }
+    ensures bytes { out.new ≡ take result out.old ++ element 48 (F.strict first.now ++ (G.strict second.now
+        ++ (H.strict third.now ++ I.strict fourth.now))) }
+{
+    write_three(first, second, &Join(third, fourth), out)
 }
 
 /// Reads a value by way of the SEQUENCE of its three fields.
