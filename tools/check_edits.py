@@ -19,13 +19,13 @@ BUDGETS = [
     (15, ["x509_der"]),
     (14, ["x509_der_parts"]),
     (10, ["x509_prim", "x509_prim_parts"]),
-    (20, ["x509_names", "x509_names_parts"]),
-    (29, ["x509_keys_parts"]),
-    (17, ["x509_keys"]),
-    (22, ["picky_asn1_x509_parts"]),
-    (17, ["picky_asn1_x509"]),
+    (17, ["x509_names", "x509_names_parts"]),
+    (16, ["x509_keys_parts"]),
+    (15, ["x509_keys"]),
+    (17, ["picky_asn1_x509_parts"]),
+    (13, ["picky_asn1_x509"]),
     (13, ["x509_tool_parts", "x509_callers", "refusing"]),
-    (6, ["x509_oids_algorithms", "x509_oids_objects"]),
+    (4, ["x509_oids_algorithms", "x509_oids_objects"]),
 ]
 
 
