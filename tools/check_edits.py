@@ -25,7 +25,7 @@ BUDGETS = [
     (17, ["picky_asn1_x509_parts"]),
     (13, ["picky_asn1_x509"]),
     (13, ["x509_tool_parts", "x509_callers", "refusing"]),
-    (4, ["x509_oids_algorithms", "x509_oids_objects"]),
+    (2, ["x509_oids_algorithms", "x509_oids_objects"]),
 ]
 
 

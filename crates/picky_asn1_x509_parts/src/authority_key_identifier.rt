@@ -108,17 +108,24 @@ impl<A: Allocator> AuthorityKeyIdentifier<A> {
         match field {
             Choice::First(key) => {
                 let ContentOf(octets) = key.into_inner();
-                self.key_identifier = Some(octets);
+                put(&mut self.key_identifier, octets);
             }
             Choice::Second(Choice::First(issuer)) => {
-                self.authority_cert_issuer = Some(issuer.into_inner());
+                put(&mut self.authority_cert_issuer, issuer.into_inner());
             }
             Choice::Second(Choice::Second(serial)) => {
                 let ContentOf(integer) = serial.into_inner();
-                self.authority_cert_serial_number = Some(integer);
+                put(&mut self.authority_cert_serial_number, integer);
             }
         }
     }
+}
+
+/// Sets a field that may be absent. What it held is let go here, where its type isn't known.
+fn put<T: Drop>(field: &mut Option<T>, value: T)
+    ensures { field.new ≡ Some value }
+{
+    *field = Some(value);
 }
 
 impl<A: Allocator + Copy> AuthorityKeyIdentifier<A> {
