@@ -1,6 +1,6 @@
 //! Extensions of certificates and requests.
 
-ghost use Rattle.std.specs.Prelude.{◌≡◌, ◌↔◌, true, false, refl, Contains, IfOk, IsTrue};
+ghost use Rattle.std.specs.Prelude.{◌≡◌, ◌↔◌, true, false, refl, Contains, Err, IfOk, IsOkAnd, IsTrue, MatchResult, Ok};
 ghost use Rattle.std.proofs.Common.{eqb};
 ghost use Rattle.x509_der.specs.View.{if_found};
 ghost use Rattle.x509_der.specs.laws.Meaning.{sequence_keeps, seen_lawful, seen_element};
@@ -20,8 +20,8 @@ use x509_der::parts::{
     Sequence, Tagged, View, read_viewed,
 };
 use x509_der::{
-    CloneEq, Deviation, FromDer, IntegerAsn1, ObjectIdentifierAsn1, OctetStringAsn1,
-    OctetStringAsn1Container, ReadError, SameEq, ToDer, TooLong,
+    CloneEq, Deviation, FromDer, IntegerAsn1, ObjectIdentifier, ObjectIdentifierAsn1,
+    OctetStringAsn1, OctetStringAsn1Container, ReadError, SameEq, ToDer, TooLong,
 };
 use x509_names::{DirectoryString, GeneralName, GeneralNames, Name};
 use x509_oids_objects as oids;
@@ -453,6 +453,33 @@ impl<A: Allocator> Extension<A> {
     }
 }
 
+/// An extension with the identifier of its kind, if there was memory for that.
+///
+/// # Errors
+/// `AllocError` where there was none. The value is then dropped.
+fn identified<A: Allocator>(
+    extn_id: Result<ObjectIdentifier<A>, AllocError>,
+    critical: bool,
+    extn_value: ExtensionValue<A>,
+) -> Result<Extension<A>, AllocError>
+    requires { IfOk extn_id (λ id. kind_in extn_value ≡ kind_by id) }
+    ensures { MatchResult extn_id (λ id. IsOkAnd result (λ e. e ≡ made id critical extn_value))
+        (λ e. result ≡ Err e) }
+{
+    match extn_id {
+        Ok(extn_id) => Ok(Extension {
+            extn_id: ObjectIdentifierAsn1(extn_id),
+            critical,
+            extn_value,
+        }),
+        // By a call, since the value's type is large, and would be walked through here.
+        Err(error) => {
+            drop(extn_value);
+            Err(error)
+        }
+    }
+}
+
 impl<A: Allocator + Copy> Extension<A> {
     /// An authority key identifier, not critical, as RFC 5280, 4.2.1.1, demands. Each part may be absent.
     ///
@@ -471,17 +498,16 @@ impl<A: Allocator + Copy> Extension<A> {
               serial_number = authority_cert_serial_number;
             }))) }
     {
-        let extn_id = ObjectIdentifierAsn1(oids::authority_key_identifier(alloc)?);
         let key = AuthorityKeyIdentifier::new(
             key_identifier,
             authority_cert_issuer,
             authority_cert_serial_number,
         );
-        Ok(Extension {
-            extn_id,
-            critical: false,
-            extn_value: ExtensionValue::AuthorityKeyIdentifier(OctetStringAsn1Container(key)),
-        })
+        identified(
+            oids::authority_key_identifier(alloc),
+            false,
+            ExtensionValue::AuthorityKeyIdentifier(OctetStringAsn1Container(key)),
+        )
     }
 
     /// A subject key identifier, not critical, as RFC 5280, 4.2.1.2, demands.
@@ -495,13 +521,12 @@ impl<A: Allocator + Copy> Extension<A> {
         ensures { IfOk result (λ e. e ≡ made subject_key_arcs false
             (value.SubjectKeyIdentifier key_identifier.items)) }
     {
-        let extn_id = ObjectIdentifierAsn1(oids::subject_key_identifier(alloc)?);
         let key = OctetStringAsn1(key_identifier);
-        Ok(Extension {
-            extn_id,
-            critical: false,
-            extn_value: ExtensionValue::SubjectKeyIdentifier(OctetStringAsn1Container(key)),
-        })
+        identified(
+            oids::subject_key_identifier(alloc),
+            false,
+            ExtensionValue::SubjectKeyIdentifier(OctetStringAsn1Container(key)),
+        )
     }
 
     /// A key usage, critical, as RFC 5280, 4.2.1.3, recommends.
@@ -511,12 +536,11 @@ impl<A: Allocator + Copy> Extension<A> {
     pub fn new_key_usage(alloc: A, key_usage: KeyUsage<A>) -> Result<Self, AllocError>
         ensures { IfOk result (λ e. e ≡ made key_usage_arcs true (value.KeyUsage key_usage)) }
     {
-        let extn_id = ObjectIdentifierAsn1(oids::key_usage(alloc)?);
-        Ok(Extension {
-            extn_id,
-            critical: true,
-            extn_value: ExtensionValue::KeyUsage(OctetStringAsn1Container(key_usage)),
-        })
+        identified(
+            oids::key_usage(alloc),
+            true,
+            ExtensionValue::KeyUsage(OctetStringAsn1Container(key_usage)),
+        )
     }
 
     /// Further names of the subject, critical. RFC 5280, 4.2.1.6, demands that where the certificate's own subject is
@@ -527,12 +551,11 @@ impl<A: Allocator + Copy> Extension<A> {
     pub fn new_subject_alt_name(alloc: A, names: GeneralNames<A>) -> Result<Self, AllocError>
         ensures { IfOk result (λ e. e ≡ made subject_name_arcs true (value.SubjectAltName names)) }
     {
-        let extn_id = ObjectIdentifierAsn1(oids::subject_alternative_name(alloc)?);
-        Ok(Extension {
-            extn_id,
-            critical: true,
-            extn_value: ExtensionValue::SubjectAltName(OctetStringAsn1Container(names)),
-        })
+        identified(
+            oids::subject_alternative_name(alloc),
+            true,
+            ExtensionValue::SubjectAltName(OctetStringAsn1Container(names)),
+        )
     }
 
     /// Further names of the issuer, not critical, as RFC 5280, 4.2.1.7, recommends.
@@ -542,12 +565,11 @@ impl<A: Allocator + Copy> Extension<A> {
     pub fn new_issuer_alt_name(alloc: A, names: GeneralNames<A>) -> Result<Self, AllocError>
         ensures { IfOk result (λ e. e ≡ made issuer_name_arcs false (value.IssuerAltName names)) }
     {
-        let extn_id = ObjectIdentifierAsn1(oids::issuer_alternative_name(alloc)?);
-        Ok(Extension {
-            extn_id,
-            critical: false,
-            extn_value: ExtensionValue::IssuerAltName(OctetStringAsn1Container(names)),
-        })
+        identified(
+            oids::issuer_alternative_name(alloc),
+            false,
+            ExtensionValue::IssuerAltName(OctetStringAsn1Container(names)),
+        )
     }
 
     /// Basic constraints, critical, which is always acceptable (RFC 5280, 4.2.1.9). Each part may be absent; the path
@@ -563,13 +585,12 @@ impl<A: Allocator + Copy> Extension<A> {
         ensures { IfOk result (λ e. e ≡ made constraints_arcs true
             (value.BasicConstraints (record { ca = ca; pathlen = path_len_constraint }))) }
     {
-        let extn_id = ObjectIdentifierAsn1(oids::basic_constraints(alloc)?);
         let constraints = BasicConstraints::new(ca, path_len_constraint);
-        Ok(Extension {
-            extn_id,
-            critical: true,
-            extn_value: ExtensionValue::BasicConstraints(OctetStringAsn1Container(constraints)),
-        })
+        identified(
+            oids::basic_constraints(alloc),
+            true,
+            ExtensionValue::BasicConstraints(OctetStringAsn1Container(constraints)),
+        )
     }
 
     /// Purposes of a key, critical exactly where `anyExtendedKeyUsage`, 2.5.29.37.0, isn't among them: with it, RFC
@@ -607,12 +628,11 @@ impl<A: Allocator + Copy> Extension<A> {
     ) -> Result<Self, AllocError>
         ensures { IfOk result (λ e. e ≡ made crl_number_arcs false (value.CrlNumber number)) }
     {
-        let extn_id = ObjectIdentifierAsn1(oids::crl_number(alloc)?);
-        Ok(Extension {
-            extn_id,
-            critical: false,
-            extn_value: ExtensionValue::CrlNumber(number),
-        })
+        identified(
+            oids::crl_number(alloc),
+            false,
+            ExtensionValue::CrlNumber(number),
+        )
     }
 }
 
