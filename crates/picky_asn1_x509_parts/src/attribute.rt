@@ -1,6 +1,6 @@
 //! Attributes of requests and of signed messages.
 
-ghost use Rattle.std.specs.Prelude.{◌≡◌, ◌∷◌, [], true, false, refl, IfOk};
+ghost use Rattle.std.specs.Prelude.{◌≡◌, ◌∷◌, [], true, false, refl, Err, IfOk, IsOkAnd, MatchResult};
 ghost use Rattle.x509_der.specs.Reading.{Ready, Reads};
 ghost use Rattle.x509_der.specs.laws.Structure.{structure_lawful, structure_element};
 ghost use Rattle.picky_asn1_x509_parts.specs.RequestAttributes.{extension_request_arcs, content_type_arcs, message_digest_arcs, signing_time_arcs, data_arcs, kind_of as kind_by, value_bytes, IsValue, by_kind, attribute_parts, attribute_base, attribute, attribute_bytes};
@@ -15,8 +15,8 @@ use x509_der::parts::{
     AnyDefinedBy, DefinedBy, Field, Reader, SEQUENCE_TAG, Sequence, Structure, Tagged, read_fields,
 };
 use x509_der::{
-    Asn1RawDer, Asn1SequenceOf, Asn1SetOf, CloneEq, FromDer, ObjectIdentifierAsn1, OctetStringAsn1,
-    ReadError, SameEq, ToDer, TooLong,
+    Asn1RawDer, Asn1SequenceOf, Asn1SetOf, CloneEq, FromDer, ObjectIdentifier,
+    ObjectIdentifierAsn1, OctetStringAsn1, ReadError, SameEq, ToDer, TooLong,
 };
 use x509_names::{DirectoryString, GeneralName, Name};
 use x509_oids_objects as oids;
@@ -328,6 +328,30 @@ fn set_of<T: Drop, A: Allocator>(alloc: A, item: T) -> Result<Asn1SetOf<T, A>, A
     Ok(Asn1SetOf(items))
 }
 
+/// An attribute with the identifier of its type, if there was memory for that.
+///
+/// # Errors
+/// `AllocError` where there was none. The values are then dropped.
+fn of_type<A: Allocator>(
+    ty: Result<ObjectIdentifier<A>, AllocError>,
+    values: AttributeValues<A>,
+) -> Result<Attribute<A>, AllocError>
+    ensures { MatchResult ty (λ id. IsOkAnd result (λ a. a ≡ record { ty = id; value = values }))
+        (λ e. result ≡ Err e) }
+{
+    match ty {
+        Ok(ty) => Ok(Attribute {
+            ty: ObjectIdentifierAsn1(ty),
+            value: values,
+        }),
+        // By a call, since the values' type is large, and would be walked through here.
+        Err(error) => {
+            drop(values);
+            Err(error)
+        }
+    }
+}
+
 impl<A: Allocator + Copy> Attribute<A> {
     /// A request for extensions, `extensionRequest` (RFC 2985, 5.4.2): a set of the one list.
     ///
@@ -363,13 +387,9 @@ impl<A: Allocator + Copy> Attribute<A> {
               (data_arcs ∷ []);
         }) }
     {
-        let ty = ObjectIdentifierAsn1(oids::content_type(alloc)?);
         let data = ObjectIdentifierAsn1(oids::content_info_type_data(alloc)?);
         let set = set_of(alloc, data)?;
-        Ok(Attribute {
-            ty,
-            value: AttributeValues::ContentType(set),
-        })
+        of_type(oids::content_type(alloc), AttributeValues::ContentType(set))
     }
 
     /// When something was signed, `signingTime` (RFC 2985, 5.3.3): a set of the one time.
@@ -383,12 +403,8 @@ impl<A: Allocator + Copy> Attribute<A> {
               (signing_time ∷ []);
         }) }
     {
-        let ty = ObjectIdentifierAsn1(oids::signing_time(alloc)?);
         let set = set_of(alloc, UtcTimeAsn1(signing_time))?;
-        Ok(Attribute {
-            ty,
-            value: AttributeValues::SigningTime(set),
-        })
+        of_type(oids::signing_time(alloc), AttributeValues::SigningTime(set))
     }
 
     /// The digest of a message, `messageDigest` (RFC 2985, 5.3.2): a set of the one string of octets.
@@ -402,12 +418,11 @@ impl<A: Allocator + Copy> Attribute<A> {
               (digest.items ∷ []);
         }) }
     {
-        let ty = ObjectIdentifierAsn1(oids::message_digest(alloc)?);
         let set = set_of(alloc, OctetStringAsn1(digest))?;
-        Ok(Attribute {
-            ty,
-            value: AttributeValues::MessageDigest(set),
-        })
+        of_type(
+            oids::message_digest(alloc),
+            AttributeValues::MessageDigest(set),
+        )
     }
 }
 
