@@ -21,7 +21,7 @@ BUDGETS = [
     (10, ["x509_prim", "x509_prim_parts"]),
     (17, ["x509_names", "x509_names_parts"]),
     (16, ["x509_keys_parts"]),
-    (15, ["x509_keys"]),
+    (16, ["x509_keys"]),
     (17, ["picky_asn1_x509_parts"]),
     (13, ["picky_asn1_x509"]),
     (13, ["x509_tool_parts", "x509_callers", "refusing"]),
