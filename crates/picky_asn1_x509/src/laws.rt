@@ -44,7 +44,7 @@ pub use x509_names::laws::{
 };
 pub use x509_prim::laws::{generalized_time_takes_no_memory, utc_time_takes_no_memory};
 
-/// The law of fields of `TbsCertificate`: the version and the extensions, where they are spelled, and the others stand
+/// The law of fields of `TbsCertificate`: the version and the extensions, where they are encoded, and the others stand
 /// one behind another.
 pub fn tbs_certificate_fields<A: Allocator + Copy>()
     ensures { (v : TbsCertificate A) (string : List ℕ) (y : Tally) → tbs_certificate.spelled v string y →
@@ -108,7 +108,7 @@ pub fn request_signed_part<A: Allocator>()
         (slice ≡ info_bytes v.certification_request_info) ↔ (sum inside ≡ 0) }
 {}
 
-/// What is spelled in the form without unique identifiers is spelled in the full form too, with the same value in the
+/// What is encoded in the form without unique identifiers is encoded in the full form too, with the same value in the
 /// other fields, no unique identifiers, and the same deviations, places and headers.
 pub fn older_certificates_stay<A: Allocator>()
     ensures { (v : OlderTbs A) (string : List ℕ) (y : Tally) → older_tbs.spelled v string y →

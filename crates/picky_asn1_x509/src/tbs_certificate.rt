@@ -195,7 +195,7 @@ type EndNest<I, S, E> = Join<
 /// The fields behind them, owned.
 type Ends<A> = EndNest<ContentOf<BitStringAsn1<A>>, ContentOf<BitStringAsn1<A>>, Extensions<A>>;
 
-/// The version, where it is spelled.
+/// The version, where it is encoded.
 type SpelledVersion = Optional<Tagged<Explicit0, Version>>;
 
 /// The fields behind the version, owned.
@@ -365,7 +365,7 @@ impl<A: Allocator> ToDer for TbsCertificate<A> {
     }
 }
 
-/// The version that is spelled, or version 1.
+/// The version that is encoded, or version 1.
 fn version_of(spelled: Option<Version>) -> Version
     ensures { result ≡ version_in spelled }
 {
@@ -375,7 +375,7 @@ fn version_of(spelled: Option<Version>) -> Version
     }
 }
 
-/// The deviation of a version 1 that is spelled.
+/// The deviation of a version 1 that is encoded.
 fn spelled_first(spelled: Option<Version>) -> Option<Deviation>
     ensures { if_found result ≡ version_kinds spelled }
 {
@@ -385,7 +385,7 @@ fn spelled_first(spelled: Option<Version>) -> Option<Deviation>
     }
 }
 
-/// The version that is spelled, where it is there.
+/// The version that is encoded, where it is there.
 fn spelled_version(field: &SpelledVersion) -> Option<Version>
     ensures { result ≡ field.now }
 {
@@ -422,7 +422,7 @@ fn bits_in<A: Allocator>(spelled: Option<BitStringAsn1<A>>) -> Option<BitString<
     }
 }
 
-/// The extensions that are spelled, or none.
+/// The extensions that are encoded, or none.
 fn extensions_of<A: Allocator>(alloc: A, spelled: Option<Extensions<A>>) -> Extensions<A>
     ensures { result ≡ list_in spelled }
 {
@@ -432,7 +432,7 @@ fn extensions_of<A: Allocator>(alloc: A, spelled: Option<Extensions<A>>) -> Exte
     }
 }
 
-/// The deviation of an empty list of extensions that is spelled.
+/// The deviation of an empty list of extensions that is encoded.
 fn spelled_empty<A: Allocator>(spelled: &Option<Extensions<A>>) -> Option<Deviation>
     ensures { if_found result ≡ list_kinds spelled.now }
 {

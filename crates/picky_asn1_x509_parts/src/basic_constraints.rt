@@ -14,7 +14,7 @@ use x509_der::parts::{
 use x509_der::{CloneEq, FromDer, ReadError, SameEq, ToDer, TooLong};
 
 /// Whether the subject of a certificate is an authority, and how many intermediate certificates may follow in a path.
-/// Contracts see the two fields. One that is absent and one that spells the default, FALSE, are two values.
+/// Contracts see the two fields. One that is absent and one that encodes the default, FALSE, are two values.
 ///
 /// # Encoding
 /// `SEQUENCE { cA BOOLEAN OPTIONAL, pathLenConstraint INTEGER (0..255) OPTIONAL }`, after RFC 5280, 4.2.1.9, where `cA`

@@ -279,7 +279,7 @@ fn read_as<A: Allocator + Copy>(
     }
 }
 
-/// What stands in front of a value: the object identifier, and whether the extension is critical where that is spelled.
+/// What stands in front of a value: the object identifier, and whether the extension is critical where that is encoded.
 type Key<A> = Join<ObjectIdentifierAsn1<A>, Optional<bool>>;
 
 impl<A: Allocator + Copy> AnyDefinedBy<Key<A>, A> for ExtensionValue<A> {
@@ -378,7 +378,7 @@ impl<A: Allocator + Copy> Field<A> for Fitting<A> {
 ///
 /// # Encoding
 /// `Extension ::= SEQUENCE { extnID OBJECT IDENTIFIER, critical BOOLEAN DEFAULT FALSE, extnValue OCTET STRING }` (RFC
-/// 5280, 4.1 and 4.2). The value fills the OCTET STRING whole. A FALSE that is spelled is read with the deviation
+/// 5280, 4.1 and 4.2). The value fills the OCTET STRING whole. A FALSE that is encoded is read with the deviation
 /// `CriticalFalseSpelled`, and written as it must be: not at all.
 #[derive(Drop)]
 #[derive_where(Debug, PartialEq, Eq)]
@@ -709,14 +709,14 @@ fn written<A: Allocator>(value: &Extension<A>) -> Written<'_, A>
     Tagged::new(DefinedBy(Join(&value.extn_id, critical), &value.extn_value))
 }
 
-/// Whether an extension is critical: not, where it isn't spelled.
+/// Whether an extension is critical: not, where it isn't encoded.
 fn critical_in(spelled: Option<bool>) -> bool
     ensures { result ≡ critical_of spelled }
 {
     spelled.unwrap_or(false)
 }
 
-/// The deviation of a FALSE that is spelled.
+/// The deviation of a FALSE that is encoded.
 fn spelled_false(spelled: Option<bool>) -> Option<Deviation>
     ensures { if_found result ≡ critical_kinds spelled }
 {

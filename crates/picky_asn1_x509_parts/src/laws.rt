@@ -81,7 +81,7 @@ pub fn neighbours_ascend<H: Drop>()
     ensures { (number : H → ℕ) (hs : List H) → (ascends number hs ≡ true) ↔ NeighboursAscend number hs }
 {}
 
-/// The law of fields of `Extension`: the object identifier, whether it is critical, where that is spelled, and the
+/// The law of fields of `Extension`: the object identifier, whether it is critical, where that is encoded, and the
 /// value in its OCTET STRING, in the shape of the kind that the identifier says.
 pub fn extension_fields<A: Allocator + Copy>()
     ensures { (v : ExtensionFields A) (string : List ℕ) (y : Tally) → extension.spelled v string y →

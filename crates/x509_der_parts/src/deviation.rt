@@ -19,11 +19,11 @@ pub enum Deviation {
     HashNullAbsent,
     /// A salt length is above 2^64 - 1, and read as 2^64 - 1.
     SaltTooLarge,
-    /// The version of a certificate is spelled though it is the default (X.690, 11.5). It is left out.
+    /// The version of a certificate is encoded though it is the default (X.690, 11.5). It is left out.
     VersionZeroSpelled,
-    /// An empty list of extensions is spelled (RFC 5280, 4.1.2.9). It is left out.
+    /// An empty list of extensions is encoded (RFC 5280, 4.1.2.9). It is left out.
     EmptyExtensionsSpelled,
-    /// A criticality is spelled though it is the default, FALSE (X.690, 11.5). It is left out.
+    /// A criticality is encoded though it is the default, FALSE (X.690, 11.5). It is left out.
     CriticalFalseSpelled,
     /// The fields of an authority key identifier repeat or are out of order (RFC 5280, 4.2.1.1).
     AuthorityKeyFieldOrder,

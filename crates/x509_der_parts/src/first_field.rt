@@ -21,7 +21,7 @@ use std::alloc::Allocator;
 pub struct FirstField<'a, T> {
     /// The value.
     pub value: T,
-    /// The bytes that spell the value's first field.
+    /// The bytes that encode the value's first field.
     pub slice: &'a [u8],
     /// How many deviations of each kind stand inside the slice.
     pub inside: Deviations,

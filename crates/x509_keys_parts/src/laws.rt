@@ -35,7 +35,7 @@ pub fn raw_algorithm_fields<A: Allocator + Copy>()
     fields::<RawAlgorithmIdentifier<A>, A>();
 }
 
-/// In a list of two, each stands in the slice that spells it, also where the two are equal and spelled otherwise.
+/// In a list of two, each stands in the slice that encodes it, also where the two are equal and encoded otherwise.
 pub fn two_raw_algorithms<A: Allocator + Copy>()
     ensures { (v w : RawAlgorithm) (c d string : List ℕ) (x z y : Tally) → raw_algorithm.spelled v c x →
         raw_algorithm.spelled w d z → string ≡ element 48 (c ++ d) →

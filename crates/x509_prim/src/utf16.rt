@@ -8,7 +8,7 @@ ghost use Rattle.x509_prim.specs.Utf16.{units_in, lossy_chars};
 
 use std::fmt;
 
-/// The unit that the first two bytes spell, and 0 where there are fewer.
+/// The unit that the first two bytes encode, and 0 where there are fewer.
 fn first_unit(bytes: &[u8]) -> u16
     ensures { result ≡ slice_index_or (units_in bytes.now) 0 0 }
 {
@@ -56,7 +56,7 @@ fn next_char(bytes: &[u8]) -> (char, &[u8])
     (lone_char(unit), rest)
 }
 
-/// Writes the characters that the bytes spell. Takes no memory.
+/// Writes the characters that the bytes encode. Takes no memory.
 pub(crate) fn write_utf16<W: fmt::Write>(f: &mut fmt::Formatter<W>, bytes: &[u8]) -> fmt::Result
     ensures { WritesOnOk W.write_str_gives f.old result (encode_utf8_all (lossy_chars bytes.now)) f.new }
 {

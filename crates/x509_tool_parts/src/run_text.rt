@@ -24,7 +24,7 @@ fn without_line_feed(text: &[u8]) -> &[u8]
 /// # Errors
 /// `Usage`, exactly where the name isn't that of a type that is served, and before memory is asked for, or the text
 /// isn't an even number of hexadecimal digits of either case with at most one line feed at its end; else `Refused`,
-/// exactly where the bytes aren't spelled with a value of the type; `TooLong`, exactly where its DER encoding is longer
+/// exactly where the bytes encode no value of the type; `TooLong`, exactly where its DER encoding is longer
 /// than a `usize` can say. `OutOfMemory` may stand in place of any answer but that to an unknown name, where memory is
 /// refused.
 pub fn run_text<A: Allocator + Copy>(

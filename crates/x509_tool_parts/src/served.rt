@@ -79,7 +79,7 @@ impl Served {
 /// The answer to the bytes as a value of a type.
 ///
 /// # Errors
-/// `Refused`, exactly where the bytes aren't spelled with a value of the type; `TooLong`, exactly where its DER
+/// `Refused`, exactly where the bytes encode no value of the type; `TooLong`, exactly where its DER
 /// encoding is longer than a `usize` can say; `OutOfMemory` in place of any of these, where memory is refused.
 fn answer<T: FromDer<A>, A: Allocator + Copy>(
     alloc: A,

@@ -69,7 +69,7 @@ const SIGNED: &[SignedRow<'static>] = &[
     },
 ];
 
-/// What the text spells in hexadecimal.
+/// The bytes that the text has in hexadecimal.
 fn decoded<A: Heap>(rt: &impl Abort, heap: A, text: &str) -> Vec<u8, A> {
     hex::decode(heap, text).expect(rt, text)
 }

@@ -53,7 +53,7 @@ pub(super) fn granted<T, E: Drop>(rt: &impl Abort, answer: Result<T, E>) -> T {
     answer.ok().expect(rt, "memory")
 }
 
-/// What the text spells in hexadecimal.
+/// The bytes that the text has in hexadecimal.
 pub(super) fn bytes_of(rt: &impl Abort, alloc: Global, text: &str) -> Vec<u8> {
     hex::decode(alloc, text).expect(rt, text)
 }

@@ -17,7 +17,7 @@ const UNPAIRED: &[u8] = b"\x1E\x06\x00a\xDC\x00\x00b";
 /// Its characters.
 const UNPAIRED_TEXT: &str = "a\u{FFFD}b";
 
-/// The directory string that the bytes spell.
+/// The directory string that the bytes encode.
 fn string_of<A: Heap>(rt: &impl Abort, heap: A, bytes: &[u8]) -> DirectoryString<A> {
     from_bytes(heap, bytes).expect(rt, "a directory string")
 }

@@ -266,7 +266,7 @@ fn purposes_are_moved(rt: HostRuntime) {
     purposes_are_moved_over(&rt, &heap);
 }
 
-/// A FALSE that is spelled isn't the same as none.
+/// A FALSE that is encoded isn't the same as none.
 fn false_is_seen_over<A: Heap>(rt: &impl Abort, heap: A) {
     heap.refuse_all();
     let bytes = b"\x30\x03\x01\x01\x00".as_slice();

@@ -11,7 +11,7 @@ use x509_der::parts::{FirstField, Join, Optional, Structure, read_first_field};
 use x509_der::{Deviation, Deviations, ReadError};
 use x509_keys::RawAlgorithmIdentifier;
 
-/// Two algorithm identifiers, each of which may be spelled with a deviation.
+/// Two algorithm identifiers, each of which may be encoded with a deviation.
 ///
 /// # Encoding
 /// `SEQUENCE { first AlgorithmIdentifier, second AlgorithmIdentifier }`

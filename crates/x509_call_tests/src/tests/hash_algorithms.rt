@@ -279,7 +279,7 @@ fn made_turn<T: ToDer + Drop>(
     }
 }
 
-/// What the text spells in hexadecimal, in a memory of its own.
+/// The bytes that the text has in hexadecimal, in a memory of its own.
 fn strict_of<A: Heap>(rt: &impl Abort, heap: A, text: &str) -> Vec<u8, A> {
     hex::decode(heap, text).expect(rt, text)
 }

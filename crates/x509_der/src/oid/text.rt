@@ -44,7 +44,7 @@ fn read_arc(piece: &str) -> Option<u64>
 }
 
 impl<A: Allocator> ObjectIdentifier<A> {
-    /// The object identifier that a text spells: its arcs in decimal with no leading zeros, joined by points.
+    /// The object identifier of a text: its arcs in decimal with no leading zeros, joined by points.
     ///
     /// # Errors
     /// `Bad`, exactly where the text is that of no object identifier; `OutOfMemory` where memory is refused.

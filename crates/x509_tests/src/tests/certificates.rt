@@ -41,7 +41,7 @@ impl<A: Allocator + Copy> OwnClone for CertificationRequest<A> {
     }
 }
 
-/// Versions and empty lists that are spelled though they are left out, alone and together.
+/// Versions and empty lists that are encoded though they are left out, alone and together.
 const SPELLED_PARTS: &[Row<'static>] = &[
     // Version 1, spelled.
     Row {

@@ -27,7 +27,7 @@ impl<A: Allocator + Copy> OwnClone for Attribute<A> {
     }
 }
 
-/// Empty basic constraints, with and without a FALSE that is spelled.
+/// Empty basic constraints, with and without a FALSE that is encoded.
 const FALSE_SPELLED: &str = "300c0603551d1301010004023000";
 
 const NOT_CRITICAL: &str = "30090603551d1304023000";

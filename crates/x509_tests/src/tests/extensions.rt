@@ -62,7 +62,7 @@ fn key_usages(rt: HostRuntime) {
     key_usages_over(&rt, &heap);
 }
 
-/// A path length is 0 to 255: 300 is refused, and so is -128. FALSE that is spelled is no deviation.
+/// A path length is 0 to 255: 300 is refused, and so is -128. FALSE that is encoded is no deviation.
 const CONSTRAINTS: Table<'static> = Table {
     strict: &[
         ("3000", 1),

@@ -60,7 +60,7 @@ fn is_printed(rt: &impl Abort, printed: &str, stated: &str) {
     assert!(rt; printed == stated, "{printed} and not {stated}");
 }
 
-/// The value that the bytes spell prints this text.
+/// The value that the bytes encode prints this text.
 fn prints<A: Heap, T: FromDer<A> + Display>(rt: &impl Abort, heap: A, input: &str, text: &str) {
     let input = bytes_of(rt, heap, input);
     let value = from_bytes::<T, A>(heap, &input).expect(rt, text);
@@ -154,7 +154,7 @@ fn names_are_printed(rt: HostRuntime) {
     names_are_printed_over(&rt, &heap);
 }
 
-/// The name that the bytes spell prints this text by its formatter too.
+/// The name that the bytes encode prints this text by its formatter too.
 fn is_formatted<A: Heap>(rt: &impl Abort, heap: A, input: &str, text: &str) {
     let input = bytes_of(rt, heap, input);
     let name = from_bytes::<Name<A>, A>(heap, &input).expect(rt, text);

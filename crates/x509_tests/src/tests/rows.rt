@@ -79,7 +79,7 @@ pub struct Table<'a> {
     pub refused: &'a [&'a str],
 }
 
-/// What the text spells in hexadecimal.
+/// The bytes that the text has in hexadecimal.
 pub(super) fn bytes_of<A: Heap>(rt: &impl Abort, heap: A, text: &str) -> Vec<u8, A> {
     hex::decode(heap, text).expect(rt, text)
 }
