@@ -24,11 +24,11 @@ pub use picky_asn1_x509_parts::laws::{
 };
 use std::alloc::Allocator;
 pub use x509_der::laws::{
-    bool_takes_no_memory, chosen_fields, contained_fields, equal_spellings, equality_is_sameness,
-    fields, item_fields, joined_fields, lists_owe_their_items, natural_contents, no_proper_front,
-    null_takes_no_memory, number_has_one_content, payload_fields, read_write_read,
-    spelled_where_readable, spellings_are_lawful, strict_is_written, tagged_fields_are_elements,
-    tagged_lists, u8_takes_no_memory, viewed_fields,
+    bool_takes_no_memory, contained_fields, defined_by_fields, equal_spellings,
+    equality_is_sameness, fields, item_fields, joined_fields, lists_owe_their_items,
+    natural_contents, no_proper_front, null_takes_no_memory, number_has_one_content,
+    payload_fields, read_write_read, spelled_where_readable, spellings_are_lawful,
+    strict_is_written, tagged_fields_are_elements, tagged_lists, u8_takes_no_memory, viewed_fields,
 };
 pub use x509_keys::laws::{
     algorithm_fields, algorithms_fit, digest_info_fields, ec_private_key_fields, hash_fields,
