@@ -1,14 +1,18 @@
 //! The times between which a certificate is valid.
 
 ghost use Rattle.std.specs.Prelude.{◌≡◌, refl, Ok};
+ghost use Rattle.x509_der.specs.Structure.{structure};
+ghost use Rattle.x509_der.specs.laws.ContentOf.{content_of_lawful, tagged_fields};
 ghost use Rattle.x509_der.specs.laws.Structure.{structure_lawful, structure_element};
-ghost use Rattle.x509_names_parts.specs.Validities.{validity_parts, validity_base, validity as validities};
+ghost use Rattle.x509_names_parts.specs.Validities.{validity_parts, validity_inner, validity_base, validity_content};
+ghost use Rattle.x509_names_parts.specs.Validities.{validity as validities};
 ghost use Rattle.x509_names_parts.specs.facts.Validities.{validity_same};
 
 use crate::time::Time;
 use std::alloc::{AllocError, Allocator};
 use x509_der::parts::{
-    Field, Join, Reader, SEQUENCE_TAG, Sequence, Structure, Tagged, read_fields,
+    Content, Field, Join, OneTag, Reader, SEQUENCE_TAG, Sequence, Structure, Tagged, ToContent,
+    element_len, read_as_content, read_sequence, write_element,
 };
 use x509_der::{CloneEq, FromDer, ReadError, SameEq, ToDer, TooLong};
 
@@ -59,26 +63,38 @@ impl SameEq for Validity {
         (λ a b. Prim.search (rules)) (λ a b. Prim.search (rules)) };
 }
 
-/// The fields as they stand in the SEQUENCE, owned or borrowed.
-type Nest<T> = Tagged<Sequence, Join<T, T>>;
+/// The fields in the SEQUENCE.
+type Inner = Join<Time, Time>;
 
 impl ToDer for Validity {
     ghost strict = { λ v. validity_base.strict (validity_parts v) };
 
     fn encoded_len(&self) -> Result<usize, TooLong> {
-        Nest::new(Join(&self.not_before, &self.not_after)).encoded_len()
+        element_len(SEQUENCE_TAG, &Join(&self.not_before, &self.not_after))
     }
 
     fn write_back(&self, out: &mut [u8]) -> usize {
-        Nest::new(Join(&self.not_before, &self.not_after)).write_back(out)
+        write_element(SEQUENCE_TAG, &Join(&self.not_before, &self.not_after), out)
     }
 }
 
-impl Structure<Nest<Time>> for Validity {
+impl ToContent for Validity {
+    ghost content = { λ v. validity_inner.strict (validity_parts v) };
+
+    fn content_len(&self) -> Result<usize, TooLong> {
+        Join(&self.not_before, &self.not_after).encoded_len()
+    }
+
+    fn write_content(&self, out: &mut [u8]) -> usize {
+        Join(&self.not_before, &self.not_after).write_back(out)
+    }
+}
+
+impl Structure<Inner> for Validity {
     ghost fields = { validity_parts };
 
-    fn from_fields(parts: Nest<Time>) -> Self {
-        let Join(not_before, not_after) = parts.into_inner();
+    fn from_fields(parts: Inner) -> Self {
+        let Join(not_before, not_after) = parts;
         Validity {
             not_before,
             not_after,
@@ -92,10 +108,10 @@ impl<A: Allocator + Copy> Field<A> for Validity {
     ghost shape = { validities };
 
     ghost lawful = { λ h. structure_lawful validity_parts validity_base validity_same
-        (⟦<Nest<Time> as Field<A>>⟧.lawful (tt, tt, λ c h. refl)) };
+        (⟦<Tagged<Sequence, Inner> as Field<A>>⟧.lawful (tt, tt, λ c h. refl)) };
 
     ghost elements = { λ h. structure_element validity_parts validity_base
-        (⟦<Nest<Time> as Field<A>>⟧.elements tt) };
+        (⟦<Tagged<Sequence, Inner> as Field<A>>⟧.elements tt) };
 
     ghost agrees = { λ v. refl };
 
@@ -109,12 +125,42 @@ impl<A: Allocator + Copy> Field<A> for Validity {
     }
 
     fn read(alloc: A, reader: &mut Reader<'_, A>) -> Result<Self, ReadError> {
-        read_fields::<Self, Nest<Time>, A>(alloc, reader)
+        read_sequence::<Self, Inner, A>(alloc, reader)
     }
+}
+
+impl<A: Allocator + Copy> Content<A> for Validity {
+    ghost content_shape = { validity_content };
+
+    ghost content_lawful = { λ h. content_of_lawful (structure validity_parts validity_inner)
+        (structure_lawful validity_parts validity_inner validity_same
+        (⟦<Inner as Field<A>>⟧.lawful (tt, tt, λ c h. refl))) };
+
+    fn known_content(&self) {
+        Field::<A>::known(self);
+    }
+
+    fn read_content(alloc: A, reader: &mut Reader<'_, A>) -> Result<Self, ReadError> {
+        read_as_content::<Self, Inner, A>(alloc, reader)
+    }
+
+    ghost content_always = { tt };
+
+    ghost open = { λ b. refl };
+
+    ghost content_agrees = { λ v. refl };
 }
 
 impl<A: Allocator + Copy> FromDer<A> for Validity {
     ghost always = { tt };
 
     ghost whole = { tt };
+}
+
+impl<A: Allocator + Copy> OneTag<A> for Validity {
+    ghost tag = { 48 };
+
+    ghost spelled_around = { λ v p y. tagged_fields 48 validity_parts validity_inner v p y };
+
+    ghost strict_around = { λ v. refl };
 }

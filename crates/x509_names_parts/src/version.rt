@@ -1,12 +1,16 @@
 //! The version of a certificate.
 
-ghost use Rattle.std.specs.Prelude.{◌≡◌, refl};
+ghost use Rattle.std.specs.Prelude.{◌≡◌, refl, IfSome, IfNone};
 ghost use Rattle.x509_der.specs.laws.Meaning.{seen_lawful, seen_element};
+ghost use Rattle.x509_names_parts.specs.declared.version.Version.{Version};
 ghost use Rattle.x509_names_parts.specs.Versions.{version_number, version_of, version_base, version_meaning, version};
-ghost use Rattle.x509_names_parts.specs.facts.Versions.{version_is, version_keeps};
+ghost use Rattle.x509_names_parts.specs.Versions.{version_bytes, version_content};
+ghost use Rattle.x509_names_parts.specs.facts.Versions.{version_is, version_keeps, version_content_lawful, version_around};
 
 use std::alloc::{AllocError, Allocator};
-use x509_der::parts::{Field, Found, INTEGER_TAG, Reader, Refusal, View, read_viewed_or};
+use x509_der::parts::{
+    Content, Field, Found, INTEGER_TAG, OneTag, Reader, Refusal, ToContent, View, read_viewed_or,
+};
 use x509_der::{CloneEq, FromDer, ReadError, SameEq, ToDer, TooLong};
 
 /// The version of a certificate (RFC 5280, 4.1.2.1).
@@ -80,6 +84,18 @@ impl ToDer for Version {
     }
 }
 
+impl ToContent for Version {
+    ghost content = { version_bytes };
+
+    fn content_len(&self) -> Result<usize, TooLong> {
+        self.number().content_len()
+    }
+
+    fn write_content(&self, out: &mut [u8]) -> usize {
+        self.number().write_content(out)
+    }
+}
+
 impl View<u8> for Version {
     ghost base = { version_base };
 
@@ -120,8 +136,53 @@ impl<A: Allocator + Copy> Field<A> for Version {
     }
 }
 
+/// The version of a content.
+fn version_in(bytes: &[u8]) -> Option<Version>
+    ensures some { IfSome result (λ v. bytes.now ≡ version_bytes v) }
+    ensures none { IfNone result ((v : Version) → bytes.now ≡ version_bytes v → ⊥) }
+{
+    match bytes {
+        [0] => Some(Version::V1),
+        [1] => Some(Version::V2),
+        [2] => Some(Version::V3),
+        _ => None,
+    }
+}
+
+impl<A: Allocator + Copy> Content<A> for Version {
+    ghost content_shape = { version_content };
+
+    ghost content_fits = { Unit {0} };
+
+    ghost content_lawful = { λ h. version_content_lawful };
+
+    ghost content_always = { tt };
+
+    ghost open = { λ b. refl };
+
+    ghost content_agrees = { λ v. refl };
+
+    fn known_content(&self) {}
+
+    fn read_content(_alloc: A, reader: &mut Reader<'_, A>) -> Result<Self, ReadError> {
+        let bytes = reader.take_rest();
+        match version_in(bytes) {
+            Some(version) => Ok(version),
+            None => Err(ReadError::BadVersion),
+        }
+    }
+}
+
 impl<A: Allocator + Copy> FromDer<A> for Version {
     ghost always = { tt };
 
     ghost whole = { tt };
+}
+
+impl<A: Allocator + Copy> OneTag<A> for Version {
+    ghost tag = { 2 };
+
+    ghost spelled_around = { λ v p y. version_around v p y };
+
+    ghost strict_around = { λ v. refl };
 }

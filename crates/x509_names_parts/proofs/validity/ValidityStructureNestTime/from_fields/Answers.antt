@@ -1,5 +1,0 @@
-use Rattle.std.proofs.Common.{rules}
-use Rattle.x509_names_parts.proofs.validity.ValidityStructureNestTime.from_fields.Goals as goal
-
-pub returns : goal.returns
-returns c = search (rules)
