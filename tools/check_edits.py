@@ -20,11 +20,11 @@ BUDGETS = [
     (14, ["x509_der_parts"]),
     (10, ["x509_prim", "x509_prim_parts"]),
     (17, ["x509_names", "x509_names_parts"]),
-    (16, ["x509_keys_parts"]),
+    (24, ["x509_keys_parts"]),
     (16, ["x509_keys"]),
-    (17, ["picky_asn1_x509_parts"]),
-    (13, ["picky_asn1_x509"]),
-    (13, ["x509_tool_parts", "x509_callers", "refusing"]),
+    (21, ["picky_asn1_x509_parts"]),
+    (16, ["picky_asn1_x509"]),
+    (9, ["x509_tool_parts", "x509_callers", "refusing"]),
     (2, ["x509_oids_algorithms", "x509_oids_objects"]),
 ]
 
