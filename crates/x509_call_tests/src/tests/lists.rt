@@ -1,6 +1,7 @@
 //! Lists and containers.
 
 use super::Heap;
+use super::checks::bytes_of;
 use refusing::{Refusing, Turn, in_turn};
 use std::alloc::Global;
 use std::process::Abort;
@@ -9,6 +10,7 @@ use x509_der::{
     Asn1SequenceOf, Asn1SetOf, BitStringAsn1Container, FromDer, IntegerAsn1,
     OctetStringAsn1Container, ReadError, from_bytes,
 };
+use x509_names::{Validity, Version};
 
 #[test]
 fn items_of_sequences_are_as_stated(rt: HostRuntime) {
@@ -94,4 +96,30 @@ fn contents_of_containers_are_read_over<A: Heap>(rt: &impl Abort, heap: A) {
 fn contents_of_containers_are_read(rt: HostRuntime) {
     let heap = Refusing::new(rt.alloc());
     contents_of_containers_are_read_over(&rt, &heap);
+}
+
+/// From 191017174128Z to 221016174128Z, as in a SEQUENCE and under another tag.
+const VALIDITY: &str = "301e170d3139313031373137343132385a170d3232313031363137343132385a";
+
+const VALIDITY_UNDER: &str = "a01e170d3139313031373137343132385a170d3232313031363137343132385a";
+
+fn contents_of_versions_are_read_over<A: Heap>(rt: &impl Abort, heap: A) {
+    content_is_read::<A, Version>(rt, heap, &[2, 1, 0], &[0xA0, 1, 0]);
+    content_is_read::<A, Version>(rt, heap, &[2, 1, 2], &[0xA0, 1, 2]);
+    let unknown = from_bytes::<Tagged<Explicit0, ContentOf<Version>>, A>(heap, &[0xA0, 1, 3]);
+    assert!(rt; unknown.is_err(), "no version has the number 3");
+}
+
+#[test]
+fn contents_of_versions_are_read(rt: HostRuntime) {
+    let heap = Refusing::new(rt.alloc());
+    contents_of_versions_are_read_over(&rt, &heap);
+}
+
+#[test]
+fn contents_of_validities_are_read(rt: HostRuntime) {
+    let alone = bytes_of(&rt, rt.alloc(), VALIDITY);
+    let under = bytes_of(&rt, rt.alloc(), VALIDITY_UNDER);
+    let heap = Refusing::new(rt.alloc());
+    content_is_read::<_, Validity>(&rt, &heap, &alone, &under);
 }
