@@ -111,8 +111,8 @@ impl Turn {
     }
 }
 
-/// Runs an expression with its first request to an allocator refused, then its second, until a run meets no refusal. The
-/// allocator is a name; the expression is a `Turn`.
+/// Runs an expression with its first request to an allocator refused, then its second, until a run meets no refusal.
+/// The allocator is a name; the expression is a `Turn`.
 ///
 /// The number of requests that the last run made, as an `Option<u64>`; none where a run was wrong, answered want of
 /// memory that it wasn't refused, or gave its answer though a request was refused. A loop and no closure, since a

@@ -263,8 +263,8 @@ impl<A: Allocator + Copy> View<Fields<A>> for GeneralName<A> {
 /// One of four fields.
 type OfFour<F, G, H, I> = Choice<Choice<F, G>, Choice<H, I>>;
 
-/// Reads a value by way of what one of four fields means: over any four, so that a proof about it doesn't have all their
-/// alternatives.
+/// Reads a value by way of what one of four fields means: over any four, so that a proof about it doesn't have all
+/// their alternatives.
 ///
 /// # Errors
 /// As the fields; also where none begins there.
