@@ -24,7 +24,7 @@ BUDGETS = [
     (16, ["x509_keys"]),
     (21, ["picky_asn1_x509_parts"]),
     (16, ["picky_asn1_x509"]),
-    (9, ["x509_tool_parts", "x509_callers", "refusing"]),
+    (13, ["x509_tool_parts", "x509_callers", "refusing"]),
     (2, ["x509_oids_algorithms", "x509_oids_objects"]),
 ]
 
