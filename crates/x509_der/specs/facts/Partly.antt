@@ -7,7 +7,7 @@ use Rattle.x509_der.specs.laws.Meaning.{IsMeaning, Markable, seen_one}
 use Rattle.x509_der.specs.View.{IsSeen}
 use Rattle.x509_der.specs.Partly.{partly, unmarked}
 
-means_value : {V : Type 0} (o : Option V) (v : V) (ks : List Deviation) → unmarked o ≡ Some (v, ks) → (o ≡ Some v) × (ks ≡ [])
+pub means_value : {V : Type 0} (o : Option V) (v : V) (ks : List Deviation) → unmarked o ≡ Some (v, ks) → (o ≡ Some v) × (ks ≡ [])
 means_value None v ks e = cc
 means_value (Some w) v ks e = let k = some_one w v [] ks e in (ap Some k.0, sym k.1)
 

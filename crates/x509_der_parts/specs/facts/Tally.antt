@@ -77,6 +77,10 @@ pub marked_none : (n h : ℕ) → marked [] n (record { marks = []; headers = h 
 unfolding marked
 marked_none n h = refl
 
+pub marked_nothing : (n : ℕ) (ks : List Deviation) (part y : Tally) → [] ≡ ks → y ≡ marked ks n part → y ≡ part
+unfolding marked
+marked_nothing n ks part y k e = e ∙ ap (λ x. marked x n part) (sym k)
+
 pub marked_clean : (ks : List Deviation) (n : ℕ) (y z : Tally) → z ≡ marked ks n y → z.marks ≡ [] → (ks ≡ []) × (y.marks ≡ [])
 unfolding marked
 marked_clean [] n y z e m = (refl, ap (λ (x : Tally). x.marks) (sym e) ∙ m)

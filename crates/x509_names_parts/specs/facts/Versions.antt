@@ -3,19 +3,18 @@ use Rattle.std.proofs.Common.{◌≡◌, ◌↔◌, refl, sym, ◌∙◌, ap, li
 use Rattle.std.proofs.lemmas.Bool.Decides.{nat_tests}
 use Rattle.x509_names_parts.specs.declared.version.Version.{Version}
 use Rattle.x509_names_parts.specs.declared.version.Version.TheVariants.{V1, V2, V3}
-use Rattle.x509_der.specs.Types.{Deviation}
-use Rattle.x509_der.specs.Tally.{Tally, marked}
+use Rattle.x509_der.specs.Tally.{Tally}
+use Rattle.x509_der.specs.facts.Tally.{marked_nothing}
 use Rattle.x509_der.specs.SmallInteger.{small_integers, small_integer_content}
-use Rattle.x509_der.specs.laws.SmallInteger.{small_integer_lawful}
+use Rattle.x509_der.specs.laws.SmallInteger.{small_integer_lawful, small_integer_plain}
 use Rattle.x509_der.specs.laws.PrimitiveContent.{IsPlain, plain_lawful}
-use Rattle.x509_der.specs.laws.View.{some_one as some_pair}
 use Rattle.x509_der.specs.Partly.{unmarked}
 use Rattle.x509_der.specs.Tagged.{IsTagged}
 use Rattle.x509_der.specs.Shape.{Lawful}
 use Rattle.x509_der.specs.laws.Meaning.{IsMeaning, tagged_markable}
 use Rattle.x509_der.specs.laws.Tagged.{tagged_lawful}
 use Rattle.x509_der.specs.View.{IsSeen}
-use Rattle.x509_der.specs.facts.Partly.{partly_is, partly_seen}
+use Rattle.x509_der.specs.facts.Partly.{partly_is, partly_seen, means_value}
 use Rattle.x509_names_parts.specs.Versions.{version, version_number, version_of, version_base, version_meaning, version_bytes, version_content, IsVersion}
 
 there : (v : Version) → version_of (version_number v) ≡ Some v
@@ -41,17 +40,16 @@ version_is = partly_is version_of version_number version_base there again
 pub version_keeps : Lawful version_base × IsSeen version_meaning version_base
 version_keeps = (tagged_lawful 2 small_integers small_integer_lawful, partly_seen version_of version_number version_base there again (tagged_markable 2 small_integers small_integer_lawful))
 
+small : (v : Version) → version_number v < 256
+small V1 = lit< tt
+small V2 = lit< tt
+small V3 = lit< tt
+
 -- a content is that of one version
 same_version : (v w : Version) → version_bytes v ≡ version_bytes w → v ≡ w
-same_version V1 V1 e = refl
-same_version V2 V2 e = refl
-same_version V3 V3 e = refl
-same_version V1 V2 e = cc
-same_version V1 V3 e = cc
-same_version V2 V1 e = cc
-same_version V2 V3 e = cc
-same_version V3 V1 e = cc
-same_version V3 V2 e = cc
+same_version v w e =
+    let n = small_integer_plain.one (version_number v) (version_number w) (version_bytes v) (small v, refl) (small w, e) in
+    some_one v w (sym (there v) ∙ ap version_of n ∙ there w)
 
 pub version_plain : IsPlain IsVersion version_bytes (λ v. Unit {0})
 version_plain = record { one = λ v w p a b. same_version v w (sym a ∙ b); written = λ v d. refl; strict = λ v p a. a; valid = λ v p a. tt }
@@ -59,32 +57,18 @@ version_plain = record { one = λ v w p a b. same_version v w (sym a ∙ b); wri
 pub version_content_lawful : Lawful version_content
 version_content_lawful = plain_lawful IsVersion version_bytes (λ v. Unit {0}) (Unit {0}) version_plain
 
--- a number that means a version has no mark
-means_version : (o : Option Version) (v : Version) (ks : List Deviation) → unmarked o ≡ Some (v, ks) → (o ≡ Some v) × (ks ≡ [])
-means_version None v ks e = cc
-means_version (Some w) v ks e = let k = some_pair w v [] ks e in (ap Some k.0, sym k.1)
-
-no_marks_more : (n : ℕ) (y : Tally) → marked [] n y ≡ y
-unfolding marked
-no_marks_more n y = refl
-
-small : (v : Version) → version_number v < 256
-small V1 = lit< tt
-small V2 = lit< tt
-small V3 = lit< tt
-
 -- an encoding is the element with the tag of INTEGER around a content
 pub version_around : (v : Version) (p : List ℕ) (y : Tally) → version.spelled v p y ↔ IsTagged 2 version_content v p y
 version_around v p y = (
   λ a.
-      let k = means_version (version_of a.base) v a.kinds a.means in
+      let k = means_value (version_of a.base) v a.kinds a.means in
       let e = again a.base v k.0 in
       record {
         content = a.spelled.content;
         part = a.spelled.part;
         spelled = (a.spelled.spelled.0.1 ∙ ap small_integer_content e, a.spelled.spelled.1);
         bytes = a.spelled.bytes;
-        tally = a.tally ∙ ap (λ ks. marked ks (length p) a.part) k.1 ∙ no_marks_more (length p) a.part ∙ a.spelled.tally;
+        tally = marked_nothing (length p) a.kinds a.part y (sym k.1) a.tally ∙ a.spelled.tally;
       },
   λ a. record {
     base = version_number v;
@@ -92,6 +76,6 @@ version_around v p y = (
     part = y;
     spelled = record { content = a.content; part = a.part; spelled = ((small v, a.spelled.0), a.spelled.1); bytes = a.bytes; tally = a.tally };
     means = ap unmarked (there v);
-    tally = sym (no_marks_more (length p) y);
+    tally = sym (marked_nothing (length p) [] y _ refl refl);
   },
 )
