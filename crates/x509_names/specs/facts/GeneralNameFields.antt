@@ -9,6 +9,7 @@ use Rattle.x509_der.specs.Shape.{Lawful}
 use Rattle.x509_der.specs.Tagged.{tagged}
 use Rattle.x509_der.specs.PrimitiveContent.{octets}
 use Rattle.x509_der.specs.ObjectIdentifier.{oids}
+use Rattle.x509_der.specs.facts.Tally.{marked_nothing}
 use Rattle.x509_der.specs.View.{BaseAt}
 use Rattle.x509_der.specs.laws.View.{some_one}
 use Rattle.x509_der.specs.facts.ElementPlaces.{content_first}
@@ -36,20 +37,13 @@ loose_at (Second (First (Second v))) string y d = content_first 167 (tagged 4 oc
 loose_at (Second (Second (First v))) string y d = content_first 168 (tagged 6 oids) v string y d
 loose_at (Second (Second (Second v))) string y d = record { content = d.content; bytes = d.bytes; tally = d.inner.field.tally; spelled = d.inner.field.spelled }
 
-marked_nothing : (n : ℕ) (part : Tally) → marked [] n part ≡ part
-unfolding marked
-marked_nothing n part = refl
-
-unmarked : (n : ℕ) (ks : List Deviation) (part y : Tally) → [] ≡ ks → y ≡ marked ks n part → y ≡ part
-unmarked n ks part y k e = e ∙ ap (λ x. marked x n part) (sym k) ∙ marked_nothing n part
-
 at_base : {A : Type 0} (b : Choice (Strict A) (Loose A)) (v : GeneralName A) (ks : List Deviation) (string : List ℕ) (part y : Tally) → general_base.spelled b string part → general_means b ≡ Some (v, ks) → y ≡ marked ks (length string) part → general_base.parts b 0 string string y → AlternativeAt v string y
 at_base {A} (First b) v ks string part y a e f d =
     let k = some_one (strict_name b) v [] ks e in
     let P : Strict A → Type 0 = λ x. strict_base.spelled x string part in
     let Q : Tally → Type 0 = λ z. strict_base.spelled (general_parts v) string z in
     let R : GeneralName A → Type 0 = λ w. StrictAt w string y in
-    inl (subst Q (sym (unmarked (length string) ks part y k.1 f)) (subst P (sym (strict_again b) ∙ ap general_parts k.0) a), subst R k.0 (strict_at b string y d))
+    inl (subst Q (sym (marked_nothing (length string) ks part y k.1 f)) (subst P (sym (strict_again b) ∙ ap general_parts k.0) a), subst R k.0 (strict_at b string y d))
 at_base {A} (Second b) v ks string part y a e f d =
     let k = some_one (loose_name b) v (deviation.GeneralNameForm ∷ []) ks e in
     let R : GeneralName A → Type 0 = λ w. LooseAt w string y in
