@@ -52,6 +52,7 @@ pub use Rattle.x509_names.specs.OtherNames
 pub use Rattle.x509_names.specs.Validities
 pub use Rattle.x509_names.specs.Versions
 pub use Rattle.x509_keys.specs.AesAuthEncParams
+pub use Rattle.x509_keys.specs.AesLaws
 pub use Rattle.x509_keys.specs.AesParameters
 pub use Rattle.x509_keys.specs.AlgorithmIdentifier
 pub use Rattle.x509_keys.specs.AlgorithmKinds

@@ -1,4 +1,5 @@
 pub mod AesAuthEncParams
+pub mod AesLaws
 pub mod AesParameters
 pub mod AlgorithmIdentifier
 pub mod AlgorithmKinds

@@ -36,7 +36,7 @@ use x509_der::{
 /// | AES, whose identifiers stand under 2.16.840.1.101.3.4.1 | `AesParameters`, or none |
 /// | SHA-1, and hash functions under 2.16.840.1.101.3.4.2 | NULL |
 ///
-/// An RSA algorithm whose NULL is left out is read with the deviation `RsaParametersAbsent`, and written with it.
+/// An RSA algorithm whose NULL is left out is read with the deviation `RsaParametersAbsent`, and written with NULL.
 /// Other algorithms aren't read, and nor are other parameters, or none where some are demanded.
 #[derive(Drop)]
 #[derive_where(Debug, PartialEq, Eq)]

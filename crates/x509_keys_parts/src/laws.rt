@@ -5,6 +5,9 @@ ghost use Rattle.x509_der.specs.Tally.{Tally};
 ghost use Rattle.x509_der.specs.Element.{element};
 ghost use Rattle.x509_der.specs.Tagged.{tagged};
 ghost use Rattle.x509_der.specs.Items.{items};
+ghost use Rattle.x509_keys_parts.specs.AesAuthEncParams.{AuthEncParams, auth_enc};
+ghost use Rattle.x509_keys_parts.specs.AesLaws.{AuthEncAt, AesAt};
+ghost use Rattle.x509_keys_parts.specs.AesParameters.{aes_parameters};
 ghost use Rattle.x509_keys_parts.specs.AlgorithmIdentifier.{Algorithm, algorithm_identifier, identified};
 ghost use Rattle.x509_keys_parts.specs.AlgorithmKinds.{kind_of};
 ghost use Rattle.x509_keys_parts.specs.AlgorithmLaws.{fit, FieldsAt as AlgorithmAt};
@@ -15,6 +18,8 @@ ghost use Rattle.x509_keys_parts.specs.HashLaws.{HashAt, MaskGenAt, PssAt, Diges
 ghost use Rattle.x509_keys_parts.specs.ShaVariants.{sha_arcs, sha_of};
 ghost use Rattle.x509_keys_parts.specs.RawAlgorithm.{RawAlgorithm, raw_algorithm, FieldsAt, TwoAt};
 
+use crate::aes::AesParameters;
+use crate::aes_auth_enc::AesAuthEncParams;
 use crate::algorithm_identifier::AlgorithmIdentifier;
 use crate::algorithm_parameters::AlgorithmIdentifierParameters;
 use crate::digest_info::DigestInfo;
@@ -121,4 +126,20 @@ pub fn digest_info_fields<A: Allocator + Copy>()
         DigestInfoAt v string y }
 {
     fields::<DigestInfo<A>, A>();
+}
+
+/// The law of fields of `AesAuthEncParams`: in each encoding the nonce stands right behind the header, and behind it
+/// the length of the integrity check value.
+pub fn aes_auth_enc_fields<A: Allocator + Copy>()
+    ensures { (v : AuthEncParams) (string : List ℕ) (y : Tally) → auth_enc.spelled v string y → AuthEncAt v string y }
+{
+    fields::<AesAuthEncParams<A>, A>();
+}
+
+/// The law of fields of `AesParameters`: each encoding is one of the alternative that was taken, whole.
+pub fn aes_parameters_fields<A: Allocator + Copy>()
+    ensures { (v : AesParameters A) (string : List ℕ) (y : Tally) → aes_parameters.spelled v string y →
+        AesAt v string y }
+{
+    fields::<AesParameters<A>, A>();
 }

@@ -454,7 +454,8 @@ impl<A: Allocator> AlgorithmIdentifier<A> {
         )
     }
 
-    /// AES with a key of 256 bits in a mode, without parameters.
+    /// AES with a key of 256 bits in a mode, without parameters: `2.16.840.1.101.3.4.1.41` to `.48` in the modes'
+    /// order.
     ///
     /// # Errors
     /// `AllocError` where memory is refused.
