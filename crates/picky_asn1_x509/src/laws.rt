@@ -31,9 +31,10 @@ pub use x509_der::laws::{
     strict_is_written, tagged_fields_are_elements, tagged_lists, u8_takes_no_memory, viewed_fields,
 };
 pub use x509_keys::laws::{
-    algorithm_fields, algorithms_fit, digest_info_fields, ec_private_key_fields, hash_fields,
-    hash_identifiers, mask_gen_fields, private_key_fields, private_keys_are_elements,
-    private_keys_inside, raw_algorithm_fields, rsa_private_key_fields, rsa_public_key_fields,
+    aes_auth_enc_fields, aes_parameters_fields, algorithm_fields, algorithms_fit,
+    digest_info_fields, ec_private_key_fields, hash_fields, hash_identifiers, mask_gen_fields,
+    private_key_fields, private_keys_are_elements, private_keys_inside, private_keys_read_back,
+    public_keys_read_back, raw_algorithm_fields, rsa_private_key_fields, rsa_public_key_fields,
     rsassa_pss_fields, sha_identifiers, subject_public_key_fields, two_raw_algorithms,
 };
 pub use x509_names::laws::{

@@ -76,6 +76,12 @@ abbrev pub NumbersAt : List (List ℕ) → ℕ → List ℕ → List ℕ → Tal
 NumbersAt [] n slice string y = slice ≡ []
 NumbersAt (v ∷ vs) n slice string y = Beside (λ m p. FieldAt number v m p string y) (λ m p. NumbersAt vs m p string y) n slice
 
+-- the two numbers of an RSA public key that stands behind n bytes: behind its header
+pub record RsaPublicAt {A : Type 0} (k : RsaPublicKey A) (n : ℕ) (slice string : List ℕ) (y : Tally) : Type 0 where
+  pub content : List ℕ
+  pub bytes : slice ≡ element 48 content
+  pub numbers_at : NumbersAt (k.modulus ∷ k.public_exponent ∷ []) (n + header content) content string y
+
 -- the numbers of an RSA private key that stands behind n bytes: behind its header
 pub record RsaPrivateAt {A : Type 0} (k : RsaPrivateKey A) (n : ℕ) (slice string : List ℕ) (y : Tally) : Type 0 where
   pub content : List ℕ

@@ -18,6 +18,7 @@ pub mod PublicKeys
 pub use Rattle.x509_keys_parts.specs.facts.RawAlgorithm
 pub use Rattle.x509_keys_parts.specs.facts.RawAlgorithmFacts
 pub use Rattle.x509_keys_parts.specs.facts.RawAlgorithmSame
+pub mod ReadBack
 pub mod ReadIf
 pub mod RsaPrivateKeys
 pub mod RsaPublicKeys

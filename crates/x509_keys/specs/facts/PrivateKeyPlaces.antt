@@ -1,4 +1,4 @@
--- Where the parts of private keys stand.
+-- Where the parts of private keys stand, and the numbers of RSA keys.
 use Rattle.std.proofs.Common.{◌∙◌, ap, sym, subst, refl, ℕ, ◌+◌, List, [], ◌∷◌, ◌++◌, length}
 use Rattle.std.proofs.lemmas.List.{append-nil}
 use Rattle.x509_der.specs.Element.{header}
@@ -9,11 +9,12 @@ use Rattle.x509_der.specs.Tagged.{ContentAt, tagged}
 use Rattle.x509_der.specs.Tally.{Tally}
 use Rattle.x509_keys.specs.declared.ec_private_key.ECPrivateKey.{ECPrivateKey}
 use Rattle.x509_keys.specs.declared.rsa_private_key.RsaPrivateKey.{RsaPrivateKey}
+use Rattle.x509_keys.specs.declared.rsa_public_key.RsaPublicKey.{RsaPublicKey}
 use Rattle.x509_keys.specs.EcPrivateKeys.{EcFields, ec_key_of, ec_private_key}
-use Rattle.x509_keys.specs.KeyPlaces.{NumbersAt, RsaPrivateAt, EcPrivateAt}
+use Rattle.x509_keys.specs.KeyPlaces.{NumbersAt, RsaPublicAt, RsaPrivateAt, EcPrivateAt}
 use Rattle.x509_keys.specs.PrivateKeyValues.{private_by_kind}
 use Rattle.x509_keys.specs.RsaPrivateKeys.{Number, number_and, rsa_private_key}
-use Rattle.x509_keys.specs.RsaPublicKeys.{number}
+use Rattle.x509_keys.specs.RsaPublicKeys.{number, rsa_public_key}
 use Rattle.x509_keys.specs.facts.EcPrivateKeys.{means_ec_key}
 use Rattle.x509_keys.specs.facts.SamePrivateKeys.{rsa_or, ec_or, ed_or}
 use Rattle.x509_keys.specs.declared.key_kind.KeyKind.TheVariants as kinds
@@ -43,6 +44,12 @@ more_numbers : {V : Type 0} (rest : Shape V) (v : Number) (x : V) (vs : List Num
 more_numbers rest v x vs string y f n slice a =
     let b = a.parts in
     record { front = b.front; back = b.back; bytes = b.bytes; first = b.first.field; second = f (n + length b.front) b.back b.second }
+
+pub rsa_public_numbers : {A : Type 0} (k : RsaPublicKey A) (n : ℕ) (slice string : List ℕ) (y : Tally) → Stands rsa_public_key k n slice string y → RsaPublicAt k n slice string y
+rsa_public_numbers k n slice string y a =
+    let c = a.parts in
+    let last = λ (m : ℕ) (p : List ℕ). last_number k.public_exponent m p string y in
+    record { content = c.content; bytes = c.bytes; numbers_at = more_numbers _ k.modulus _ (k.public_exponent ∷ []) string y last (n + header c.content) c.content c.inner }
 
 pub rsa_private_numbers : {A : Type 0} (k : RsaPrivateKey A) (n : ℕ) (slice string : List ℕ) (y : Tally) → Stands rsa_private_key k n slice string y → RsaPrivateAt k n slice string y
 rsa_private_numbers k n slice string y a =
