@@ -48,6 +48,12 @@ pub record AttributeAt {A : Type 0} (done more : Sets A) (before after : Set A) 
   pub attribute_at : ItemAt attribute before v after ((header content + length set_at.before) + header attributes)
       attributes string y
 
+-- a set of a name, with attributes or without: it stands behind those before it in the name's content
+pub record SetAt {A : Type 0} (done more : Sets A) (set : Set A) (string : List ℕ) (y : Tally) : Type 0 where
+  pub content : List ℕ
+  pub bytes : string ≡ element 48 content
+  pub set_at : ItemAt relative_name done set more (header content) content string y
+
 -- the kind of a value by its variant
 abbrev pub kind_in : {A : Type 0} → AttributeTypeAndValueParameters A → AttributeKind
 kind_in (value.CommonName d) = kind.Text attr.CommonName

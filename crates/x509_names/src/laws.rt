@@ -6,7 +6,7 @@ ghost use Rattle.x509_der.specs.Tally.{Tally};
 ghost use Rattle.x509_names_parts.specs.declared.directory_string.DirectoryString.{DirectoryString as Text};
 ghost use Rattle.x509_names.specs.declared.name_attr.NameAttr.{NameAttr};
 ghost use Rattle.x509_names.specs.Attributes.{attribute, kind_of, text_attribute, email_attribute};
-ghost use Rattle.x509_names.specs.AttributeFields.{FieldsAt, AttributeAt, kind_in};
+ghost use Rattle.x509_names.specs.AttributeFields.{FieldsAt, SetAt, AttributeAt, kind_in};
 ghost use Rattle.x509_names.specs.EdiPartyNames.{edi_party_name, EdiPartyNameAt};
 ghost use Rattle.x509_names.specs.GeneralNames.{general_name, AlternativeAt};
 ghost use Rattle.x509_names.specs.Names.{Set, Sets, name};
@@ -34,10 +34,12 @@ pub fn attribute_fields<A: Allocator + Copy>()
     fields::<AttributeTypeAndValue<A>, A>();
 }
 
-/// The law of fields of names. Each attribute of each set stands behind those before it in its set, and the set behind
-/// those before it in the name.
+/// The law of fields of names. Each set, with attributes or without, stands behind those before it in the name, and
+/// each attribute of a set behind those before it in the set.
 pub fn name_fields<A: Allocator + Copy>()
-    ensures { (done more : Sets A) (before after : Set A) (v : AttributeTypeAndValue A)
+    ensures sets { (done more : Sets A) (set : Set A) (string : List ℕ) (y : Tally) →
+        name.spelled (done ++ set ∷ more) string y → SetAt done more set string y }
+    ensures attributes { (done more : Sets A) (before after : Set A) (v : AttributeTypeAndValue A)
         (string : List ℕ) (y : Tally) → name.spelled (done ++ (before ++ v ∷ after) ∷ more) string y →
         AttributeAt done more before after v string y }
 {

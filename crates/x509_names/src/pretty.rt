@@ -13,8 +13,9 @@ use std::{fmt, str};
 /// A name that prints all its attributes in order, with commas between them: of each the label of its value, `=` and
 /// its text, of which nothing is escaped.
 ///
-/// The labels are CN, SURNAME, SN, C, L, ST, `STREET NAME`, O, OU, EMAIL, GIVENNAME and PHONE. A value of any other
-/// type prints as the dotted type, `=#` and the element in lower-case hexadecimal. Takes no memory of its own.
+/// The labels are CN, SURNAME, SN, C, L, ST, `STREET NAME`, O, OU, EMAIL, GIVENNAME and PHONE: that of the value's
+/// variant, whatever the type is. A `Custom` value prints as the dotted type, `=#` and the element in lower-case
+/// hexadecimal. Takes no memory of its own.
 #[derive(Drop)]
 pub struct NamePrettyFormatter<'a, A: Allocator = Global>(pub &'a Name<A>);
 

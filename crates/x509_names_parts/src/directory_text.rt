@@ -24,7 +24,7 @@ impl<A: Allocator> DirectoryString<A> {
         Ok(DirectoryString::Utf8String(Utf8String(text)))
     }
 
-    /// The content: the bytes behind the tag and the length.
+    /// The content: the bytes behind the tag and the length. Takes no memory.
     pub fn as_bytes(&self) -> &[u8]
         ensures { result.now ≡ directory_bytes self.now }
     {
@@ -67,6 +67,21 @@ impl<A: Allocator> DirectoryString<A> {
                 Ok(text) => Ok(text),
                 Err(AllocError) => Err(string),
             },
+        }
+    }
+
+    /// The same characters as a UTF8String: those of a BMPString are copied, and the others moved, which takes no
+    /// memory.
+    ///
+    /// # Errors
+    /// The directory string as it was, where memory is refused, for a BMPString alone.
+    pub fn into_utf8_string(self, alloc: A) -> Result<Utf8String<A>, DirectoryString<A>>
+        ensures text { MatchResult result (λ text. text ≡ directory_text self) (λ string. string ≡ self) }
+        ensures moved { HoldsText self → IsOk result }
+    {
+        match self.into_string(alloc) {
+            Ok(text) => Ok(Utf8String(text)),
+            Err(string) => Err(string),
         }
     }
 }

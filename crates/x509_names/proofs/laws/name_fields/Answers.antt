@@ -5,8 +5,13 @@ use Rattle.x509_names.specs.Attributes.{attribute}
 use Rattle.x509_names.specs.Names.{relative_name}
 use Rattle.x509_names.proofs.laws.name_fields.Goals as goal
 
-pub returns : goal.returns
-returns g c = λ done more before after v string y a.
+pub returns-clause-sets : goal.returns-clause-sets
+returns-clause-sets g c = λ done more set string y a.
+    let s = content_first 48 _ _ string y (c.fields.ensures _ string y a).parts in
+    record { content = s.content; bytes = s.bytes; set_at = item_at relative_name done more set _ s.content string y s.inner.parts }
+
+pub returns-clause-attributes : goal.returns-clause-attributes
+returns-clause-attributes g c = λ done more before after v string y a.
     let s = content_first 48 _ _ string y (c.fields.ensures _ string y a).parts in
     let set = item_at relative_name done more (before ++ v ∷ after) _ s.content string y s.inner.parts in
     let e = set.here.parts in
