@@ -8,7 +8,20 @@ pub use Rattle.picky_asn1_x509_parts.specs.declared.extension.ExtensionView.{Ext
 pub use Rattle.picky_asn1_x509_parts.specs.declared.extension.ExtensionView.TheVariants as extension_view
 pub use Rattle.x509_der.specs.Types.{Deviation}
 pub use Rattle.x509_der.specs.Types.deviation
+pub use Rattle.x509_der.specs.Types.{Place}
 pub use Rattle.x509_der.specs.Types.{ReadError}
 pub use Rattle.x509_der.specs.Types.read_error
 pub use Rattle.x509_der.specs.Types.{WriteError}
 pub use Rattle.x509_der.specs.Types.write_error
+pub use Rattle.x509_der.specs.Types.{SliceError}
+pub use Rattle.x509_der.specs.Types.slice_error
+pub use Rattle.x509_der.specs.Types.{TooLong}
+pub use Rattle.x509_keys.specs.Types.{AlgorithmIdentifierParameters}
+pub use Rattle.x509_keys.specs.Types.algorithm_identifier_parameters
+pub use Rattle.x509_keys.specs.Types.{HashAlgorithm}
+pub use Rattle.x509_keys.specs.Types.hash_algorithm
+pub use Rattle.x509_keys.specs.Types.{ShaVariant}
+pub use Rattle.x509_keys.specs.Types.sha_variant
+pub use Rattle.x509_names.specs.Types.{Validity}
+pub use Rattle.x509_names.specs.Types.{Version}
+pub use Rattle.x509_names.specs.Types.version

@@ -163,7 +163,7 @@ impl<A: Allocator + Copy> CloneEq for Certificate<A> {
 }
 
 /// The signature behind its algorithm, owned.
-pub type Signature<A> = Join<AlgorithmIdentifier<A>, BitStringAsn1<A>>;
+pub(crate) type Signature<A> = Join<AlgorithmIdentifier<A>, BitStringAsn1<A>>;
 
 /// The SEQUENCE, owned.
 type Fields<A> = Tagged<Sequence, Inner<A>>;
