@@ -17,13 +17,13 @@ FOLDERS = ("must-fail", "more-edits")
 # How many edits the gate tries in these crates together, at most.
 BUDGETS = [
     (15, ["x509_der"]),
-    (14, ["x509_der_parts"]),
+    (16, ["x509_der_parts"]),
     (10, ["x509_prim", "x509_prim_parts"]),
     (17, ["x509_names", "x509_names_parts"]),
-    (24, ["x509_keys_parts"]),
-    (16, ["x509_keys"]),
-    (21, ["picky_asn1_x509_parts"]),
-    (16, ["picky_asn1_x509"]),
+    (26, ["x509_keys_parts"]),
+    (15, ["x509_keys"]),
+    (22, ["picky_asn1_x509_parts"]),
+    (18, ["picky_asn1_x509"]),
     (13, ["x509_tool_parts", "x509_callers", "refusing"]),
     (2, ["x509_oids_algorithms", "x509_oids_objects"]),
 ]
