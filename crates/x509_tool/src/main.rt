@@ -3,22 +3,21 @@
 #![tactic(auto)]
 
 #[cfg(test)]
+mod outcome_tests;
+#[cfg(test)]
 mod tests;
 
 use std::alloc::Global;
 use std::process::ExitCode;
-use x509_tool_parts::console::{Shown, Stop, outcome, print, show};
+use x509_tool_parts::console::{Shown, outcome, print, show, shown_after};
 
-/// What is left to show once the output is written: nothing of it, or that it couldn't be.
+/// Prints the output, and answers what is shown in the end.
 fn written(rt: &HostRuntime, answer: Shown<Global>) -> Shown<Global> {
-    let failed = match &answer.output {
-        Some(output) => print(rt, output).err(),
-        None => None,
+    let printed = match &answer.output {
+        Some(output) => print(rt, output),
+        None => Ok(()),
     };
-    match failed {
-        Some(stop) => show(Err::<Vec<u8>, Stop>(stop)),
-        None => answer,
-    }
+    shown_after(answer, printed)
 }
 
 fn main(rt: HostRuntime) -> ExitCode {

@@ -60,7 +60,7 @@ fn names_print(rt: HostRuntime) {
     let common_name = "300c310a300806035504030c0161\n0 0 0 0 0 0 0 0 0 0\n";
     let input = b"300C310A300806035504030C0161\n";
     prints_as(&rt, &heap, "name", input, common_name);
-    faults_as(&rt, &heap, "name", b"30 00\n", ToolFault::Usage);
+    faults_as(&rt, &heap, "name", b"30 00", ToolFault::Usage);
     faults_as(&rt, &heap, "name", b"3100\n", ToolFault::Refused);
 }
 
@@ -225,16 +225,21 @@ fn inputs_are_read(rt: HostRuntime) {
     assert!(rt; requests == Some(0));
 }
 
-/// A reader that gives one byte, and then fails.
+/// A reader that gives one byte, then fails once, and then ends.
 #[derive(Drop)]
 struct Failing {
     is_read: bool,
+    has_failed: bool,
     kind: ErrorKind,
 }
 
 impl io::Read for Failing {
     fn read(&mut self, buf: &mut [u8]) -> io::Result<usize> {
+        if self.has_failed {
+            return Ok(0);
+        }
         if self.is_read {
+            self.has_failed = true;
             return Err(io::Error::from(self.kind));
         }
         self.is_read = true;
@@ -252,6 +257,7 @@ impl io::Read for Failing {
 fn stop_of<A: Allocator>(alloc: A, kind: ErrorKind) -> Option<Stop> {
     let reader = Failing {
         is_read: false,
+        has_failed: false,
         kind,
     };
     read_input(alloc, reader).err()
@@ -267,7 +273,7 @@ fn broken_turn(stop: Option<Stop>) -> Turn {
 }
 
 /// The byte before the failure takes the one request. A reader that itself wants memory is tried without refusals,
-/// since its answer is the same.
+/// since its answer is the same. An interruption alone is no failure.
 #[test]
 fn failed_reads_are_refused(rt: HostRuntime) {
     let heap = Refusing::new(rt.alloc());
@@ -275,6 +281,7 @@ fn failed_reads_are_refused(rt: HostRuntime) {
     assert!(rt; requests == Some(1));
     let refused = stop_of(rt.alloc(), ErrorKind::OutOfMemory);
     assert!(rt; matches!(refused, Some(Stop::Fault(ToolFault::OutOfMemory))));
+    assert!(rt; stop_of(rt.alloc(), ErrorKind::Interrupted).is_none());
 }
 
 #[test]

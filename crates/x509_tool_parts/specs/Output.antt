@@ -82,6 +82,6 @@ abbrev pub IsUsageOrMemory : Result (List ℕ) ToolFault → Type 0
 IsUsageOrMemory r = (r ≡ Err Usage) ⊎ (r ≡ Err OutOfMemory)
 
 -- the list in a vector, in an answer
-abbrev pub listed_answer : {L : Type 0} → (L → List ℕ) → Result L ToolFault → Result (List ℕ) ToolFault
+abbrev pub listed_answer : {L E : Type 0} → (L → List ℕ) → Result L E → Result (List ℕ) E
 listed_answer of (Ok v) = Ok (of v)
 listed_answer of (Err e) = Err e

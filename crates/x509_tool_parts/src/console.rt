@@ -1,8 +1,11 @@
 //! The program's argument, its standard input and its standard output.
 
-ghost use Rattle.std.specs.Prelude.{◌≡◌, false, IfOk, OnOk, IfErr, IfSome};
+ghost use Rattle.std.specs.Prelude.{◌≡◌, false, None, Err, IfOk, OnOk, IfErr, IfSome};
 ghost use Rattle.std.specs.Io.KnownBytes.{IsAtEnd};
-ghost use Rattle.x509_tool_parts.specs.Input.{Grows, IsGivenUp, only_of};
+ghost use Rattle.std.specs.String.{string_bytes};
+ghost use Rattle.x509_tool_parts.specs.Input.{Grows, IsGivenUp, only_of, told_of};
+ghost use Rattle.x509_tool_parts.specs.Outcomes.{OutcomeOver};
+ghost use Rattle.x509_tool_parts.specs.Output.{listed_answer};
 ghost use Rattle.x509_tool_parts.specs.Stops.{status_of_stop, line_of_stop, output_of, line_of_outcome, status_of_outcome};
 
 use crate::fault::ToolFault;
@@ -111,7 +114,38 @@ fn type_name(rt: &HostRuntime) -> Result<String, Stop> {
     only(first, arguments.next())
 }
 
+/// What one read tells.
+#[derive(Clone, Copy, Drop)]
+enum OneRead {
+    /// The input has ended.
+    End,
+    /// So many bytes were read.
+    Bytes(usize),
+    /// Nothing was read, and the read is to be tried again.
+    Again,
+}
+
+/// What the answer of one read tells.
+///
+/// # Errors
+/// The read failed: memory was refused, or the console failed. A read that was interrupted hasn't failed.
+fn told(answer: io::Result<usize>) -> Result<OneRead, Stop>
+    ensures { result ≡ told_of answer }
+{
+    match answer {
+        Ok(0) => Ok(OneRead::End),
+        Ok(count) => Ok(OneRead::Bytes(count)),
+        Err(error) => match error.kind() {
+            ErrorKind::Interrupted => Ok(OneRead::Again),
+            _ => Err(Stop::from(error)),
+        },
+    }
+}
+
 /// Reads once, and adds what was read to the input. Answers whether there may be more.
+///
+/// # Errors
+/// The read failed, as `told` says, or memory was refused. The input is as it was.
 fn read_more<A: Allocator, R: Read>(reader: &mut R, input: &mut Vec<u8, A>) -> Result<bool, Stop>
     ensures bytes { OnOk result (Grows (R.remaining reader.old) (R.remaining reader.new) input.old.items
         input.new.items) }
@@ -119,14 +153,13 @@ fn read_more<A: Allocator, R: Read>(reader: &mut R, input: &mut Vec<u8, A>) -> R
     ensures err { IfErr result IsGivenUp }
 {
     let mut buffer = [0u8; READ_SIZE];
-    match reader.read(&mut buffer) {
-        Ok(0) => Ok(false),
-        Ok(count) => {
+    match told(reader.read(&mut buffer))? {
+        OneRead::End => Ok(false),
+        OneRead::Bytes(count) => {
             input.extend_from_slice(&buffer[..count])?;
             Ok(true)
         }
-        Err(error) if error.kind() == ErrorKind::Interrupted => Ok(true),
-        Err(error) => Err(Stop::from(error)),
+        OneRead::Again => Ok(true),
     }
 }
 
@@ -178,11 +211,57 @@ pub fn show<A: Allocator>(outcome: Result<Vec<u8, A>, Stop>) -> Shown<A>
     }
 }
 
-/// The program's outcome: looks at the argument, reads the input, and answers it.
+/// What is shown in the end: the answer where its output was printed, or why it couldn't be.
+pub fn shown_after<A: Allocator>(answer: Shown<A>, printed: Result<(), Stop>) -> Shown<A>
+    ensures printed { OnOk printed (result ≡ answer) }
+    ensures output { IfErr printed (λ _. result.output ≡ None) }
+    ensures line { IfErr printed (λ stop. result.line.now ≡ line_of_stop stop) }
+    ensures status { IfErr printed (λ stop. result.status ≡ status_of_stop stop) }
+{
+    match printed {
+        Ok(()) => answer,
+        Err(stop) => show(Err(stop)),
+    }
+}
+
+/// Reads the input, and answers it as a value of the type of a name.
+///
+/// # Errors
+/// Those of `read_input`, and then those of `run_text`.
+fn answer_read<A: Allocator + Copy, R: Read + Drop>(
+    alloc: A,
+    type_name: &str,
+    reader: R,
+) -> Result<Vec<u8, A>, Stop>
+    ensures { OutcomeOver A (R.remaining reader) type_name.now (listed_answer (λ v. v.items) result) }
+{
+    let input = read_input(alloc, reader)?;
+    Ok(run_text(alloc, type_name, &input)?)
+}
+
+/// The program's outcome: looks at the argument, reads the input, and answers it. Where there is no one argument, nothing
+/// is read.
+///
+/// # Errors
+/// Why there is no one argument; else those of `read_input`, and then those of `run_text`.
+pub fn outcome_of<A: Allocator + Copy, R: Read + Drop>(
+    alloc: A,
+    argument: Result<String, Stop>,
+    reader: R,
+) -> Result<Vec<u8, A>, Stop>
+    ensures ok { IfOk argument (λ name. OutcomeOver A (R.remaining reader) (string_bytes name)
+        (listed_answer (λ v. v.items) result)) }
+    ensures err { IfErr argument (λ stop. result ≡ Err stop) }
+{
+    match argument {
+        Ok(name) => answer_read(alloc, name.as_str(), reader),
+        Err(stop) => Err(stop),
+    }
+}
+
+/// The program's outcome over its argument and standard input.
 pub fn outcome(rt: &HostRuntime) -> Result<Vec<u8>, Stop> {
-    let name = type_name(rt)?;
-    let input = read_input(rt.alloc(), rt.reader())?;
-    Ok(run_text(rt.alloc(), name.as_str(), &input)?)
+    outcome_of(rt.alloc(), type_name(rt), rt.reader())
 }
 
 /// Writes to standard output.

@@ -6,17 +6,9 @@ use Rattle.std.specs.List.{AllPass}
 use Rattle.hex.specs.Hex.{decode_of, is_hex_digit}
 use Rattle.hex.specs.declared.error.FromHexError.{FromHexError}
 use Rattle.hex.proofs.HexLemmas.{decode_of-ok}
-use Rattle.picky_asn1_x509.specs.Shape.{Shape}
-use Rattle.picky_asn1_x509.specs.RawAlgorithm.{raw_algorithm}
-use Rattle.picky_asn1_x509.specs.AlgorithmIdentifier.{algorithm_identifier}
-use Rattle.picky_asn1_x509.specs.PrivateKeyInfos.{private_key_info}
-use Rattle.picky_asn1_x509.specs.SubjectPublicKeyInfos.{subject_public_key_info}
-use Rattle.picky_asn1_x509.specs.Names.{name}
-use Rattle.picky_asn1_x509.specs.Certificates.{certificate}
-use Rattle.picky_asn1_x509.specs.ExtensionLists.{extensions}
-use Rattle.picky_asn1_x509.specs.Requests.{request}
 use Rattle.x509_tool_parts.specs.Faults.{fault_of_hex}
-use Rattle.x509_tool_parts.specs.Output.{Answers, AnswersAs}
+use Rattle.x509_tool_parts.specs.Output.{AnswersAs}
+use Rattle.x509_tool_parts.specs.declared.fault.ToolFault.TheVariants.{OutOfMemory}
 use Rattle.x509_tool_parts.specs.declared.served.Served.{Served}
 use Rattle.x509_tool_parts.specs.declared.served.Served.TheVariants.{Algorithm, Certificate, Extensions, Name, PrivateKey, PublicKey, RawAlgorithm, Request}
 use Rattle.x509_tool_parts.specs.Text.{IsTextOf, IsWithoutLineFeed}
@@ -54,20 +46,20 @@ is_text input d bytes w h = elim w [
   | inr whole_text ↦ record { digits = d; line = inl whole_text.0; decoded = h }
 ]
 
+-- want of memory may stand in place of any answer
+pub memory_told : (A : Type 0) (served : Served) (bytes : List ℕ) → AnswersAs A served bytes (Err OutOfMemory)
+memory_told A Algorithm bytes = tt
+memory_told A Certificate bytes = tt
+memory_told A Extensions bytes = tt
+memory_told A Name bytes = tt
+memory_told A PrivateKey bytes = tt
+memory_told A PublicKey bytes = tt
+memory_told A RawAlgorithm bytes = tt
+memory_told A Request bytes = tt
+
 -- where a text is decoded, it is refused for memory alone
-pub decoded_answer : {V : Type 0} (s : Shape V) (bytes d : List ℕ) (e : FromHexError) → decode_of d ≡ Ok bytes → (e ≡ hex_error.OutOfMemory) ⊎ (decode_of d ≡ Err e) → Answers s bytes (Err (fault_of_hex e))
-decoded_answer s bytes d e h why = elim why [
-  | inl memory ↦ rw memory tt
+pub decoded_as : (A : Type 0) (served : Served) (bytes d : List ℕ) (e : FromHexError) → decode_of d ≡ Ok bytes → (e ≡ hex_error.OutOfMemory) ⊎ (decode_of d ≡ Err e) → AnswersAs A served bytes (Err (fault_of_hex e))
+decoded_as A served bytes d e h why = elim why [
+  | inl memory ↦ rw memory (memory_told A served bytes)
   | inr bad ↦ absurd (let f : Ok bytes ≡ Err e = sym h ∙ bad in cc)
 ]
-
--- whatever the type
-pub decoded_as : (A : Type 0) (served : Served) (bytes d : List ℕ) (e : FromHexError) → decode_of d ≡ Ok bytes → (e ≡ hex_error.OutOfMemory) ⊎ (decode_of d ≡ Err e) → AnswersAs A served bytes (Err (fault_of_hex e))
-decoded_as A Algorithm = decoded_answer (algorithm_identifier {A = A})
-decoded_as A Certificate = decoded_answer (certificate {A = A})
-decoded_as A Extensions = decoded_answer (extensions {A = A})
-decoded_as A Name = decoded_answer (name {A = A})
-decoded_as A PrivateKey = decoded_answer (private_key_info {A = A})
-decoded_as A PublicKey = decoded_answer (subject_public_key_info {A = A})
-decoded_as A RawAlgorithm = decoded_answer raw_algorithm
-decoded_as A Request = decoded_answer (request {A = A})
