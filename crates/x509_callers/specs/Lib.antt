@@ -1,4 +1,6 @@
 -- What callers promise.
+pub mod AlternativeNames
+pub mod Reports
 pub mod Requested
 pub mod Rewriting
 pub mod facts

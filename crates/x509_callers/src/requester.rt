@@ -1,15 +1,44 @@
 //! A request builder: a name, a key and its usages become the bytes to sign, and with the signature the request.
 
 ghost use Rattle.std.specs.Prelude.{◌≡◌, ◌↔◌, ◌≤◌, ◌^◌, [], ◌∷◌, length, Err, IfOk};
+ghost use Rattle.std.specs.String.{string_bytes};
+ghost use Rattle.picky_asn1_x509.specs.Attributes.{text_attribute};
+ghost use Rattle.picky_asn1_x509.specs.SubjectPublicKeyInfos.{ed_subject};
 ghost use Rattle.picky_asn1_x509.specs.Types.write_error.{TooLong};
 ghost use Rattle.picky_asn1_x509.specs.Requests.{new_info, with_attributes, info_bytes, request_bytes};
 ghost use Rattle.x509_callers.specs.Requested.{asked, signed};
 
 use picky_asn1_x509::{
     AlgorithmIdentifier, Attribute, BitString, BitStringAsn1, CertificationRequest,
-    CertificationRequestInfo, Extension, KeyUsage, Name, SubjectPublicKeyInfo, WriteError, to_vec,
+    CertificationRequestInfo, DirectoryString, Extension, KeyUsage, Name, NameAttr,
+    SubjectPublicKeyInfo, WriteError, oids, to_vec,
 };
 use std::alloc::{AllocError, Allocator};
+
+/// A name of one common name, as a UTF8String.
+///
+/// # Errors
+/// `AllocError` where memory is refused. The text is then dropped.
+pub fn named<A: Allocator + Copy>(alloc: A, text: String<A>) -> Result<Name<A>, AllocError>
+    ensures { IfOk result (λ name. name ≡ (text_attribute NameAttr.CommonName
+        (DirectoryString.Utf8String (string_bytes text)) ∷ []) ∷ []) }
+{
+    Name::new_common_name(alloc, DirectoryString::from(text))
+}
+
+/// An Ed25519 key with its algorithm, 1.3.101.112 (RFC 8410).
+///
+/// # Errors
+/// `AllocError` where memory is refused. The bits are then dropped.
+pub fn ed25519_key<A: Allocator + Copy>(
+    alloc: A,
+    bits: BitString<A>,
+) -> Result<SubjectPublicKeyInfo<A>, AllocError>
+    ensures { IfOk result (λ key. key ≡ ed_subject (1 ∷ 3 ∷ 101 ∷ 112 ∷ []) bits) }
+{
+    let algorithm = oids::ed25519(alloc)?;
+    Ok(SubjectPublicKeyInfo::new_ed_key(algorithm, bits))
+}
 
 /// A list of one item. It is over any type, so that what its exits drop costs the proof little.
 fn list_of_one<T: Drop, A: Allocator>(alloc: A, item: T) -> Result<Vec<T, A>, AllocError>
@@ -20,7 +49,7 @@ fn list_of_one<T: Drop, A: Allocator>(alloc: A, item: T) -> Result<Vec<T, A>, Al
     Ok(list)
 }
 
-/// A request that a key usage stands in the certificate.
+/// A request that a key usage be put into the certificate.
 fn extension_request<A: Allocator + Copy>(
     alloc: A,
     usage: KeyUsage<A>,

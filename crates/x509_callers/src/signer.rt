@@ -46,6 +46,7 @@ impl From<WriteError> for RewriteError {
 
 /// A certificate as it is written.
 #[derive(Drop)]
+#[derive_where(Debug, PartialEq, Eq)]
 pub struct Rewritten<A: Allocator> {
     /// Its DER encoding.
     pub encoding: Vec<u8, A>,

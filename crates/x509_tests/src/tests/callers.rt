@@ -1,14 +1,16 @@
 //! The callers of `x509_callers` over a certificate and a request that OpenSSL 3.0 wrote.
 
 use picky_asn1_x509::{
-    AlgorithmIdentifier, BitString, CertificationRequestInfo, Deviation, DirectoryString, KeyUsage,
-    Name, SubjectPublicKeyInfo, Utf8String, oids,
+    AlgorithmIdentifier, BitString, CertificationRequestInfo, Deviation, GeneralName, KeyUsage,
+    from_bytes,
 };
 use std::alloc::Global;
 use std::process::Abort;
 use x509_callers::checker::{is_self_issued, is_signed_in_der, read};
-use x509_callers::inspector::{common_name, describe, located, write_deviations};
-use x509_callers::requester::{bytes_to_sign, finished, requested};
+use x509_callers::inspector::{
+    Description, NameText, Report, alternative_names, common_name, located,
+};
+use x509_callers::requester::{bytes_to_sign, ed25519_key, finished, named, requested};
 use x509_callers::signer::{RewriteError, rewrite};
 
 /// `openssl req -x509 -newkey ed25519 -subj /CN=example.org -addext
@@ -63,8 +65,8 @@ fn a_certificate_is_described(rt: HostRuntime) {
     let (certificate, places) = located(rt.alloc(), &bytes).expect(&rt, "a certificate");
     assert!(rt; places.is_empty());
     assert!(rt; common_name(&certificate).is_some());
-    let mut text = String::new(rt.alloc());
-    assert!(rt; describe(&mut text, &certificate).is_ok());
+    assert!(rt; alternative_names(&certificate).map(|names| names.0.len()) == Some(2));
+    let text = format!(in rt.alloc(); "{}", Description(&certificate)).expect(&rt, "memory");
     drop(certificate);
     let lines =
         "subject: CN=example.org\nvalid: 2026-11-23 17:58:36 to 2052-11-26 17:58:36\nhost: example.org\nhost: www.example.org\n";
@@ -80,30 +82,50 @@ fn a_deviation_is_located(rt: HostRuntime) {
         .first()
         .map(|place| (place.kind, place.start, place.end));
     assert!(rt; found == Some((Deviation::RsaParametersAbsent, 62, 75)) && places.len() == 1);
-    let mut text = String::new(rt.alloc());
-    assert!(rt; write_deviations(&mut text, &places).is_ok());
+    let text = format!(in rt.alloc(); "{}", Report(&places)).expect(&rt, "memory");
     assert_eq!(rt; text.as_str(), "RSA parameters absent: bytes 62..75\n");
 }
 
-/// The name of the request's subject.
-fn subject(rt: &impl Abort, alloc: Global) -> Name {
-    let text = String::from_str(alloc, "example.org").expect(rt, "memory");
-    let text = DirectoryString::Utf8String(Utf8String::from(text));
-    Name::new_common_name(alloc, text).expect(rt, "memory")
+/// What a general name prints.
+fn printed(rt: &impl Abort, alloc: Global, digits: &str) -> String {
+    let bytes = bytes_of(rt, alloc, digits);
+    let name: GeneralName = from_bytes(alloc, &bytes).expect(rt, "a general name");
+    let text = format!(in alloc; "{}", NameText(&name)).expect(rt, "memory");
+    drop(name);
+    text
 }
 
-/// The request's key.
-fn key(rt: &impl Abort, alloc: Global) -> SubjectPublicKeyInfo {
-    let algorithm = oids::ed25519(alloc).expect(rt, "memory");
-    SubjectPublicKeyInfo::new_ed_key(algorithm, BitString::with_bytes(bytes_of(rt, alloc, KEY)))
+#[test]
+fn each_form_of_name_prints(rt: HostRuntime) {
+    for (digits, text) in [
+        ("a00806022a03a0020500", "other name: 1.2.3=#0500"),
+        ("8103614062", "mail: a@b"),
+        ("820161", "host: a"),
+        ("a40e300c310a300806035504030c0161", "directory: CN=a"),
+        ("a505a1030c0161", "party: a"),
+        ("a50aa0030c0162a1030c0161", "party: a"),
+        ("8604753a2f78", "uri: u:/x"),
+        ("8704c0000201", "address: 192.0.2.1"),
+        (
+            "871020010db8000000000000000000000001",
+            "address: #20010db8000000000000000000000001",
+        ),
+        ("88032a0304", "identifier: 1.2.3.4"),
+    ] {
+        let shown = printed(&rt, rt.alloc(), digits);
+        assert_eq!(rt; shown.as_str(), text);
+    }
 }
 
 /// What is asked for: a signing key.
 fn asked_for(rt: &impl Abort, alloc: Global) -> CertificationRequestInfo {
     let mut usage = KeyUsage::new(alloc, 1).expect(rt, "memory");
     usage.set_digital_signature(true).expect(rt, "memory");
-    let name = subject(rt, alloc);
-    requested(alloc, name, key(rt, alloc), usage).expect(rt, "memory")
+    let text = String::from_str(alloc, "example.org").expect(rt, "memory");
+    let name = named(alloc, text).expect(rt, "memory");
+    let bits = BitString::with_bytes(bytes_of(rt, alloc, KEY));
+    let key = ed25519_key(alloc, bits).expect(rt, "memory");
+    requested(alloc, name, key, usage).expect(rt, "memory")
 }
 
 #[test]

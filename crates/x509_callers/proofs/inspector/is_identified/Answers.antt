@@ -1,0 +1,13 @@
+use Rattle.std.proofs.Common.{◌≡◌, ◌∙◌, ap}
+use Rattle.std.specs.Cmp.Lexicographic.{bytes_decides}
+use Rattle.std.proofs.lemmas.Bool.Decides.{same_from_decides}
+use Rattle.picky_asn1_x509.specs.Extensions.{is_arcs}
+use Rattle.picky_asn1_x509.specs.LookUps.{has_identifier}
+use Rattle.x509_callers.proofs.inspector.is_identified.Goals as goal
+
+pub returns : goal.returns
+unfolding has_identifier
+returns g c =
+    let h = same_from_decides c.is_arcs.result (is_arcs c.behind-extension.inside.0 c.args.arcs.now) c.is_arcs.ensures (bytes_decides c.behind-extension.inside.0 c.args.arcs.now) in
+    let w : c.behind-extension.inside.0 ≡ c.args.extension.now.extn_id = cc (c.behind-extension.view_is, c.extn_id.ensures) in
+    h ∙ ap (λ x. is_arcs x c.args.arcs.now) w
