@@ -136,6 +136,51 @@ fn strings_are_turned_into_text(rt: HostRuntime) {
     strings_are_turned_into_text_over(&rt, &heap);
 }
 
+/// What a run of `into_utf8_string` showed of a string, which is handed back as it was.
+fn utf8_turn<A: Allocator + Copy>(
+    answer: Result<Utf8String<A>, DirectoryString<A>>,
+    text: &str,
+    before: &DirectoryString<A>,
+) -> Turn {
+    match answer {
+        Ok(answer) => Turn::right(answer.as_str() == text),
+        Err(back) => Turn::stands(back == *before),
+    }
+}
+
+/// What a run showed that makes a string and turns it into a UTF-8 string.
+fn turned_into_utf8<A: Allocator + Copy>(
+    alloc: A,
+    made: Result<DirectoryString<A>, AllocError>,
+    text: &str,
+    before: &DirectoryString<A>,
+) -> Turn {
+    match made {
+        Ok(string) => utf8_turn(string.into_utf8_string(alloc), text, before),
+        Err(AllocError) => Turn::Refused,
+    }
+}
+
+/// How many requests a copy of a string makes that is turned into a UTF-8 string.
+fn utf8_requests<A: Heap>(rt: &impl Abort, heap: A, bytes: &[u8], text: &str) -> Option<u64> {
+    let before = string_of(rt, heap, bytes);
+    in_turn!(heap, turned_into_utf8(heap, before.clone(), text, &before))
+}
+
+/// The same of UTF-8 strings as of text.
+fn strings_are_turned_into_utf8_over<A: Heap>(rt: &impl Abort, heap: A) {
+    let printable = utf8_requests(rt, heap, b"\x13\x01a", "a");
+    same(rt, &printable, &Some(1), "printable");
+    let bmp = utf8_requests(rt, heap, UNPAIRED, UNPAIRED_TEXT);
+    is_so(rt, bmp > Some(1), "BMP");
+}
+
+#[test]
+fn strings_are_turned_into_utf8(rt: HostRuntime) {
+    let heap = Refusing::new(rt.alloc());
+    strings_are_turned_into_utf8_over(&rt, &heap);
+}
+
 /// The string has this content, and no request was made since all were refused; none is refused any more.
 fn holds<A: Heap>(rt: &impl Abort, heap: A, string: &DirectoryString<A>, content: &[u8]) {
     is_so(rt, string.as_bytes() == content, "content");

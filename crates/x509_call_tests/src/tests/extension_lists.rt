@@ -6,7 +6,7 @@ use super::checks::{clone_turn, granted, is_so, is_written, made_turn, same};
 use picky_asn1_x509::{
     Attribute, ExtendedKeyUsage, Extension, ExtensionView, Extensions, KeyUsage,
 };
-use refusing::{Refusing, in_turn};
+use refusing::{Refusing, Turn, in_turn};
 use std::alloc::{AllocError, Allocator};
 use std::process::Abort;
 use x509_der::{
@@ -343,6 +343,8 @@ fn is_lent<A: Heap>(rt: &impl Abort, heap: A, place: u8, bytes: &[u8]) {
     heap.refuse_all();
     let lent = place_of(extension.extn_value());
     same(rt, &lent, &Some(place), "the variant");
+    let cloned = clone_turn(extension.extn_value().clone(), &extension.extn_value());
+    same(rt, &cloned, &Turn::Granted, "a clone");
     same(rt, &heap.requests(), &0, "requests");
     heap.refuse(0);
     drop(extension);

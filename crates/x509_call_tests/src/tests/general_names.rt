@@ -1,21 +1,14 @@
 //! General names, times and versions that are made, with every request for memory refused.
 
 use super::Heap;
-use super::checks::{is_so, same};
+use super::checks::{is_so, is_written, same};
 use refusing::Refusing;
 use std::alloc::{AllocError, Allocator};
 use std::process::Abort;
-use x509_der::{Asn1RawDer, ObjectIdentifierAsn1, ToDer, from_bytes, write_to_slice};
+use x509_der::{Asn1RawDer, ObjectIdentifierAsn1, ToDer, from_bytes};
 use x509_names::{DirectoryString, GeneralName, Name, OtherName, Time, Validity, Version};
 use x509_oids_objects::user_principal_name;
 use x509_prim::{GeneralizedTime, GeneralizedTimeAsn1, UTCTime, UtcTimeAsn1, Utf8String};
-
-/// Whether the value is written as these bytes.
-fn is_written<T: ToDer>(value: &T, stated: &[u8]) -> bool {
-    let mut room = [0u8; 64];
-    let written = write_to_slice(value, room.as_mut_slice());
-    written == Ok(stated.len()) && room.starts_with(stated)
-}
 
 /// No request was made since all were refused, and the value is written as these bytes; none is refused any more.
 fn is_made<A: Heap, T: ToDer + Drop>(rt: &impl Abort, heap: A, value: T, stated: &[u8]) {

@@ -1,13 +1,13 @@
 //! Makers of public and private keys, and what is asked of them.
 
 use super::Heap;
-use super::checks::{bytes_of, is_so, same_bytes};
+use super::checks::{bytes_of, is_so, is_written, made_turn, same_bytes};
 use refusing::{Refusing, Turn, in_turn};
 use std::alloc::{AllocError, Allocator, Global};
 use std::process::Abort;
 use x509_der::{
-    BitString, FromDer, IntegerAsn1, ObjectIdentifier, OctetStringAsn1, OidError, ReadError, ToDer,
-    from_bytes, write_to_slice,
+    BitString, FromDer, IntegerAsn1, ObjectIdentifier, OctetStringAsn1, OidError, ReadError,
+    from_bytes,
 };
 use x509_keys::{
     ECPrivateKey, PRIVATE_KEY_INFO_VERSION_1, PRIVATE_KEY_INFO_VERSION_2, PrivateKeyInfo,
@@ -72,23 +72,6 @@ const ED_INFO_WITH_KEY: &[u8] = &[
     0x30, 0x15, 0x02, 0x01, 0x01, 0x30, 0x05, 0x06, 0x03, 0x2B, 0x65, 0x70, 0x04, 0x03, 0x04, 0x01,
     0xAA, 0xA1, 0x04, 0x03, 0x02, 0x00, 0xBB,
 ];
-
-/// Whether the value is written as these bytes.
-fn is_written<T: ToDer>(value: &T, bytes: &[u8]) -> bool {
-    let mut room = [0u8; 64];
-    match write_to_slice(value, room.as_mut_slice()) {
-        Ok(len) => len == bytes.len() && room.starts_with(bytes),
-        Err(_refused) => false,
-    }
-}
-
-/// What a run showed that should make a value that is written as these bytes.
-fn made_turn<T: ToDer + Drop>(answer: Result<T, AllocError>, bytes: &[u8]) -> Turn {
-    match answer {
-        Ok(value) => Turn::right(is_written(&value, bytes)),
-        Err(AllocError) => Turn::Refused,
-    }
-}
 
 /// An identifier of lawful arcs.
 fn identifier<A: Allocator + Copy>(
@@ -426,4 +409,10 @@ fn skipped_elements_are_not_kept(rt: HostRuntime) {
     let skipped = bytes_of(&rt, alloc, "3011020100300506032b657004030401aaa000");
     let plain = bytes_of(&rt, alloc, "300f020100300506032b657004030401aa");
     encode_the_same::<PrivateKeyInfo>(&rt, alloc, &skipped, &plain);
+}
+
+/// What is written of a bare key for RSA is read as the RSA key.
+#[test]
+fn bare_rsa_keys_are_read_as_rsa(rt: HostRuntime) {
+    encode_the_same::<SubjectPublicKeyInfo>(&rt, rt.alloc(), RSA_BARE, RSA_SUBJECT);
 }

@@ -1,11 +1,11 @@
 //! Attributes and names: what is made, added and found, with requests for memory refused.
 
 use super::Heap;
-use super::checks::{clone_turn, is_so, is_written, made_turn, same};
+use super::checks::{clone_turn, granted, is_so, is_written, made_turn, same};
 use refusing::{Refusing, Turn, in_turn};
 use std::alloc::{AllocError, Allocator};
 use std::process::Abort;
-use x509_der::{FromDer, ObjectIdentifier, from_bytes};
+use x509_der::{Asn1SequenceOf, Asn1SetOf, FromDer, ObjectIdentifier, from_bytes};
 use x509_names::{
     AttributeTypeAndValue, AttributeTypeAndValueParameters, DirectoryString, Name, NameAttr,
 };
@@ -315,13 +315,26 @@ fn is_read_as_another<A: Heap, T: FromDer<A> + PartialEq>(
     is_so(rt, read != *value, "read as another");
 }
 
-/// An attribute whose value doesn't fit its type is written by its parts, and isn't what is read of them.
+/// The name of this attribute alone prints this text.
+fn prints<A: Heap>(rt: &impl Abort, heap: A, attribute: AttributeTypeAndValue<A>, text: &str) {
+    let mut set = Vec::new(heap);
+    granted(rt, set.push(attribute));
+    let mut sets = Vec::new(heap);
+    granted(rt, sets.push(Asn1SetOf(set)));
+    let name = Name(Asn1SequenceOf(sets));
+    let printed = name.to_string(heap).expect(rt, "memory");
+    is_so(rt, printed.as_str() == text, text);
+    drop(name);
+}
+
+/// An attribute whose value doesn't fit its type is written by its parts, and isn't what is read of them. Its label is
+/// that of the value.
 fn misfits_are_written_over<A: Heap>(rt: &impl Abort, heap: A) {
     let text = text_of(heap, "a").expect(rt, "memory");
     let attribute = misfit(rt, heap, text);
     let bytes = b"\x30\x08\x06\x03\x55\x04\x0C\x0C\x01a".as_slice();
     is_read_as_another(rt, heap, &attribute, bytes);
-    drop(attribute);
+    prints(rt, heap, attribute, "CN=a");
 }
 
 #[test]

@@ -141,6 +141,7 @@ fn texts_are_read(rt: HostRuntime) {
     let heap = Refusing::new(rt.alloc());
     for text in &[
         "2.40",
+        "2.999",
         "2.18446744073709551535",
         "1.2.18446744073709551615",
         "1.3.6.1.5.2.3.2",

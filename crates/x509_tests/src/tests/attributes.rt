@@ -2,7 +2,7 @@
 
 use super::fields::{ANY, Field};
 use super::lists::sets_in_list;
-use super::rows::{Heap, Row, Table, all_hold};
+use super::rows::{Heap, Row, Table, all_hold, reads_in_turn, refuses, writes};
 use refusing::Refusing;
 use std::alloc::Global;
 use std::process::Abort;
@@ -110,8 +110,8 @@ fn attributes_by_type(rt: HostRuntime) {
 /// The common name `a`, and the title `b` in a set of its own.
 const TWO_SETS: &str = "3018310a300806035504030c0161310a3008060355040c0c0162";
 
-/// The first set, which may be empty; its attribute, which may not; and the attribute's type and value.
-const FIRST_SET: &[Field<'static>] = &[
+/// Each of the sets, which may be empty; its attribute, which may not; and the attribute's type and value.
+const BOTH_SETS: &[Field<'static>] = &[
     Field {
         around: &[0],
         start: 2,
@@ -132,6 +132,53 @@ const FIRST_SET: &[Field<'static>] = &[
         start: 11,
         tags: &[0x0C, 0x13, 0x1E],
     },
+    Field {
+        around: &[0],
+        start: 14,
+        tags: &[0x31],
+    },
+    Field {
+        around: &[0, 14],
+        start: 16,
+        tags: &[],
+    },
+    Field {
+        around: &[0, 14, 16],
+        start: 18,
+        tags: &[0x06],
+    },
+    Field {
+        around: &[0, 14, 16],
+        start: 23,
+        tags: ANY,
+    },
+];
+
+/// A name of the e-mail address `a@b` alone.
+const ADDRESSED: &str = "30143112301006092a864886f70d0109011603614062";
+
+/// Its set, the set's attribute, and the attribute's type and value.
+const ONE_SET: &[Field<'static>] = &[
+    Field {
+        around: &[0],
+        start: 2,
+        tags: &[0x31],
+    },
+    Field {
+        around: &[0, 2],
+        start: 4,
+        tags: &[],
+    },
+    Field {
+        around: &[0, 2, 4],
+        start: 6,
+        tags: &[0x06],
+    },
+    Field {
+        around: &[0, 2, 4],
+        start: 17,
+        tags: &[0x16],
+    },
 ];
 
 /// Empty names and sets are read, and no order is asked of a set.
@@ -140,19 +187,27 @@ const NAMES: Table<'static> = Table {
         ("3000", 1),
         ("30023100", 2),
         ("301631143008060355040c0c0162300806035504030c0161", 8),
-        ("30143112301006092a864886f70d0109011603614062", 5),
         (
             "301d311b301906035504030c12746573742e636f6e746f736f2e6c6f63616c",
             5,
         ),
     ],
-    rows: &[Row {
-        input: TWO_SETS,
-        strict: TWO_SETS,
-        places: &[],
-        headers: 9,
-        fields: FIRST_SET,
-    }],
+    rows: &[
+        Row {
+            input: TWO_SETS,
+            strict: TWO_SETS,
+            places: &[],
+            headers: 9,
+            fields: BOTH_SETS,
+        },
+        Row {
+            input: ADDRESSED,
+            strict: ADDRESSED,
+            places: &[],
+            headers: 5,
+            fields: ONE_SET,
+        },
+    ],
     refused: &[
         "", // no bytes
         "3100", // another tag
@@ -195,6 +250,22 @@ fn headers_of_names_are_counted(rt: HostRuntime) {
     headers_are(&rt, alloc, &whole, true, 1001);
     let cut = sets_in_list(&rt, alloc, 1);
     headers_are(&rt, alloc, &cut, false, 1001);
+}
+
+/// Such a name is read and written as itself by every call, and the cut one is read by none, also where memory is
+/// refused.
+fn names_of_many_sets_over<A: Heap>(rt: &impl Abort, heap: A, alloc: Global) {
+    let whole = sets_in_list(rt, alloc, 0);
+    reads_in_turn::<A, Name<A>>(rt, heap, &whole, &whole);
+    writes::<A, Name<A>>(rt, heap, &whole, &whole);
+    let cut = sets_in_list(rt, alloc, 1);
+    refuses::<A, Name<A>>(rt, heap, &cut);
+}
+
+#[test]
+fn names_of_many_sets(rt: HostRuntime) {
+    let heap = Refusing::new(rt.alloc());
+    names_of_many_sets_over(&rt, &heap, rt.alloc());
 }
 
 #[test]

@@ -41,8 +41,98 @@ impl<A: Allocator + Copy> OwnClone for CertificationRequest<A> {
     }
 }
 
-/// Versions and empty lists that are encoded though they are left out, alone and together.
-const SPELLED_PARTS: &[Row<'static>] = &[
+/// What is signed of the smallest certificate, with neither version nor extensions.
+const PLAIN_PART: &str =
+    "303a020101300506032b65703000301e170d3139313031373137343132385a170d3232313031363137343132385a3000300a300506032b6570030100";
+
+/// Its serial number, algorithm, issuer, validity, subject and key; either name may be empty.
+const PART_FIELDS: &[Field<'static>] = &[
+    Field {
+        around: &[0],
+        start: 2,
+        tags: &[0x02],
+    },
+    Field {
+        around: &[0],
+        start: 5,
+        tags: &[],
+    },
+    Field {
+        around: &[0],
+        start: 12,
+        tags: &[0x30],
+    },
+    Field {
+        around: &[0],
+        start: 14,
+        tags: &[],
+    },
+    Field {
+        around: &[0],
+        start: 46,
+        tags: &[0x30],
+    },
+    Field {
+        around: &[0],
+        start: 48,
+        tags: &[],
+    },
+];
+
+/// And of one of version 3 with the issuer's identifier and an extension.
+const EXTENDED_PART: &str =
+    "3052a003020102020101300506032b65703000301e170d3139313031373137343132385a170d3232313031363137343132385a3000300a300506032b6570030100810200aaa30d300b30090603551d1304023000";
+
+/// What stands there beside these fields: the version, the identifier, and the extensions, which may be an empty list.
+const FURTHER_FIELDS: &[Field<'static>] = &[
+    Field {
+        around: &[0],
+        start: 2,
+        tags: &[],
+    },
+    Field {
+        around: &[0, 2],
+        start: 4,
+        tags: &[],
+    },
+    Field {
+        around: &[0],
+        start: 65,
+        tags: &[],
+    },
+    Field {
+        around: &[0],
+        start: 69,
+        tags: &[],
+    },
+    Field {
+        around: &[0, 69],
+        start: 71,
+        tags: &[0x30],
+    },
+    Field {
+        around: &[0, 69, 71],
+        start: 73,
+        tags: &[],
+    },
+];
+
+/// These two, and versions and empty lists that are encoded though they are left out, alone and together.
+const PART_ROWS: &[Row<'static>] = &[
+    Row {
+        input: PLAIN_PART,
+        strict: PLAIN_PART,
+        places: &[],
+        headers: 13,
+        fields: PART_FIELDS,
+    },
+    Row {
+        input: EXTENDED_PART,
+        strict: EXTENDED_PART,
+        places: &[],
+        headers: 22,
+        fields: FURTHER_FIELDS,
+    },
     // Version 1, spelled.
     Row {
         input: "303fa003020100020101300506032b65703000301e170d3139313031373137343132385a170d3232313031363137343132385a3000300a300506032b6570030100",
@@ -77,10 +167,6 @@ const SPELLED_PARTS: &[Row<'static>] = &[
 const PARTS: Table<'static> = Table {
     strict: &[
         (
-            "303a020101300506032b65703000301e170d3139313031373137343132385a170d3232313031363137343132385a3000300a300506032b6570030100",
-            13,
-        ),
-        (
             "305ba003020102020101300506032b65703000301e170d3139313031373137343132385a170d3232313031363137343132385a3000300a300506032b6570030100a31a3018300a0603551d0e04030401aa300a0603551d0e04030401bb",
             25,
         ),
@@ -96,12 +182,8 @@ const PARTS: Table<'static> = Table {
             "3046a003020101020101300506032b65703000301e170d3139313031373137343132385a170d3232313031363137343132385a3000300a300506032b6570030100810200aa820100",
             17,
         ),
-        (
-            "3052a003020102020101300506032b65703000301e170d3139313031373137343132385a170d3232313031363137343132385a3000300a300506032b6570030100810200aaa30d300b30090603551d1304023000",
-            22,
-        ),
     ],
-    rows: SPELLED_PARTS,
+    rows: PART_ROWS,
     refused: &[
         // extensions without a version
         "3049020101300506032b65703000301e170d3139313031373137343132385a170d3232313031363137343132385a3000300a300506032b6570030100a30d300b30090603551d1304023000",
@@ -141,6 +223,25 @@ fn signed_parts(rt: HostRuntime) {
     signed_parts_over(&rt, &heap);
 }
 
+/// The signed part of the smallest, its algorithm, and the signature.
+const CERTIFICATE_FIELDS: &[Field<'static>] = &[
+    Field {
+        around: &[0],
+        start: 2,
+        tags: &[],
+    },
+    Field {
+        around: &[0],
+        start: 62,
+        tags: &[],
+    },
+    Field {
+        around: &[0],
+        start: 75,
+        tags: &[0x03],
+    },
+];
+
 /// Certificates around them, whose own algorithm lacks its NULL.
 const SIGNED: &[Row<'static>] = &[
     // The smallest: neither version nor extensions.
@@ -149,7 +250,7 @@ const SIGNED: &[Row<'static>] = &[
         strict: "304e303a020101300506032b65703000301e170d3139313031373137343132385a170d3232313031363137343132385a3000300a300506032b6570030100300d06092a864886f70d01010b0500030100",
         places: &[(Deviation::RsaParametersAbsent, 62, 75)],
         headers: 17,
-        fields: &[],
+        fields: CERTIFICATE_FIELDS,
     },
     // Version 1, spelled.
     Row {
@@ -278,8 +379,35 @@ fn certificates(rt: HostRuntime) {
 
 /// No attributes, and a request for no extensions. The tag isn't left out.
 const ATTRIBUTES: Table<'static> = Table {
-    strict: &[("a000", 1), ("a011300f06092a864886f70d01090e31023000", 5)],
-    rows: &[],
+    strict: &[("a000", 1)],
+    rows: &[Row {
+        input: "a011300f06092a864886f70d01090e31023000",
+        strict: "a011300f06092a864886f70d01090e31023000",
+        places: &[],
+        headers: 5,
+        fields: &[
+            Field {
+                around: &[0],
+                start: 2,
+                tags: &[],
+            },
+            Field {
+                around: &[0, 2],
+                start: 4,
+                tags: &[0x06],
+            },
+            Field {
+                around: &[0, 2],
+                start: 15,
+                tags: &[0x31],
+            },
+            Field {
+                around: &[0, 2, 15],
+                start: 17,
+                tags: &[0x30],
+            },
+        ],
+    }],
     refused: &[
         "", // no bytes
         "3000", // SEQUENCE in place of the tag 0
@@ -288,6 +416,9 @@ const ATTRIBUTES: Table<'static> = Table {
         "800000", // the tag 0 of a primitive element, and a byte left over
         "a0023000", // an attribute without its type
         "3084ffffffff", // another tag, and 2^32 - 1 bytes that aren't there
+        "3088ffffffffffffffff", // another tag, and 2^64 - 1 bytes that aren't there
+        "3089010000000000000000", // another tag, and a length above 64 bits
+        "30800000", // another tag, and an indefinite length
         "1f8100", // a tag of several bytes
     ],
 };
@@ -358,13 +489,35 @@ fn request_infos(rt: HostRuntime) {
     request_infos_over(&rt, &heap);
 }
 
+/// The request's signed part, its algorithm, and the signature.
+const REQUEST_FIELDS: &[Field<'static>] = &[
+    Field {
+        around: &[0],
+        start: 2,
+        tags: &[],
+    },
+    Field {
+        around: &[0],
+        start: 23,
+        tags: &[],
+    },
+    Field {
+        around: &[0],
+        start: 30,
+        tags: &[0x03],
+    },
+];
+
 /// A request without attributes; their tag isn't left out.
 const REQUESTS: Table<'static> = Table {
-    strict: &[(
-        "301f30130201003000300a300506032b6570030100a000300506032b6570030100",
-        12,
-    )],
-    rows: &[],
+    strict: &[],
+    rows: &[Row {
+        input: "301f30130201003000300a300506032b6570030100a000300506032b6570030100",
+        strict: "301f30130201003000300a300506032b6570030100a000300506032b6570030100",
+        places: &[],
+        headers: 12,
+        fields: REQUEST_FIELDS,
+    }],
     refused: &[
         // no tag of the attributes
         "301d30110201003000300a300506032b6570030100300506032b6570030100",

@@ -139,7 +139,18 @@ const LISTS: Table<'static> = Table {
             (Deviation::CriticalFalseSpelled, 16, 30),
         ],
         headers: 11,
-        fields: &[],
+        fields: &[
+            Field {
+                around: &[0],
+                start: 2,
+                tags: &[],
+            },
+            Field {
+                around: &[0],
+                start: 16,
+                tags: &[],
+            },
+        ],
     }],
     refused: &[
         "30020500", // NULL in place of an extension
@@ -162,10 +173,12 @@ fn lists(rt: HostRuntime) {
 /// A challenge password, which isn't known: any element.
 const PASSWORD: &str = "301006092a864886f70d01090731030c0178";
 
+/// The content type of data, whose set may be empty.
+const CONTENT_TYPE: &str = "301806092a864886f70d010903310b06092a864886f70d010701";
+
 const ATTRIBUTES: Table<'static> = Table {
     strict: &[
         ("300f06092a864886f70d01090e31023000", 4),
-        ("301806092a864886f70d010903310b06092a864886f70d010701", 4),
         ("301006092a864886f70d01090431030401aa", 4),
         (
             "301c06092a864886f70d010905310f170d3139313031373137343132385a",
@@ -176,20 +189,41 @@ const ATTRIBUTES: Table<'static> = Table {
             5,
         ),
     ],
-    rows: &[Row {
-        input: PASSWORD,
-        strict: PASSWORD,
-        places: &[],
-        headers: 3,
-        fields: &[
-            IDENTIFIER,
-            Field {
-                around: &[0],
-                start: 13,
-                tags: ANY,
-            },
-        ],
-    }],
+    rows: &[
+        Row {
+            input: PASSWORD,
+            strict: PASSWORD,
+            places: &[],
+            headers: 3,
+            fields: &[
+                IDENTIFIER,
+                Field {
+                    around: &[0],
+                    start: 13,
+                    tags: ANY,
+                },
+            ],
+        },
+        Row {
+            input: CONTENT_TYPE,
+            strict: CONTENT_TYPE,
+            places: &[],
+            headers: 4,
+            fields: &[
+                IDENTIFIER,
+                Field {
+                    around: &[0],
+                    start: 13,
+                    tags: &[0x31],
+                },
+                Field {
+                    around: &[0, 13],
+                    start: 15,
+                    tags: &[0x06],
+                },
+            ],
+        },
+    ],
     refused: &[
         // a content type without a SET around it
         "301606092a864886f70d01090306092a864886f70d010701",

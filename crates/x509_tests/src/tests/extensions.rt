@@ -153,14 +153,52 @@ fn extended_key_usages(rt: HostRuntime) {
     extended_key_usages_over(&rt, &heap);
 }
 
+/// All three fields in their order.
+const ALL_FIELDS: &str = "300b8001aaa103820161820101";
+
 /// Fields that repeat or stand in another order have one deviation over the whole, beside those in the fields, also in
 /// one that doesn't count.
-const DISORDERED: &[Row<'static>] = &[
+const AUTHORITY_ROWS: &[Row<'static>] = &[
+    Row {
+        input: ALL_FIELDS,
+        strict: ALL_FIELDS,
+        places: &[],
+        headers: 5,
+        fields: &[
+            Field {
+                around: &[0],
+                start: 2,
+                tags: &[],
+            },
+            Field {
+                around: &[0],
+                start: 5,
+                tags: &[],
+            },
+            Field {
+                around: &[0, 5],
+                start: 7,
+                tags: &[],
+            },
+            Field {
+                around: &[0],
+                start: 10,
+                tags: &[],
+            },
+        ],
+    },
     Row {
         input: "30068001aa8001bb",
         strict: "30038001bb",
         places: &[(Deviation::AuthorityKeyFieldOrder, 0, 8)],
         headers: 3,
+        fields: &[],
+    },
+    Row {
+        input: "30098001aa8001bb8001cc",
+        strict: "30038001cc",
+        places: &[(Deviation::AuthorityKeyFieldOrder, 0, 11)],
+        headers: 4,
         fields: &[],
     },
     Row {
@@ -191,9 +229,8 @@ const AUTHORITIES: Table<'static> = Table {
     strict: &[
         ("3000", 1),
         ("30168014b45ae4a5b3ded252f6b9d5a6950feb3ebcc7fdff", 2),
-        ("300b8001aaa103820161820101", 5),
     ],
-    rows: DISORDERED,
+    rows: AUTHORITY_ROWS,
     refused: &[
         "300ca105a203160161a103830162", // two issuers, the second with a tag of no form
         "30058200820101", // two serial numbers, the first of no content

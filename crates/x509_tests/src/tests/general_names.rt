@@ -5,7 +5,7 @@ use super::rows::{Heap, Row, Table, all_hold};
 use refusing::Refusing;
 use std::process::Abort;
 use x509_der::Deviation;
-use x509_names::{EdiPartyName, GeneralName, OtherName, Time, Validity, Version};
+use x509_names::{EdiPartyName, GeneralName, GeneralNames, OtherName, Time, Validity, Version};
 
 const VERSIONS: Table<'static> = Table {
     strict: &[("020100", 1), ("020101", 1), ("020102", 1)],
@@ -148,11 +148,17 @@ const PRINCIPAL: &str = "3011060a2b060104018237140203a0030c0161";
 
 const PRINCIPAL_NAME: &str = "a011060a2b060104018237140203a0030c0161";
 
-/// Its form, and the element under its tag 0.
+/// Its form, and its tag 0 with the element under it.
 const FORM: Field<'static> = Field {
     around: &[0],
     start: 2,
     tags: &[0x06],
+};
+
+const TAGGED_VALUE: Field<'static> = Field {
+    around: &[0],
+    start: 14,
+    tags: &[],
 };
 
 const FORM_VALUE: Field<'static> = Field {
@@ -168,7 +174,7 @@ const OTHER_NAMES: Table<'static> = Table {
         strict: PRINCIPAL,
         places: &[],
         headers: 4,
-        fields: &[FORM, FORM_VALUE],
+        fields: &[FORM, TAGGED_VALUE, FORM_VALUE],
     }],
     refused: &[
         "3000", // no identifier
@@ -193,13 +199,25 @@ fn other_names(rt: HostRuntime) {
     other_names_over(&rt, &heap);
 }
 
-/// A directory string under a tag of its own in another element.
+/// What a directory string is. Each of two stands under a tag of its own in another element.
 const TEXTS: &[u8] = &[0x0C, 0x13, 0x1E];
+
+const FIRST_TAGGED: Field<'static> = Field {
+    around: &[0],
+    start: 2,
+    tags: &[],
+};
 
 const FIRST_TEXT: Field<'static> = Field {
     around: &[0, 2],
     start: 4,
     tags: TEXTS,
+};
+
+const SECOND_TAGGED: Field<'static> = Field {
+    around: &[0],
+    start: 7,
+    tags: &[],
 };
 
 const SECOND_TEXT: Field<'static> = Field {
@@ -221,14 +239,14 @@ const PARTIES: Table<'static> = Table {
             strict: PARTY,
             places: &[],
             headers: 3,
-            fields: &[FIRST_TEXT],
+            fields: &[FIRST_TAGGED, FIRST_TEXT],
         },
         Row {
             input: ASSIGNED_PARTY,
             strict: ASSIGNED_PARTY,
             places: &[],
             headers: 5,
-            fields: &[FIRST_TEXT, SECOND_TEXT],
+            fields: &[FIRST_TAGGED, FIRST_TEXT, SECOND_TAGGED, SECOND_TEXT],
         },
     ],
     refused: &[
@@ -276,7 +294,7 @@ const STRICT_FORMS: Table<'static> = Table {
             strict: PRINCIPAL_NAME,
             places: &[],
             headers: 4,
-            fields: &[FORM, FORM_VALUE],
+            fields: &[FORM, TAGGED_VALUE, FORM_VALUE],
         },
         Row {
             input: DIRECTORY,
@@ -301,14 +319,14 @@ const STRICT_FORMS: Table<'static> = Table {
             strict: "a505a1030c0161",
             places: &[],
             headers: 3,
-            fields: &[FIRST_TEXT],
+            fields: &[FIRST_TAGGED, FIRST_TEXT],
         },
         Row {
             input: "a50aa0030c0162a1030c0161",
             strict: "a50aa0030c0162a1030c0161",
             places: &[],
             headers: 5,
-            fields: &[FIRST_TEXT, SECOND_TEXT],
+            fields: &[FIRST_TAGGED, FIRST_TEXT, SECOND_TAGGED, SECOND_TEXT],
         },
     ],
     refused: &[],
@@ -463,4 +481,45 @@ fn no_forms_over<A: Heap>(rt: &impl Abort, heap: A) {
 fn no_forms(rt: HostRuntime) {
     let heap = Refusing::new(rt.alloc());
     no_forms_over(&rt, &heap);
+}
+
+/// No name, two names, and two of which the second has a form that is a deviation, whose place is told from the list's
+/// start.
+const LISTS: Table<'static> = Table {
+    strict: &[("3000", 1), ("3006820161820162", 3)],
+    rows: &[Row {
+        input: "3008820161a203160162",
+        strict: "3006820161820162",
+        places: &[(Deviation::GeneralNameForm, 5, 10)],
+        headers: 4,
+        fields: &[
+            Field {
+                around: &[0],
+                start: 2,
+                tags: &[],
+            },
+            Field {
+                around: &[0, 5],
+                start: 7,
+                tags: &[0x16],
+            },
+        ],
+    }],
+    refused: &[
+        "3100", // another tag
+        "30028300", // the tag of an x400Address
+        "3003820180", // a character above 7F
+        "300382016100", // a byte left over
+    ],
+};
+
+/// The test of this name, over any such allocator.
+fn lists_over<A: Heap>(rt: &impl Abort, heap: A) {
+    all_hold::<A, GeneralNames<A>>(rt, heap, &LISTS);
+}
+
+#[test]
+fn lists(rt: HostRuntime) {
+    let heap = Refusing::new(rt.alloc());
+    lists_over(&rt, &heap);
 }

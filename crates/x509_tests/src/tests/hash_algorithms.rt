@@ -153,8 +153,23 @@ const FAR_ABOVE: &str =
 const ALONE: &str =
     "3030a00d300b0609608648016503040201a11a301806092a864886f70d010108300b0609608648016503040201a203020120";
 
-/// The hash function, the mask generation function, its identifier, and the salt's length.
+/// The hash function, the mask generation function, its identifier, and the salt's length, and the tags around them.
 const FIELDS: &[Field<'static>] = &[
+    Field {
+        around: &[0],
+        start: 2,
+        tags: &[],
+    },
+    Field {
+        around: &[0],
+        start: 19,
+        tags: &[],
+    },
+    Field {
+        around: &[0],
+        start: 49,
+        tags: &[],
+    },
     Field {
         around: &[0, 2],
         start: 4,
@@ -180,6 +195,16 @@ const FIELDS: &[Field<'static>] = &[
 const SALTS: Table<'static> = Table {
     strict: &[
         (GREATEST, 13),
+        // SHA-384 and SHA-512, each with a salt as long as the hash
+        (
+            "3034a00f300d06096086480165030402020500a11c301a06092a864886f70d010108300d06096086480165030402020500a203020130",
+            13,
+        ),
+        (
+            "3034a00f300d06096086480165030402030500a11c301a06092a864886f70d010108300d06096086480165030402030500a203020140",
+            13,
+        ),
+        // SHA-256 with salts of 200 bytes, of none and of 2^63
         (
             "3035a00f300d06096086480165030402010500a11c301a06092a864886f70d010108300d06096086480165030402010500a204020200c8",
             13,

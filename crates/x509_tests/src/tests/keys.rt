@@ -238,6 +238,8 @@ const SUBJECTS: Table<'static> = Table {
     refused: &[
         // an unused bit that is set
         "301a300d06092a864886f70d01010105000309013006020105020103",
+        // an unused bit that isn't set, behind the RSA key of 5 and 2
+        "301a300d06092a864886f70d01010105000309013006020105020102",
         // the algorithm 1.2.3, which isn't known
         "3009300406022a03030100",
         // SHA-256, which has no keys

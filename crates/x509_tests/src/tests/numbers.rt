@@ -20,6 +20,12 @@ const SMALL_NUMBERS: Table<'static> = Table {
         "0200", // no content
         "0203000080", // padded with a zero
         "030101", // another tag
+        "", // no bytes
+        "3084ffffffff", // another tag, and 2^32 - 1 bytes that aren't there
+        "3088ffffffffffffffff", // another tag, and 2^64 - 1 bytes that aren't there
+        "3089010000000000000000", // another tag, and a length above 64 bits
+        "30800000", // another tag, and an indefinite length
+        "1f8100", // a tag of several bytes
     ],
 };
 

@@ -16,7 +16,7 @@ use x509_der::{
     IntegerAsn1, ObjectIdentifierAsn1, OctetStringAsn1, OctetStringAsn1Container, ReadError,
     read_metered,
 };
-use x509_keys::{DigestInfo, ECPrivateKey, PrivateKeyInfo, RawAlgorithmIdentifier};
+use x509_keys::{DigestInfo, ECPrivateKey, HashAlgorithm, PrivateKeyInfo, RawAlgorithmIdentifier};
 use x509_names::{AttributeTypeAndValue, GeneralName, Validity};
 use x509_prim::{
     BmpStringAsn1, GeneralizedTimeAsn1, Ia5StringAsn1, PrintableStringAsn1, UtcTimeAsn1, Utf8String,
@@ -576,6 +576,22 @@ const ALGORITHM_LISTS: &[Refusal<'static>] = &[
     ("3005300306012a00", 3, Some(LeftOver)),
 ];
 
+/// No hash function. An identifier that names none is refused before what stands behind it is looked at.
+const HASHES: &[Refusal<'static>] = &[
+    // no identifier
+    ("3000", 2, None),
+    // SHA-512/224, which isn't among those that are known
+    ("300d06096086480165030402050500", 2, Some(Unsupported)),
+    // the same with a content of the NULL
+    ("300e0609608648016503040205050100", 2, Some(Unsupported)),
+    // SHA-256 with a content of the NULL
+    ("300e0609608648016503040201050100", 3, Some(LeftOver)),
+    // SHA-256, and octets in the place of the NULL
+    ("300d06096086480165030402010400", 2, None),
+    // SHA-256 with a second NULL
+    ("300f060960864801650304020105000500", 3, Some(LeftOver)),
+];
+
 /// No digests by SHA-256.
 const DIGESTS: &[Refusal<'static>] = &[
     // no algorithm
@@ -618,6 +634,7 @@ fn algorithms(rt: HostRuntime) {
 #[test]
 fn digests(rt: HostRuntime) {
     let alloc = rt.alloc();
+    all_refused::<HashAlgorithm>(&rt, alloc, HASHES);
     all_refused::<DigestInfo>(&rt, alloc, DIGESTS);
 }
 
