@@ -1,10 +1,10 @@
 #!/usr/bin/env python3
-"""Checks that the code in docs/CALLING.md and in README's example is that of crates/x509_callers, which the gate proves.
+"""Checks that the code in README and docs/ is that of the crates, which the gate proves.
 
 usage: tools/check_calling.py
 
-Each item of a block that is marked as rust must stand in a source file of the crate, word by word. A line is printed for each
-that doesn't, and the exit status is then 1.
+Each piece of a block that is marked as rust or antt, up to a blank line, must stand in one of its page's files word by word, but
+for how its lines are broken. A line is printed for each that doesn't, and the exit status is then 1.
 """
 
 import glob
@@ -13,10 +13,20 @@ import re
 import sys
 
 ROOT = os.path.dirname(os.path.dirname(os.path.abspath(__file__)))
-PAGES = ("README.md", "docs/CALLING.md")
-BLOCK = re.compile(r"^```rust\n(.*?)^```$", re.S | re.M)
-# An item ends in a line of its own.
-ITEM = re.compile(r".*?^\}\n", re.S | re.M)
+# The pages, and the files whose code each shows.
+PAGES = {
+    "README.md": ["crates/x509_callers/src/*.rt"],
+    "docs/CALLING.md": ["crates/x509_callers/src/*.rt"],
+    "docs/CONTRIBUTING.md": [
+        "crates/x509_keys_parts/src/aes_auth_enc.rt",
+        "crates/x509_keys_parts/src/laws.rt",
+        "crates/x509_keys_parts/specs/AesAuthEncParams.antt",
+        "crates/x509_keys_parts/specs/AesLaws.antt",
+        "crates/x509_keys_parts/specs/facts/AesAuthEncParams.antt",
+        "crates/x509_keys_parts/proofs/laws/aes_auth_enc_fields/Answers.antt",
+    ],
+}
+BLOCK = re.compile(r"^```(?:rust|antt)\n(.*?)^```$", re.S | re.M)
 
 
 def text_of(path):
@@ -24,15 +34,25 @@ def text_of(path):
         return it.read()
 
 
+def words_of(text):
+    """The words of a text, with one space around each."""
+    return f" {' '.join(text.split())} "
+
+
+def pieces_of(page):
+    """The pieces of the code that a page shows."""
+    return [piece for block in BLOCK.findall(text_of(page)) for piece in block.strip().split("\n\n")]
+
+
 def main():
-    source = "".join(text_of(it) for it in sorted(glob.glob("crates/x509_callers/src/*.rt", root_dir=ROOT)))
     missing = 0
-    for page in PAGES:
-        for block in BLOCK.findall(text_of(page)):
-            for item in ITEM.findall(block):
-                if item.strip("\n") not in source:
-                    missing += 1
-                    print(f"{page}: not in x509_callers: {item.strip().splitlines()[0]}")
+    for page, patterns in PAGES.items():
+        files = [path for pattern in patterns for path in glob.glob(pattern, root_dir=ROOT)]
+        sources = [words_of(text_of(path)) for path in files]
+        for piece in pieces_of(page):
+            if not any(words_of(piece) in source for source in sources):
+                missing += 1
+                print(f"{page}: not in its crate: {piece.strip().splitlines()[0]}")
     return 1 if missing else 0
 
 
