@@ -70,7 +70,7 @@ pub fn new_unchecked<A: Allocator>(
 }
 
 impl<A: Allocator> AlgorithmIdentifier<A> {
-    /// The object identifier of the algorithm.
+    /// The object identifier of the algorithm. This call and the next four take no memory.
     pub fn oid(&self) -> &ObjectIdentifier<A>
         ensures { result.now ≡ self.now.algorithm }
     {

@@ -123,7 +123,7 @@ impl HashAlgorithm {
         }
     }
 
-    /// Its object identifier.
+    /// Its object identifier. Takes memory for the arcs alone.
     ///
     /// # Errors
     /// `AllocError` where memory is refused.

@@ -118,7 +118,7 @@ impl ShaVariant {
         }
     }
 
-    /// Its object identifier.
+    /// Its object identifier. Takes memory for the arcs alone.
     ///
     /// # Errors
     /// `AllocError` where memory is refused.

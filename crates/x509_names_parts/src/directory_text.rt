@@ -13,7 +13,7 @@ use std::fmt;
 use x509_prim::{BmpStringAsn1, PrintableString, PrintableStringAsn1, Utf8String};
 
 impl<A: Allocator> DirectoryString<A> {
-    /// The text as a UTF8String.
+    /// The text as a UTF8String. Takes memory for the text alone.
     ///
     /// # Errors
     /// `AllocError` where memory is refused.
