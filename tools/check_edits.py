@@ -1,18 +1,18 @@
 #!/usr/bin/env python3
-"""Checks that every edit of crates/*/must-fail and crates/*/more-edits can be applied.
+"""Checks that every edit of the crates' must-fail/, planted/ and more-edits/ can be applied.
 
 usage: tools/check_edits.py
 
-An edit is a file with a line 'file: src/..' and then pairs of lines 'old: TEXT' and 'new: TEXT'. Each old text must stand exactly
-once in its file, as the pairs before it left it. A line is printed for each edit where one doesn't. Exit status 1 where any is
-printed, or where a crate has more edits in must-fail/ than its budget below.
+A line is printed for each edit whose texts don't stand in their files (tools/edits.py), that names a function which it doesn't
+change, or that is to be planted and names none. Exit status 1 where any is printed, or where the gate would try more edits of a
+crate than its budget below.
 """
 
 import glob
 import os
 import sys
 
-FOLDERS = ("must-fail", "more-edits")
+from edits import FOLDERS, ROOT, BadEdit, Edit, edits_in
 
 # How many edits the gate tries in these crates together, at most.
 BUDGETS = [
@@ -29,74 +29,36 @@ BUDGETS = [
 ]
 
 
-class BadEdit(Exception):
-    """Why an edit can't be applied."""
+def fault_of(edit, crate):
+    """What is wrong with an edit, if anything."""
+    try:
+        read = Edit(edit, crate)
+        read.applied({})
+    except BadEdit as why:
+        return str(why)
+    if "/planted/" in edit and not read.functions:
+        return "it names no function"
+    return None
 
 
-def pairs_of(edit):
-    """The changes of an edit, each a file, the old text and the new one."""
-    file, old, found = None, None, []
-    with open(edit, encoding="utf-8") as it:
-        lines = it.read().split("\n")
-    for line in lines:
-        if line.startswith("file: "):
-            file = line[6:].strip()
-        elif line.startswith("old: "):
-            old = line[5:]
-        elif line.startswith("new:"):
-            if not file or not old:
-                raise BadEdit("a 'new:' line stands before any 'file:' or 'old:' line")
-            found.append((file, old, line[4:].removeprefix(" ")))
-            old = None
-        elif line.strip():
-            raise BadEdit(f"a line is none of file:, old: and new:, but {line[:40]}")
-    if not found:
-        raise BadEdit("it has no 'old:' and 'new:' pair")
-    return found
-
-
-def text_of(crate, file, texts):
-    """The text of a file of the crate, as the changes so far left it."""
-    if file not in texts:
-        try:
-            with open(f"{crate}/{file}", encoding="utf-8") as it:
-                texts[file] = it.read()
-        except OSError:
-            raise BadEdit(f"there is no file {file}") from None
-    return texts[file]
-
-
-def applied(edit, crate, texts):
-    """The texts after the edit, and for each change its file and the place in it where the change begins."""
-    texts, places = dict(texts), []
-    for file, old, new in pairs_of(edit):
-        text = text_of(crate, file, texts)
-        found = text.count(old)
-        if found != 1:
-            raise BadEdit(f"{file} has {found} times, and not once: {old.strip()}")
-        places.append((file, text.index(old)))
-        texts[file] = text.replace(old, new)
-    return texts, places
-
-
-def edits_in(folder):
-    return sorted(glob.glob(f"{folder}/*.edit"))
+def tried(crate):
+    """How many edits of a crate the gate tries."""
+    return sum(len(edits_in(f"crates/{crate}/{folder}")) for folder in ("must-fail", "planted"))
 
 
 def main():
-    os.chdir(os.path.dirname(os.path.dirname(os.path.abspath(__file__))))
+    os.chdir(ROOT)
     bad = 0
     for crate in sorted(glob.glob("crates/*")):
         for edit in [it for folder in FOLDERS for it in edits_in(f"{crate}/{folder}")]:
-            try:
-                applied(edit, crate, {})
-            except BadEdit as why:
-                print(f"{edit}: {why}")
+            fault = fault_of(edit, crate)
+            if fault:
+                print(f"{edit}: {fault}")
                 bad += 1
     for most, names in BUDGETS:
-        count = sum(len(edits_in(f"crates/{name}/must-fail")) for name in names)
+        count = sum(tried(name) for name in names)
         if count > most:
-            print(f"{' and '.join(names)}: {count} edits in must-fail/, and not {most} at most")
+            print(f"{' and '.join(names)}: the gate tries {count} edits, and not {most} at most")
             bad += 1
     return 1 if bad else 0
 

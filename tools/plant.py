@@ -1,108 +1,69 @@
 #!/usr/bin/env python3
-"""Tries a folder of edits outside the gate: each plants a fault, which the prover must refuse.
+"""Tries edits that plant a fault, several in one check: the prover must refuse each.
 
-usage: tools/plant.sh CRATE [FOLDER] [--only WORD] [--jobs N] [--one] [--log FILE]
+usage: tools/plant.py CRATE [FOLDER] [--only WORD] [--one] [--log FILE]
+       tools/plant.py --gate
 
 FOLDER is crates/CRATE/more-edits where it is left out. --only takes the edits whose name contains WORD, --one tries each edit by
-itself in a check of the whole crate, --jobs is handed to rt check, and --log appends what each check prints to a file.
+itself in a check of the whole crate, and --log appends what each check prints to a file. --gate tries the edits in planted/ of
+every crate, of as many crates at a time as there are processors, or as RT_JOBS says, and those that were refused on this machine
+over the same files only once.
 
-It works on a copy of the crate and of those below it, with what their checks kept in out/, so that each is to be checked once before.
-Edits of different functions are planted together, and one run of rt check --only over these functions tells of each whether it is
-refused by its own clauses. An edit whose function only waits for another that isn't proved is tried again in the next run. An edit
-outside of functions, and one that still isn't refused, is tried by itself in a check of the whole crate.
+It works on a copy of the crate, over the libraries below it as the last run of rt ci or rt check built them. Edits of different
+functions are planted together, and one check of the functions that they name (--only) tells of each whether it is refused by its
+own clauses: a check goes by what the contracts of other functions say, and not by their bodies. An edit whose function only waits
+for another that isn't proved is tried again in the next check. An edit that names no function, and one that still isn't refused, is
+tried by itself in a check of the whole crate.
 
 It prints 'refused', 'NOT REFUSED' or 'BAD EDIT' for each edit. Exit status 1 where any isn't refused.
 """
 
 import argparse
+import contextlib
+import glob
+import hashlib
 import os
 import re
 import shutil
 import subprocess
 import sys
 import tempfile
+from concurrent.futures import ThreadPoolExecutor
 
-from check_edits import BadEdit, applied, edits_in
+from edits import ROOT, BadEdit, Edit, edits_in
 
 PARTS = ("src", "specs", "proofs")
-ROOT = os.path.dirname(os.path.dirname(os.path.abspath(__file__)))
-FUNCTION = re.compile(r"^( *)(?:pub(?:\([a-z]+\))? )?(?:const )?fn (\w+)")
+# Where the gate keeps what it printed of edits that were all refused, by the checksum of what they were tried over.
+KEPT = f"{os.environ.get('XDG_CACHE_HOME') or os.path.expanduser('~/.cache')}/x509-planted"
 SYMBOL = re.compile(r"(?m)^fn (\S+?): (.*)")
 # A function that is refused for another's sake alone.
 WAITS = re.compile(r"^(no proof: |not proved; )it (calls|passes|waits) ")
 NAMES = re.compile(r"has no field|is not in scope|has no `|was not admitted|\(nearest: ")
 
 
-class Edit:
-    """An edit, and the names of the functions that it changes, by module."""
-
-    def __init__(self, path, crate):
-        self.path, self.name = path, os.path.basename(path)
-        _, places = applied(path, crate, {})
-        self.functions = {function_at(crate, *place) for place in places}
-
-    def has_symbols(self, crate, symbols):
-        """Whether all that it changes are functions that a check names."""
-        return all(it and named(crate, it, symbols) for it in self.functions)
-
-
-def function_at(crate, file, place):
-    """The module and the name of the function whose lines the place is in. The files are in rt fmt's layout."""
-    with open(f"{crate}/{file}", encoding="utf-8") as it:
-        text = it.read()
-    lines, at = text.split("\n"), text.count("\n", 0, place)
-    # The old text may begin above its first word.
-    while at < len(lines) and not lines[at].strip():
-        at += 1
-    for first in range(at, -1, -1):
-        found = FUNCTION.match(lines[first])
-        if not found:
-            continue
-        last = first
-        if not lines[first].endswith(("}", ";")):
-            while last < len(lines) and lines[last] != found[1] + "}":
-                last += 1
-        if last >= at:
-            module = re.sub(r"^src/|(/mod)?\.rt$", "", file).replace("/", "::")
-            return ("" if module == "lib" else module, found[2])
-        return None
-    return None
-
-
 class Copy:
-    """The copy of the crate, in which edits are planted."""
+    """A copy of a crate's files, in which edits are planted, with what its checks keep."""
 
-    def __init__(self, name, room, jobs, log):
-        self.name, self.jobs, self.log = name, jobs, log
-        self.source, self.folder = f"{room}/source", f"{room}/crates/{name}"
-        uses = lists()
-        below = closure(name, uses)
-        with open(f"{room}/crates.txt", "w", encoding="utf-8") as it:
-            for crate in [*below, name]:
-                it.write(f"{crate}: {' '.join(uses[crate])}\n")
-        shutil.copy(f"{ROOT}/HANDLES", room)
-        for crate in [*below, name]:
-            copy_crate(crate, room, "incremental" if crate == name else "rlib")
-        for part in PARTS:
-            if os.path.isdir(f"{self.folder}/{part}"):
-                shutil.copytree(f"{self.folder}/{part}", f"{self.source}/{part}")
+    def __init__(self, name, room, log=""):
+        self.name, self.log = name, log
+        self.source, self.folder, self.kept = f"{room}/source", f"{room}/planted", f"{room}/kept"
+        os.mkdir(self.kept)
+        copy_parts(f"{ROOT}/crates/{name}", self.source)
 
     def write(self, texts):
-        """Puts the crate's own sources in place, as they were when the run began, and these texts over them."""
-        for part in PARTS:
-            if os.path.isdir(f"{self.source}/{part}"):
-                shutil.rmtree(f"{self.folder}/{part}", ignore_errors=True)
-                shutil.copytree(f"{self.source}/{part}", f"{self.folder}/{part}")
+        """Puts the crate's own files in place, as they were when the run began, and these texts over them."""
+        shutil.rmtree(self.folder, ignore_errors=True)
+        copy_parts(self.source, self.folder)
         for file, text in texts.items():
             with open(f"{self.folder}/{file}", "w", encoding="utf-8") as it:
                 it.write(text)
 
-    def check(self, texts, symbols=()):
+    def check(self, texts, functions=()):
         """What a check prints over these texts: of these functions, or of the whole crate."""
         self.write(texts)
-        words = [it for symbol in symbols for it in ("--only", symbol)]
+        only = [it for function in sorted(functions) for it in ("--only", function)]
         ran = subprocess.run(
-            ["rt", "check", "--jobs", str(self.jobs), *words],
+            [*check_of(self.name), "--incremental", self.kept, *only],
             cwd=self.folder,
             stdin=subprocess.DEVNULL,
             stdout=subprocess.PIPE,
@@ -115,6 +76,31 @@ class Copy:
             with open(self.log, "a", encoding="utf-8") as it:
                 it.write(ran.stdout)
         return ran.stdout
+
+
+def copy_parts(source, folder):
+    for part in PARTS:
+        if os.path.isdir(f"{source}/{part}"):
+            shutil.copytree(f"{source}/{part}", f"{folder}/{part}")
+
+
+def check_of(name):
+    """The check of a crate over the built libraries of those that it lists, by one job."""
+    uses = lists()
+    kit = os.path.dirname(os.path.dirname(os.path.realpath(shutil.which("rattle"))))
+
+    def library(it):
+        return f"{ROOT}/crates/{it}/out/rlib/{it}.rlib" if it in uses else f"{kit}/rlibs/{it}.rlib"
+
+    words = ["rattle", "check", "--crate-name", name, "src/lib.rt", "--jobs", "1"]
+    words += ["--antt-project", f"{kit}/rattle/logic/antt-project.json", "--logic-built", f"{kit}/logic_built"]
+    for it in ["std", *uses[name]]:
+        words += ["--extern", f"{it}={library(it)}"]
+    for it in ["std", *closure(name, uses)]:
+        if not os.path.isdir(library(it)):
+            sys.exit(f"{it} isn't built: run .ci/run or rt check first")
+        words += ["-L", f"dependency={os.path.dirname(library(it))}"]
+    return words
 
 
 def lists():
@@ -137,48 +123,21 @@ def closure(name, uses):
     return found
 
 
-def copy_crate(crate, room, kept):
-    """Copies a crate's files and what its checks kept. A built library is only read, so that links to its files do."""
-    source, folder = f"{ROOT}/crates/{crate}", f"{room}/crates/{crate}"
-    for part in PARTS:
-        if os.path.isdir(f"{source}/{part}"):
-            shutil.copytree(f"{source}/{part}", f"{folder}/{part}")
-    if os.path.isdir(f"{source}/out/{kept}"):
-        copy = shutil.copy2 if kept == "incremental" else link
-        shutil.copytree(f"{source}/out/{kept}", f"{folder}/out/{kept}", copy_function=copy)
-
-
-def link(source, to):
-    try:
-        os.link(source, to)
-    except OSError:
-        shutil.copy2(source, to)
-
-
-def symbols_of(crate, said):
-    """The functions of the crate that a check names, with what it says of each."""
-    return {it: why for it, why in SYMBOL.findall(said) if it.startswith(f"{crate}::")}
-
-
-def named(crate, function, symbols):
-    """The symbols that a function of this module and name may have."""
-    module, name = function
-    start = f"{crate}::{module}::" if module else f"{crate}::"
-    return [it for it in symbols if it.startswith(start) and it.endswith(f"::{name}")]
-
-
-def batch_of(edits, folder):
-    """As many of the edits as change different functions, and the texts with all of them."""
+def batch_of(edits):
+    """As many of the edits as change different functions and nothing else, or one that does, and the texts with all of them.
+    Those that change more come last, since much of what was kept must then be checked again."""
     taken, functions, texts = [], set(), {}
-    for edit in edits:
-        if edit.functions & functions:
+    for edit in sorted(edits, key=lambda it: not it.is_local()):
+        if taken and (edit.functions & functions or not edit.is_local()):
             continue
         try:
-            texts, _ = applied(edit.path, folder, texts)
+            texts, _ = edit.applied(texts)
         except BadEdit:
             continue
         taken.append(edit)
         functions |= edit.functions
+        if not edit.is_local():
+            break
     return taken, texts
 
 
@@ -214,16 +173,16 @@ def say(edit, word, why=""):
     print(f"{edit.name}: {word}{': ' + why[:150] if why else ''}", flush=True)
 
 
-def tell_batch(copy, batch, texts, symbols):
+def tell_batch(copy, batch, texts):
     """Which of the planted edits are refused by their own function, and which wait for another's. The rest is unclear."""
-    wanted = {edit: sorted({s for f in edit.functions for s in named(copy.name, f, symbols)}) for edit in batch}
-    said = copy.check(texts, sorted({it for found in wanted.values() for it in found}))
+    said = copy.check(texts, {it for edit in batch for it in edit.functions})
     if not re.search(r"(?m)^only=", said):
         return [], []
-    told = symbols_of(copy.name, said)
+    told = dict(SYMBOL.findall(said))
     refused, waiting = [], []
-    for edit, found in wanted.items():
-        fell = [it for it in found if it in told and not told[it].startswith("proved")]
+    for edit in batch:
+        found = [f"{copy.name}::{it}" for it in sorted(edit.functions)]
+        fell = [it for it in found if not told.get(it, "proved").startswith("proved")]
         own = [it for it in fell if is_own(told[it])]
         if own:
             refused.append((edit, reason_of(own[0], told[own[0]], said)))
@@ -236,37 +195,34 @@ def halves(batch):
     return [batch[: len(batch) // 2], batch[len(batch) // 2 :]]
 
 
-def try_batches(copy, edits, symbols):
+def try_batches(copy, edits):
     """Tries edits of functions together, and answers those that are left to be tried alone."""
     left, alone = edits, []
     while left:
-        batch, texts = batch_of(left, copy.source)
+        batch, texts = batch_of(left)
         if not batch:
             break
-        refused, waiting = tell_batch(copy, batch, texts, symbols)
+        left = [it for it in left if it not in batch]
+        refused, waiting = tell_batch(copy, batch, texts)
         for edit, why in refused:
             say(edit, "refused", why)
         done = [edit for edit, _ in refused]
-        rest = [it for it in left if it not in batch]
         unclear = [it for it in batch if it not in done and it not in waiting]
-        if done or waiting:
+        if done:
+            # What an edit waited for has its own body again.
+            alone += unclear + try_batches(copy, waiting)
+        elif waiting or len(batch) == 1:
             # An edit that waits for none of the others has a fault that its caller shows.
-            alone += unclear if done else unclear + waiting
-            left = rest + (waiting if done else [])
-        elif len(batch) > 1:
-            first, second = halves(batch)
-            alone += try_batches(copy, first, symbols)
-            alone += try_batches(copy, second, symbols)
-            left = rest
-        else:
             alone += batch
-            left = rest
+        else:
+            first, second = halves(batch)
+            alone += try_batches(copy, first) + try_batches(copy, second)
     return alone + left
 
 
 def try_alone(copy, edit):
     """Whether a check of the whole crate refuses the edit."""
-    texts, _ = applied(edit.path, copy.source, {})
+    texts, _ = edit.applied({})
     said = copy.check(texts)
     last = next((it for it in reversed(said.split("\n")) if it.startswith("logic=")), "")
     if last.startswith("logic=proved"):
@@ -276,21 +232,10 @@ def try_alone(copy, edit):
         errors = [it for it in said.split("\n") if "error" in it]
         say(edit, "BAD EDIT", (errors or ["it did not reach the prover"])[0])
         return False
-    told = symbols_of(copy.name, said).items()
+    told = [it for it in SYMBOL.findall(said) if it[0].startswith(f"{copy.name}::")]
     fell = [reason_of(it, why, said) for it, why in told if is_own(why)]
     say(edit, "refused", (fell or [last])[0])
     return True
-
-
-def words():
-    given = argparse.ArgumentParser(description=__doc__, formatter_class=argparse.RawDescriptionHelpFormatter)
-    given.add_argument("crate")
-    given.add_argument("folder", nargs="?")
-    given.add_argument("--only", default="")
-    given.add_argument("--jobs", type=int, default=1)
-    given.add_argument("--one", action="store_true")
-    given.add_argument("--log", default="")
-    return given.parse_args()
 
 
 def read_edits(folder, word, crate):
@@ -306,23 +251,85 @@ def read_edits(folder, word, crate):
     return edits, bad
 
 
+def try_folder(crate, folder, word="", one=False, log=""):
+    """Tries the edits of a folder, and answers how many aren't refused."""
+    with tempfile.TemporaryDirectory(prefix="plant-") as room:
+        copy = Copy(crate, room, log)
+        edits, bad = read_edits(folder, word, copy.source)
+        together = [] if one else [it for it in edits if it.functions]
+        alone = [it for it in edits if it not in together] + try_batches(copy, together)
+        bad += sum(not try_alone(copy, edit) for edit in alone)
+    print(f"{crate}: {len(edits)} edits planted, {bad} not refused", flush=True)
+    return bad
+
+
+def stamp_of(crate, folder):
+    """The checksum of all that a try of a crate's edits goes by."""
+    roots = [f"{ROOT}/crates/{crate}/{part}" for part in PARTS]
+    roots += [f"{ROOT}/crates/{it}/out/rlib" for it in closure(crate, lists())]
+    files = [f"{at}/{name}" for root in [folder, *roots] for at, _, names in os.walk(root) for name in names]
+    made = hashlib.sha256(subprocess.run(["rt", "version"], stdout=subprocess.PIPE, check=True).stdout)
+    for path in sorted([*files, *[f"{ROOT}/{it}" for it in ("crates.txt", "tools/plant.py", "tools/edits.py")]]):
+        with open(path, "rb") as it:
+            text = it.read()
+        made.update(f"{os.path.relpath(path, ROOT)} {len(text)} ".encode())
+        made.update(text)
+    return made.hexdigest()
+
+
+def try_kept(crate, folder):
+    """Whether the edits of a folder are all refused, now or in an earlier run on this machine over the same files."""
+    stamp = stamp_of(crate, folder)
+    with contextlib.suppress(OSError), open(f"{KEPT}/{stamp}", encoding="utf-8") as it:
+        print(f"{it.read()}{crate}: tried by an earlier run on this machine", flush=True)
+        return True
+    ran = subprocess.run([sys.executable, __file__, crate, folder], stdout=subprocess.PIPE, encoding="utf-8", check=False)
+    print(ran.stdout, end="", flush=True)
+    if ran.returncode == 0 and stamp_of(crate, folder) == stamp:
+        with contextlib.suppress(OSError):
+            os.makedirs(KEPT, exist_ok=True)
+            with open(f"{KEPT}/{stamp}.{os.getpid()}", "w", encoding="utf-8") as it:
+                it.write(ran.stdout)
+            os.replace(it.name, f"{KEPT}/{stamp}")
+    return ran.returncode == 0
+
+
+def try_planted():
+    """Tries what every crate has in planted/, and answers in how many crates some edit isn't refused."""
+    folders = {it.split("/")[-2]: it for it in glob.glob(f"{ROOT}/crates/*/planted")}
+    counts = {crate: len(edits_in(folder)) for crate, folder in folders.items()}
+    number = os.environ.get("RT_JOBS", "")
+    lanes = int(number) if number.isdigit() and int(number) else os.cpu_count()
+    with ThreadPoolExecutor(lanes) as pool:
+        refused = [*pool.map(lambda it: try_kept(it, folders[it]), sorted(counts, key=lambda it: -counts[it]))]
+    bad = refused.count(False)
+    print(f"{sum(counts.values())} edits planted in {len(counts)} crates, of which {bad} have some that aren't refused", flush=True)
+    return bad
+
+
+def words():
+    given = argparse.ArgumentParser(description=__doc__, formatter_class=argparse.RawDescriptionHelpFormatter)
+    given.add_argument("crate", nargs="?")
+    given.add_argument("folder", nargs="?")
+    given.add_argument("--gate", action="store_true")
+    given.add_argument("--only", default="")
+    given.add_argument("--one", action="store_true")
+    given.add_argument("--log", default="")
+    return given.parse_args()
+
+
 def main():
     given = words()
+    if given.gate:
+        return 1 if try_planted() else 0
+    if not given.crate:
+        print("a crate or --gate: see --help", file=sys.stderr)
+        return 2
     folder = os.path.abspath(given.folder or f"{ROOT}/crates/{given.crate}/more-edits")
-    with tempfile.TemporaryDirectory(prefix="plant-") as room:
-        copy = Copy(given.crate, room, given.jobs, given.log)
-        edits, bad = read_edits(folder, given.only, copy.source)
-        said = copy.check({})
-        if "\nlogic=proved" not in said:
-            print(said[-2000:])
-            print(f"{given.crate} isn't proved without an edit", file=sys.stderr)
-            return 2
-        symbols = symbols_of(given.crate, said)
-        together = [] if given.one else [it for it in edits if it.has_symbols(given.crate, symbols)]
-        alone = [it for it in edits if it not in together] + try_batches(copy, together, symbols)
-        bad += sum(not try_alone(copy, edit) for edit in alone)
-    print(f"{len(edits)} edits, {bad} not refused")
-    return 1 if bad else 0
+    if not os.path.isdir(folder):
+        print(f"there is no folder {folder}", file=sys.stderr)
+        return 2
+    return 1 if try_folder(given.crate, folder, given.only, given.one, given.log) else 0
 
 
 if __name__ == "__main__":
