@@ -2,7 +2,7 @@
 # Measures the library: instructions of each call by callgrind, and its requests for memory.
 # run.sh                  measures this repository
 # run.sh CHECKOUT         also measures that checkout of an earlier state, and compares; one without certificates is measured without them
-# It needs rt, gcc, valgrind and python3. It builds in $MEASURE_FOLDER (else /tmp/measure), and nothing else of the repository is written.
+# It needs rt, rattle, gcc, valgrind and python3. It builds in $MEASURE_FOLDER (else /tmp/measure), and nothing else of the repository is written.
 set -euo pipefail
 here=$(cd "$(dirname "$0")" && pwd)
 top=$(cd "$here/../.." && pwd)
@@ -13,11 +13,11 @@ crates="x509_der_parts x509_der x509_oids_algorithms x509_keys_parts x509_keys"
 # And these, where there are certificates.
 upper="x509_prim_parts x509_prim x509_oids_objects x509_names_parts x509_names picky_asn1_x509_parts picky_asn1_x509"
 
-# Copies the crates of a checkout, and builds the calls over them as a static library.
+# Builds the calls as a static library over a checkout's libraries: those that .ci/run or rt check left there, or else
+# those of a copy, which are proved first.
 build() {
   local from=$1 to=$2 list="" uses="x509_der x509_keys"
   mkdir -p "$to/crates/measured/src" "$to/crates/measured/specs" "$to/crates/measured/proofs"
-  [ -d "$to/.git" ] || git init -q "$to"
   for crate in $crates; do [ ! -d "$from/crates/$crate" ] || list="$list $crate"; done
   cp "$here/calls.rt.in" "$to/crates/measured/src/lib.rt"
   if [ -d "$from/crates/picky_asn1_x509" ]; then
@@ -25,17 +25,41 @@ build() {
     uses="$uses picky_asn1_x509"
     cat "$here/certificates.rt.in" >> "$to/crates/measured/src/lib.rt"
   fi
+  touch "$to/crates/measured/specs/Lib.antt" "$to/crates/measured/proofs/Lib.antt"
+  for crate in $list; do grep "^$crate:" "$from/crates.txt"; done > "$to/crates.txt"
+  echo "measured staticlib: $uses" >> "$to/crates.txt"
+  if is_built "$from" $list; then build_over "$from" "$to"; else build_copy "$from" "$to"; fi
+}
+
+is_built() {
+  local from=$1 crate
+  shift
+  for crate in "$@"; do [ -d "$from/crates/$crate/out/rlib/$crate.rlib" ] || return 1; done
+}
+
+# Builds the calls over libraries that stand in the checkout.
+build_over() {
+  local from=$1 to=$2 crate words
+  words=(--crate-name measured --crate-type staticlib src/lib.rt --jobs 1 --toolchain "$kit/toolchain")
+  words+=(--antt-project "$kit/rattle/logic/antt-project.json" --logic-built "$kit/logic_built")
+  words+=(--extern "std=$kit/rlibs/std.rlib" -L "dependency=$kit/rlibs")
+  for crate in $list; do words+=(-L "dependency=$from/crates/$crate/out/rlib"); done
+  for crate in $uses; do words+=(--extern "$crate=$from/crates/$crate/out/rlib/$crate.rlib"); done
+  mkdir -p "$to/crates/measured/out"
+  (cd "$to/crates/measured" && rattle build "${words[@]}" -o out/libmeasured.a) > "$to/measured.log" 2>&1 ||
+    { tail "$to/measured.log" >&2; exit 1; }
+}
+
+# Copies the crates of a checkout, proves them, and builds the calls over them.
+build_copy() {
+  local from=$1 to=$2 crate part
+  [ -d "$to/.git" ] || git init -q "$to"
   for crate in $list; do
     mkdir -p "$to/crates/$crate"
     rm -rf "$to/crates/$crate/src" "$to/crates/$crate/specs" "$to/crates/$crate/proofs"
     for part in src specs proofs; do cp -a "$from/crates/$crate/$part" "$to/crates/$crate/"; done
-    # What an earlier check left saves proving it again.
-    [ -d "$to/crates/$crate/out" ] || [ ! -d "$from/crates/$crate/out" ] || cp -a --reflink=auto "$from/crates/$crate/out" "$to/crates/$crate/"
   done
   cp "$from/HANDLES" "$to/"
-  for crate in $list; do grep "^$crate:" "$from/crates.txt"; done > "$to/crates.txt"
-  echo "measured staticlib: $uses" >> "$to/crates.txt"
-  touch "$to/crates/measured/specs/Lib.antt" "$to/crates/measured/proofs/Lib.antt"
   for crate in $list measured; do
     (cd "$to/crates/$crate" && rt lib --jobs 1) > "$to/$crate.log" 2>&1 || { tail "$to/$crate.log" >&2; exit 1; }
   done
