@@ -1,20 +1,23 @@
 #!/usr/bin/env python3
-"""Checks that every edit of the crates' must-fail/, planted/ and more-edits/ can be applied.
+"""Checks that every edit of the crates' must-fail/, planted/ and more-edits/ can be applied, and that none got lost.
 
 usage: tools/check_edits.py
 
 A line is printed for each edit whose texts don't stand in their files (tools/edits.py), that names a function which it doesn't
-change, or that is to be planted and names none. Exit status 1 where any is printed, or where the gate would try more edits of a
-crate than its budget below.
+change, or that is to be planted and names none; for each other file among the edits, and folder that a crate doesn't have. Exit
+status 1 where any is printed, or where the gate would try another number of edits of a crate than stands below.
 """
 
-import glob
 import os
+import re
 import sys
 
 from edits import FOLDERS, ROOT, BadEdit, Edit, edits_in
 
-# How many edits the gate tries in these crates together, at most.
+# What a crate's folder may hold.
+PARTS = {"src", "specs", "proofs", "out", *FOLDERS}
+
+# How many edits the gate tries in these crates together.
 BUDGETS = [
     (15, ["x509_der"]),
     (16, ["x509_der_parts"]),
@@ -41,26 +44,39 @@ def fault_of(edit, crate):
     return None
 
 
+def strays_of(crate):
+    """What a crate's folder holds that is no edit and nothing else that is known."""
+    found = [f"{crate}/{it}" for it in os.listdir(crate) if os.path.isdir(f"{crate}/{it}") and it not in PARTS]
+    for folder in [f"{crate}/{it}" for it in FOLDERS if os.path.isdir(f"{crate}/{it}")]:
+        found += [f"{folder}/{it}" for it in os.listdir(folder) if not re.fullmatch(r"[A-Za-z0-9_-][A-Za-z0-9_.-]*\.edit", it)]
+    return found
+
+
 def tried(crate):
     """How many edits of a crate the gate tries."""
     return sum(len(edits_in(f"crates/{crate}/{folder}")) for folder in ("must-fail", "planted"))
 
 
-def main():
-    os.chdir(ROOT)
-    bad = 0
-    for crate in sorted(glob.glob("crates/*")):
+def faults():
+    """Each thing that is wrong, a line each."""
+    for crate in [f"crates/{it}" for it in sorted(os.listdir("crates"))]:
+        yield from (f"{it}: no edit" for it in strays_of(crate))
         for edit in [it for folder in FOLDERS for it in edits_in(f"{crate}/{folder}")]:
             fault = fault_of(edit, crate)
             if fault:
-                print(f"{edit}: {fault}")
-                bad += 1
-    for most, names in BUDGETS:
+                yield f"{edit}: {fault}"
+    for number, names in BUDGETS:
         count = sum(tried(name) for name in names)
-        if count > most:
-            print(f"{' and '.join(names)}: the gate tries {count} edits, and not {most} at most")
-            bad += 1
-    return 1 if bad else 0
+        if count != number:
+            yield f"{' and '.join(names)}: the gate tries {count} edits, and BUDGETS has {number}"
+
+
+def main():
+    os.chdir(ROOT)
+    found = [*faults()]
+    for line in found:
+        print(line)
+    return 1 if found else 0
 
 
 if __name__ == "__main__":

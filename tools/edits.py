@@ -5,7 +5,6 @@ once in its file, as the pairs before it left it. A line 'function: PATH' names 
 edit, by its path below the crate, as a check prints it; rt must-fail, which tries the whole crate, doesn't read these lines.
 """
 
-import glob
 import os
 import re
 
@@ -27,18 +26,17 @@ class Edit:
     def __init__(self, path, crate):
         self.path, self.name, self.crate = path, os.path.basename(path), crate
         self.functions, self.changes = read_edit(path)
-        others = [it for it in self.functions if it.rsplit("::", 1)[-1] not in self.changed()]
+        _, places = self.applied({})
+        # The bodies that its changes stand in, each by its file and its function; None where one stands outside of bodies.
+        self.bodies = {body_of(crate, file, line) for file, line in places}
+        changed = {name for _, name in self.bodies - {None}}
+        others = [it for it in self.functions if it.rsplit("::", 1)[-1] not in changed]
         if others and self.is_local():
             raise BadEdit(f"it doesn't change the function {others[0]}")
 
-    def changed(self):
-        """The names of the functions that its changes stand in, and None where one stands outside of functions."""
-        _, places = self.applied({})
-        return {function_at(f"{self.crate}/{file}", line) for file, line in places}
-
     def is_local(self):
-        """Whether it changes functions alone."""
-        return None not in self.changed()
+        """Whether it changes bodies of functions alone."""
+        return None not in self.bodies
 
     def applied(self, texts):
         """The texts after the edit, and for each change its file and its line."""
@@ -88,23 +86,31 @@ def text_of(crate, file, texts):
     return texts[file]
 
 
-def function_at(path, line):
-    """The name of the function that a line of a file is in, if any. The files are in rt fmt's layout."""
-    with open(path, encoding="utf-8") as it:
+def body_of(crate, file, line):
+    """The file and the name of the function that has a line in its body, if any. The files are in rt fmt's layout."""
+    with open(f"{crate}/{file}", encoding="utf-8") as it:
         lines = it.read().split("\n")
     for first in range(line, -1, -1):
         found = FUNCTION.match(lines[first])
         if found:
-            return found[2] if last_line(lines, first, found[1]) >= line else None
+            return (file, found[2]) if line in body_at(lines, first, found[1]) else None
     return None
 
 
-def last_line(lines, first, indent):
-    """The last line of a function that begins in this line with this indent."""
-    if lines[first].endswith(("}", ";")):
-        return first
-    return next((at for at in range(first, len(lines)) if lines[at] == indent + "}"), len(lines))
+def body_at(lines, first, indent):
+    """The lines of the body of a function that begins in this line with this indent. Its clauses aren't among them."""
+    if lines[first].endswith("}"):
+        return range(first, first + 1)
+    for at in range(first, len(lines) - 1):
+        # A method of a trait may have no body.
+        if lines[at].endswith(";") and lines[at + 1].strip() in ("", "}"):
+            break
+        if lines[at].endswith("{") and len(lines[at]) - len(lines[at].lstrip()) == len(indent):
+            last = next((it for it in range(at, len(lines)) if lines[it] == indent + "}"), at)
+            return range(at + 1, last)
+    return range(0)
 
 
 def edits_in(folder):
-    return sorted(glob.glob(f"{folder}/*.edit"))
+    """The edits of a folder, by name; none where there is no such folder."""
+    return sorted(f"{folder}/{it}" for it in os.listdir(folder) if it.endswith(".edit")) if os.path.isdir(folder) else []

@@ -10,21 +10,23 @@ every crate, of as many crates at a time as there are processors, or as RT_JOBS 
 over the same files only once.
 
 It works on a copy of the crate, over the libraries below it as the last run of rt ci or rt check built them. Edits of different
-functions are planted together, and one check of the functions that they name (--only) tells of each whether it is refused by its
-own clauses: a check goes by what the contracts of other functions say, and not by their bodies. An edit whose function only waits
-for another that isn't proved is tried again in the next check. An edit that names no function, and one that still isn't refused, is
-tried by itself in a check of the whole crate.
+functions' bodies are planted together, and one check of the functions that they name (--only) tells of each whether it is refused
+for itself: a check goes by what the contracts of other functions say, and not by their bodies. An edit whose function calls another
+that isn't proved is tried again in the next check, without that other. One that changes more than bodies is planted alone. An edit
+that names no function, and one that still isn't refused, is tried by itself in a check of the whole crate. That a function is proved
+which no edit changes, and none is refused, tells that the faults are those of the edits.
 
-It prints 'refused', 'NOT REFUSED' or 'BAD EDIT' for each edit. Exit status 1 where any isn't refused.
+It prints 'refused', 'NOT REFUSED' or 'BAD EDIT' for each edit; with --gate the last line is 'N passed, M failed'. Exit status 1
+where any isn't refused.
 """
 
 import argparse
 import contextlib
-import glob
 import hashlib
 import os
 import re
 import shutil
+import signal
 import subprocess
 import sys
 import tempfile
@@ -36,8 +38,13 @@ PARTS = ("src", "specs", "proofs")
 # Where the gate keeps what it printed of edits that were all refused, by the checksum of what they were tried over.
 KEPT = f"{os.environ.get('XDG_CACHE_HOME') or os.path.expanduser('~/.cache')}/x509-planted"
 SYMBOL = re.compile(r"(?m)^fn (\S+?): (.*)")
-# A function that is refused for another's sake alone.
-WAITS = re.compile(r"^(no proof: |not proved; )it (calls|passes|waits) ")
+# A function that may be refused for another's sake.
+WAITS = re.compile(r"it (calls|passes|waits) ")
+# The libraries were not built over each other.
+STALE = re.compile(r"module .Rattle-\w+-.*Run the lower steps again|was built over another build of")
+# An error that says that a text can't be read, and not that it isn't proved.
+ERROR = re.compile(r"(?m)^(?:\./)?(\S+?):\d+:\d+: error(?:\[[\w-]+\])?: (?:(`[^`]*`): )?(.*)")
+READING = re.compile(r"is not in scope|has no field|is no name|operand is missing|expected the end|cannot continue")
 NAMES = re.compile(r"has no field|is not in scope|has no `|was not admitted|\(nearest: ")
 
 
@@ -47,6 +54,8 @@ class Copy:
     def __init__(self, name, room, log=""):
         self.name, self.log = name, log
         self.source, self.folder, self.kept = f"{room}/source", f"{room}/planted", f"{room}/kept"
+        # Whether a function was proved that no edit had changed.
+        self.is_sound = False
         os.mkdir(self.kept)
         copy_parts(f"{ROOT}/crates/{name}", self.source)
 
@@ -62,20 +71,37 @@ class Copy:
         """What a check prints over these texts: of these functions, or of the whole crate."""
         self.write(texts)
         only = [it for function in sorted(functions) for it in ("--only", function)]
-        ran = subprocess.run(
-            [*check_of(self.name), "--incremental", self.kept, *only],
-            cwd=self.folder,
-            stdin=subprocess.DEVNULL,
-            stdout=subprocess.PIPE,
-            stderr=subprocess.STDOUT,
-            encoding="utf-8",
-            errors="replace",
-            check=False,
-        )
+        words = [*check_of(self.name), "--incremental", self.kept, *only]
+        ran = run(words, self.folder)
+        if ran.returncode == -signal.SIGKILL:
+            # most likely for memory
+            ran = run(words, self.folder)
         if self.log:
             with open(self.log, "a", encoding="utf-8") as it:
                 it.write(ran.stdout)
+        if STALE.search(ran.stdout):
+            sys.exit(f"{self.name}: the libraries below it don't fit each other: build them again")
         return ran.stdout
+
+    def control(self, functions):
+        """Ends the run where these functions aren't proved without an edit."""
+        said = self.check({}, functions)
+        if not re.search(r"(?m)^only=(\d+) proved=\1$", said):
+            sys.exit(f"{self.name} isn't proved without an edit: {said[-1000:]}")
+
+
+def run(words, folder):
+    """Runs a command in a folder, and gathers what it prints."""
+    return subprocess.run(
+        words,
+        cwd=folder,
+        stdin=subprocess.DEVNULL,
+        stdout=subprocess.PIPE,
+        stderr=subprocess.STDOUT,
+        encoding="utf-8",
+        errors="replace",
+        check=False,
+    )
 
 
 def copy_parts(source, folder):
@@ -124,26 +150,33 @@ def closure(name, uses):
 
 
 def batch_of(edits):
-    """As many of the edits as change different functions and nothing else, or one that does, and the texts with all of them.
+    """As many of the edits as change the bodies of different functions, or one that changes more, and the texts with all of them.
     Those that change more come last, since much of what was kept must then be checked again."""
-    taken, functions, texts = [], set(), {}
+    taken, changed, texts = [], set(), {}
     for edit in sorted(edits, key=lambda it: not it.is_local()):
-        if taken and (edit.functions & functions or not edit.is_local()):
+        own = edit.functions | edit.bodies
+        if taken and (own & changed or not edit.is_local()):
             continue
         try:
             texts, _ = edit.applied(texts)
         except BadEdit:
             continue
         taken.append(edit)
-        functions |= edit.functions
+        changed |= own
         if not edit.is_local():
             break
     return taken, texts
 
 
 def is_own(why):
-    """Whether a function is refused by its own clauses, and not only for another function."""
-    return bool(re.match("no proof|not proved", why)) and not WAITS.match(why)
+    """Whether a function is refused for itself, and surely not for another function."""
+    return bool(re.match("no proof|not proved", why)) and not WAITS.search(why)
+
+
+def is_unread(said, texts):
+    """Whether a text of src/, of specs/ or of an edited file can't be read."""
+    errors = [it for it in ERROR.findall(said) if it[0] in texts or it[0].startswith(("src/", "specs/"))]
+    return any(not goal or READING.search(re.sub(r"`[^`]*`", "", what)) for _, goal, what in errors)
 
 
 def goals_of(symbol, said):
@@ -174,11 +207,13 @@ def say(edit, word, why=""):
 
 
 def tell_batch(copy, batch, texts):
-    """Which of the planted edits are refused by their own function, and which wait for another's. The rest is unclear."""
+    """Which of the planted edits are refused for themselves, and which may wait for another's function. The rest is unclear."""
     said = copy.check(texts, {it for edit in batch for it in edit.functions})
-    if not re.search(r"(?m)^only=", said):
+    if not re.search(r"(?m)^only=", said) or is_unread(said, texts):
         return [], []
     told = dict(SYMBOL.findall(said))
+    named = {f"{copy.name}::{it}" for edit in batch for it in edit.functions}
+    look_at_others(copy, {it: why for it, why in told.items() if it not in named}, all(it.is_local() for it in batch))
     refused, waiting = [], []
     for edit in batch:
         found = [f"{copy.name}::{it}" for it in sorted(edit.functions)]
@@ -189,6 +224,14 @@ def tell_batch(copy, batch, texts):
         elif fell:
             waiting.append(edit)
     return refused, waiting
+
+
+def look_at_others(copy, others, is_local):
+    """Sees that functions which no edit changes are proved, but for those that call one that isn't."""
+    for it, why in others.items():
+        if is_local and is_own(why):
+            sys.exit(f"{it} isn't proved, though no edit changes it: {why}")
+        copy.is_sound = copy.is_sound or why.startswith("proved")
 
 
 def halves(batch):
@@ -228,7 +271,7 @@ def try_alone(copy, edit):
     if last.startswith("logic=proved"):
         say(edit, "NOT REFUSED")
         return False
-    if not last:
+    if not last or is_unread(said, texts):
         errors = [it for it in said.split("\n") if "error" in it]
         say(edit, "BAD EDIT", (errors or ["it did not reach the prover"])[0])
         return False
@@ -259,6 +302,8 @@ def try_folder(crate, folder, word="", one=False, log=""):
         together = [] if one else [it for it in edits if it.functions]
         alone = [it for it in edits if it not in together] + try_batches(copy, together)
         bad += sum(not try_alone(copy, edit) for edit in alone)
+        if together and not copy.is_sound:
+            copy.control({it for edit in together for it in edit.functions})
     print(f"{crate}: {len(edits)} edits planted, {bad} not refused", flush=True)
     return bad
 
@@ -268,7 +313,9 @@ def stamp_of(crate, folder):
     roots = [f"{ROOT}/crates/{crate}/{part}" for part in PARTS]
     roots += [f"{ROOT}/crates/{it}/out/rlib" for it in closure(crate, lists())]
     files = [f"{at}/{name}" for root in [folder, *roots] for at, _, names in os.walk(root) for name in names]
+    rattle = os.stat(shutil.which("rattle"))
     made = hashlib.sha256(subprocess.run(["rt", "version"], stdout=subprocess.PIPE, check=True).stdout)
+    made.update(f"{rattle.st_size} {rattle.st_mtime_ns} ".encode())
     for path in sorted([*files, *[f"{ROOT}/{it}" for it in ("crates.txt", "tools/plant.py", "tools/edits.py")]]):
         with open(path, "rb") as it:
             text = it.read()
@@ -278,11 +325,11 @@ def stamp_of(crate, folder):
 
 
 def try_kept(crate, folder):
-    """Whether the edits of a folder are all refused, now or in an earlier run on this machine over the same files."""
+    """How many edits of a folder aren't refused, now or in an earlier run on this machine over the same files."""
     stamp = stamp_of(crate, folder)
     with contextlib.suppress(OSError), open(f"{KEPT}/{stamp}", encoding="utf-8") as it:
         print(f"{it.read()}{crate}: tried by an earlier run on this machine", flush=True)
-        return True
+        return 0
     ran = subprocess.run([sys.executable, __file__, crate, folder], stdout=subprocess.PIPE, encoding="utf-8", check=False)
     print(ran.stdout, end="", flush=True)
     if ran.returncode == 0 and stamp_of(crate, folder) == stamp:
@@ -291,19 +338,19 @@ def try_kept(crate, folder):
             with open(f"{KEPT}/{stamp}.{os.getpid()}", "w", encoding="utf-8") as it:
                 it.write(ran.stdout)
             os.replace(it.name, f"{KEPT}/{stamp}")
-    return ran.returncode == 0
+    bad = re.search(r"(\d+) not refused\n$", ran.stdout)
+    return 0 if ran.returncode == 0 else int(bad[1]) if bad else len(edits_in(folder))
 
 
 def try_planted():
-    """Tries what every crate has in planted/, and answers in how many crates some edit isn't refused."""
-    folders = {it.split("/")[-2]: it for it in glob.glob(f"{ROOT}/crates/*/planted")}
-    counts = {crate: len(edits_in(folder)) for crate, folder in folders.items()}
+    """Tries what every crate has in planted/, and answers how many edits aren't refused."""
+    folders = {it: f"{ROOT}/crates/{it}/planted" for it in lists()}
+    counts = {crate: len(edits_in(folder)) for crate, folder in folders.items() if edits_in(folder)}
     number = os.environ.get("RT_JOBS", "")
-    lanes = int(number) if number.isdigit() and int(number) else os.cpu_count()
+    lanes = int(number) if number.isdigit() and int(number) else len(os.sched_getaffinity(0))
     with ThreadPoolExecutor(lanes) as pool:
-        refused = [*pool.map(lambda it: try_kept(it, folders[it]), sorted(counts, key=lambda it: -counts[it]))]
-    bad = refused.count(False)
-    print(f"{sum(counts.values())} edits planted in {len(counts)} crates, of which {bad} have some that aren't refused", flush=True)
+        bad = sum(pool.map(lambda it: try_kept(it, folders[it]), sorted(counts, key=lambda it: -counts[it])))
+    print(f"{sum(counts.values()) - bad} passed, {bad} failed", flush=True)
     return bad
 
 
