@@ -43,7 +43,7 @@ WAITS = re.compile(r"it (calls|passes|waits) ")
 # The libraries were not built over each other.
 STALE = re.compile(r"module .Rattle-\w+-.*Run the lower steps again|was built over another build of")
 # An error that says that a text can't be read, and not that it isn't proved.
-ERROR = re.compile(r"(?m)^(?:\./)?(\S+?):\d+:\d+: error(?:\[[\w-]+\])?: (?:(`[^`]*`): )?(.*)")
+ERROR = re.compile(r"(?m)^(?:\./)?(\S+?):\d+:\d+: error: (?:(`[^`]*`): )?(.*)")
 READING = re.compile(r"is not in scope|has no field|is no name|operand is missing|expected the end|cannot continue")
 NAMES = re.compile(r"has no field|is not in scope|has no `|was not admitted|\(nearest: ")
 
