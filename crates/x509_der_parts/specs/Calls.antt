@@ -1,12 +1,13 @@
 -- What the calls on whole values give.
 use Rattle.std.specs.Prelude.{◌≡◌, ◌↔◌, ℕ, ◌≤◌, ◌<◌, ◌^◌, List, [], ◌++◌, length, drop, sum, Result, Ok, Err}
 use Rattle.x509_der_parts.specs.declared.errors.ReadError.{ReadError}
-use Rattle.x509_der_parts.specs.declared.errors.ReadError.TheVariants.{OutOfMemory}
+use Rattle.x509_der_parts.specs.declared.errors.ReadError.TheVariants.{OutOfMemory, LeftOver}
+use Rattle.x509_der_parts.specs.declared.errors.Refused.{Refused}
 use Rattle.x509_der_parts.specs.declared.errors.SliceError.{SliceError}
 use Rattle.std.proofs.Common.{◌≡◌, ℕ, ◌+◌, ◌*◌, ◌≤◌, [], length, None}
 use Rattle.x509_der_parts.specs.MarkOrder.{Placing}
 use Rattle.x509_der_parts.specs.Tally.{Tally, Mark, counts_of}
-use Rattle.x509_der_parts.specs.Shape.{Shape}
+use Rattle.x509_der_parts.specs.Shape.{Shape, Follows}
 use Rattle.x509_der_parts.specs.Reading.{Cursor, Accepts}
 use Rattle.x509_der_parts.specs.declared.errors.SliceError.TheVariants as slice
 
@@ -40,6 +41,17 @@ abbrev pub MeteredRead : {V : Type 0} → Shape V → List ℕ → Result (V × 
 MeteredRead s string (Ok r) headers = ((y : Tally) → s.spelled r.0 string y → headers ≡ y.headers) × (sum r.1 ≤ headers)
 MeteredRead s string (Err e) headers = (e ≡ OutOfMemory → ⊥) → (n : ℕ) → s.min_headers string n → n ≤ headers
 
+-- how far a refused read got: within the string; to its first byte where that begins no spelling; and where a spelling stands in front of more bytes, to its end
+pub record GotTo {V : Type 0} (s : Shape V) (string : List ℕ) (e : ReadError) (at : ℕ) : Type 0 where
+  pub within : at ≤ length string
+  pub outside : Follows s.starts string → at ≡ 0
+  pub behind : (e ≡ OutOfMemory → ⊥) → (v : V) (p q : List ℕ) (y : Tally) → s.spelled v p y → string ≡ p ++ q → (q ≡ [] → ⊥) → (e ≡ LeftOver) × (at ≡ length p)
+
+-- the value with the ten counts; or why there is none, and how far the read got
+abbrev pub ExplainedRead : {V : Type 0} → Shape V → List ℕ → Result (V × List ℕ) Refused → Type 0
+ExplainedRead s string (Ok r) = Counted s string r.0 r.1
+ExplainedRead s string (Err r) = NoWhole s string r.error × GotTo s string r.error r.at
+
 -- the value, and where the marks of its spelling stand: within the input, by start and then by kind
 pub record Located {V : Type 0} (s : Shape V) (string : List ℕ) (v : V) (places : List Mark) : Type 0 where
   pub tally : Tally
@@ -64,6 +76,9 @@ pub record RefusesAll {V : Type 0} (s : Shape V) (old new : Cursor) (e : ReadErr
   pub spares : s.frugal → old.places ≡ None → e ≡ OutOfMemory → ⊥
   pub none : NoWhole s old.rest e
   pub marked : s.frugal → (v : V) (y : Tally) → s.spelled v old.rest y → y.marks ≡ [] → ⊥
+  pub within : new.at ≤ old.at + length old.rest
+  pub outside : Follows s.starts old.rest → new.at ≡ old.at
+  pub behind : (e ≡ OutOfMemory → ⊥) → (v : V) (p q : List ℕ) (y : Tally) → s.spelled v p y → old.rest ≡ p ++ q → (q ≡ [] → ⊥) → (e ≡ LeftOver) × (new.at ≡ old.at + length p)
 
 -- a read of all that is left
 abbrev pub ReadsAll : {V : Type 0} → Shape V → Cursor → Cursor → Result V ReadError → Type 0

@@ -1,11 +1,11 @@
 -- What reading does: the state of a reader, and what a read of a shape gives.
-use Rattle.std.specs.Prelude.{◌≡◌, ℕ, ◌+◌, ◌*◌, ◌≤◌, ◌<◌, ◌^◌, true, List, [], ◌∷◌, ◌++◌, length, map, take, drop, Option, Some, None, sum, slice_set, slice_index, Result, Ok, Err}
+use Rattle.std.specs.Prelude.{◌≡◌, ℕ, ◌+◌, ◌*◌, ◌≤◌, ◌<◌, ◌^◌, true, List, [], ◌∷◌, ◌++◌, length, map, take, drop, Option, Some, None, sum, slice_set, slice_index, Result, Ok, Err, ◌⊎◌}
 use Rattle.std.specs.Borrow.{Bor}
 use Rattle.x509_der_parts.specs.declared.deviation.Deviation.{Deviation}
 use Rattle.x509_der_parts.specs.declared.reader.Spot.{Spot}
 use Rattle.x509_der_parts.specs.declared.errors.ReadError.{ReadError}
 use Rattle.x509_der_parts.specs.declared.errors.ReadError.TheVariants.{OutOfMemory}
-use Rattle.x509_der_parts.specs.Element.{AreBytes, element, header}
+use Rattle.x509_der_parts.specs.Element.{element, header}
 pub use Rattle.x509_der_parts.specs.Element.{is_tag, IsRaw}
 use Rattle.x509_der_parts.specs.Deviations.{kind_index}
 use Rattle.x509_der_parts.specs.Tally.{Tally, Mark, moved}
@@ -90,6 +90,10 @@ pub record Refuses {V : Type 0} (s : Shape V) (old new : Cursor) (e : ReadError)
   pub min_headers : (e ≡ OutOfMemory → ⊥) → (n : ℕ) → s.min_headers old.rest n → old.headers + n ≤ new.headers
   pub spares : s.frugal → old.places ≡ None → e ≡ OutOfMemory → ⊥
   pub none : (w : V) (p q : List ℕ) (z : Tally) → s.spelled w p z → old.rest ≡ p ++ q → Follows s.avoids q → ForMemory s e z
+  -- the reader stands within what was left, and at its first byte where that begins no spelling
+  pub forward : old.at ≤ new.at
+  pub within : new.at ≤ old.at + length old.rest
+  pub outside : Follows s.starts old.rest → new.at ≡ old.at
 
 -- what a read of a shape gives
 abbrev pub Reads : {V : Type 0} → Shape V → Cursor → Cursor → Result V ReadError → Type 0
@@ -133,9 +137,14 @@ pub record Entered (t : ℕ) (old inner : Cursor) (after : List ℕ) : Type 0 wh
   pub counts : inner.counts ≡ old.counts
   pub ready : Ready inner
 
+-- no element with the tag stands there, and the reader still stands where it would begin
+pub record NotEntered (t : ℕ) (old new : Cursor) : Type 0 where
+  pub none : (c q : List ℕ) → old.rest ≡ element t c ++ q → ⊥
+  pub at : new.at ≡ old.at
+
 abbrev pub Enters : ℕ → Cursor → Cursor → Result (Bor (List ℕ)) ReadError → Type 0
 Enters t old inner (Ok after) = Entered t old inner after.now
-Enters t old inner (Err e) = (c q : List ℕ) → old.rest ≡ element t c ++ q → ⊥
+Enters t old inner (Err e) = NotEntered t old inner
 
 -- the rest is what comes behind an element, and nothing else has changed
 pub record Leaves (end new : Cursor) (after : List ℕ) : Type 0 where
@@ -145,10 +154,8 @@ pub record Leaves (end new : Cursor) (after : List ℕ) : Type 0 where
   pub counts : new.counts ≡ end.counts
   pub places : new.places ≡ end.places
 
--- all that was left is taken, which are bytes, and nothing else has changed
-pub record TakesRest (old new : Cursor) (taken : List ℕ) : Type 0 where
-  pub bytes : AreBytes taken
-  pub all : taken ≡ old.rest
+-- the reader went past all that was left, and nothing else has changed
+pub record PassesRest (old new : Cursor) : Type 0 where
   pub rest : new.rest ≡ []
   pub at : new.at ≡ old.at + length old.rest
   pub headers : new.headers ≡ old.headers
@@ -171,6 +178,22 @@ TakesNext old new None = (old.rest ≡ []) × (new ≡ old)
 pub record IsSpot (r : Cursor) (spot : Spot) : Type 0 where
   pub start : spot.start ≡ r.at
   pub before : spot.before ≡ carried r.places
+
+-- the reader stands where a spot was taken, and nothing else has changed
+pub record GoesBack (old new : Cursor) (spot : Spot) : Type 0 where
+  pub rest : new.rest ≡ old.rest
+  pub at : new.at ≡ spot.start
+  pub headers : new.headers ≡ old.headers
+  pub counts : new.counts ≡ old.counts
+  pub places : new.places ≡ old.places
+
+-- it stands there or where it did, and nothing else has changed
+pub record MayGoBack (old new : Cursor) (spot : Spot) : Type 0 where
+  pub rest : new.rest ≡ old.rest
+  pub at : (new.at ≡ old.at) ⊎ (new.at ≡ spot.start)
+  pub headers : new.headers ≡ old.headers
+  pub counts : new.counts ≡ old.counts
+  pub places : new.places ≡ old.places
 
 -- a deviation of a kind is booked from a spot on, and nothing else has changed
 pub record Marked (old new : Cursor) (kind : Deviation) (spot : Spot) : Type 0 where

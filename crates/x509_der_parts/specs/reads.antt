@@ -10,6 +10,7 @@ pub mod FirstElement
 pub mod Items
 pub mod Structure
 pub mod Cursor
+pub mod Standing
 pub mod Optional
 pub mod Join
 pub mod View

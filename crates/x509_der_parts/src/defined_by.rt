@@ -4,19 +4,30 @@ ghost use Rattle.std.specs.Prelude.{◌≡◌, ◌++◌, ◌||◌, refl};
 ghost use Rattle.x509_der_parts.specs.facts.Lists.{same_append, same_pair};
 ghost use Rattle.x509_der_parts.specs.DefinedBy.{defined_by, KeyApart};
 ghost use Rattle.x509_der_parts.specs.laws.DefinedBy.{defined_by_lawful};
+ghost use Rattle.x509_der_parts.specs.Reading.{MayGoBack};
 
 use crate::errors::{ReadError, TooLong};
-use crate::reader::Reader;
+use crate::reader::{Reader, Spot};
 use crate::traits::{AnyDefinedBy, Field, ToDer};
 use crate::write::write_before;
 use std::alloc::Allocator;
 use std::marker::Model;
 
+/// Goes back to a key that allows no value that is known: then nothing behind it was looked at.
+fn stand_at_key<A: Allocator>(error: ReadError, reader: &mut Reader<'_, A>, key: Spot, value: Spot)
+    ensures { MayGoBack reader.old reader.new key }
+{
+    if error == ReadError::Unsupported && reader.spot().start == value.start {
+        reader.go_back(key);
+    }
+}
+
 /// A key, and then the value whose encoding the key chooses: a field DEFINED BY another, as a value by its object
 /// identifier. The key is any field that may be followed by whatever begins a value. Contracts see the pair of the two.
 ///
 /// # Errors
-/// A read is refused where the key is, or where no value that the key allows follows it.
+/// A read is refused where the key is, or where no value that the key allows follows it. Where the key allows none that is
+/// known, the reader then stands where the key begins.
 #[derive(Drop)]
 pub struct DefinedBy<K, V>(pub K, pub V);
 
@@ -66,8 +77,15 @@ impl<A: Allocator + Copy, K: Field<A> + Drop, V: AnyDefinedBy<K, A>> Field<A> fo
     }
 
     fn read(alloc: A, reader: &mut Reader<'_, A>) -> Result<Self, ReadError> {
+        let spot = reader.spot();
         let key = K::read(alloc, reader)?;
-        let value = V::read_behind(alloc, &key, reader)?;
-        Ok(DefinedBy(key, value))
+        let behind = reader.spot();
+        match V::read_behind(alloc, &key, reader) {
+            Ok(value) => Ok(DefinedBy(key, value)),
+            Err(error) => {
+                stand_at_key(error, reader, spot, behind);
+                Err(error)
+            }
+        }
     }
 }

@@ -186,6 +186,13 @@ impl Deviations {
         &self.counts
     }
 
+    /// The ten counts, in the order of the kinds, as an array.
+    pub fn array(&self) -> [usize; 10]
+        ensures { result ≡ self.now }
+    {
+        self.counts
+    }
+
     /// The ten kinds, each with its count, in the order of the kinds.
     pub fn pairs(&self) -> [(Deviation, usize); 10]
         ensures { result ≡ paired self.now }

@@ -2,12 +2,12 @@
 
 ghost use Rattle.std.specs.Prelude.{◌≡◌, ◌+◌, ◌≤◌, ◌<◌, ◌*◌, ◌^◌, ◌++◌, ◌∷◌, [], ℕ, List, length, drop, true, ◌==◌, IfSome, IfNone, IfOk, IfErr, Option, Some, None, sum, slice_set, slice_index, replicate};
 ghost use Rattle.x509_der_parts.specs.Element.{AreBytes};
-ghost use Rattle.x509_der_parts.specs.Reading.{Cursor, Ready, TakesElement, TakesRaw, TakesRest, TakesNext, Enters, Leaves, IsSpot, Marks, carried, listed, is_tag};
+ghost use Rattle.x509_der_parts.specs.Reading.{Cursor, Ready, TakesElement, TakesRaw, PassesRest, TakesNext, Enters, Leaves, IsSpot, GoesBack, Marks, carried, listed, is_tag};
 ghost use Rattle.x509_der_parts.specs.declared.errors.ReadError.TheVariants.{OutOfMemory};
 
 use crate::deviation::{Deviation, Deviations, Place};
 use crate::errors::ReadError;
-use crate::header::first_element;
+use crate::header::split_first;
 use std::alloc::{Allocator, Global};
 use std::marker::Model;
 
@@ -166,8 +166,8 @@ impl<'a, A: Allocator> Reader<'a, A> {
         }
     }
 
-    /// Decodes one header and goes past its element: its tag and its content. This call alone counts headers, also
-    /// where it is refused.
+    /// Decodes one header and goes past its element: its tag and its content. This call and `enter` alone count headers,
+    /// also where they are refused.
     ///
     /// # Errors
     /// Refused exactly where the rest begins with no element whose tag is one byte; never for memory.
@@ -182,7 +182,7 @@ impl<'a, A: Allocator> Reader<'a, A> {
     {
         self.headers += 1;
         let bytes = self.rest;
-        match first_element(bytes) {
+        match split_first(bytes) {
             Ok((tag, content, after)) => {
                 self.at += bytes.len() - after.len();
                 self.rest = after;
@@ -234,10 +234,11 @@ impl<'a, A: Allocator> Reader<'a, A> {
         Ok(())
     }
 
-    /// Goes into the element with the tag, and answers what comes behind it, for `leave`.
+    /// Decodes one header and goes into its element, which has the tag; answers what comes behind it, for `leave`.
     ///
     /// # Errors
-    /// Refused exactly where the rest begins with no element of that tag; never for memory.
+    /// Refused exactly where the rest begins with no element of that tag; never for memory. The reader then still stands
+    /// where the element would begin.
     #[inline(always)]
     pub fn enter(&mut self, tag: u8) -> Result<&'a [u8], ReadError>
         requires ready { Ready self.old }
@@ -246,12 +247,13 @@ impl<'a, A: Allocator> Reader<'a, A> {
         ensures kind { IfErr result (λ e. e ≡ OutOfMemory → ⊥) }
         ensures enters { Enters tag self.old self.new result }
     {
-        let (found, content) = self.element()?;
+        self.headers += 1;
+        let bytes = self.rest;
+        let (found, content, after) = split_first(bytes)?;
         if found != tag {
             return Err(ReadError::WrongTag);
         }
-        let after = self.rest;
-        self.at -= content.len();
+        self.at += bytes.len() - content.len() - after.len();
         self.rest = content;
         Ok(after)
     }
@@ -263,15 +265,30 @@ impl<'a, A: Allocator> Reader<'a, A> {
         self.rest = behind;
     }
 
-    /// All that is left, for the content of a primitive type.
-    pub fn take_rest(&mut self) -> &'a [u8]
-        requires { Ready self.old }
-        ensures { TakesRest self.old self.new result.now }
+    /// All that is left, for the content of a primitive type. Looking at it is not going past it: a reader that refuses
+    /// the content stands at its first byte.
+    pub fn rest(&self) -> &'a [u8]
+        ensures bytes { AreBytes result.now }
+        ensures all { result.now ≡ self.now.rest }
     {
         let bytes = self.rest;
         known_bytes(bytes);
-        self.at += bytes.len();
-        self.rest = &[];
         bytes
+    }
+
+    /// Goes past all that is left.
+    pub fn pass_rest(&mut self)
+        requires { Ready self.old }
+        ensures { PassesRest self.old self.new }
+    {
+        self.at += self.rest.len();
+        self.rest = &[];
+    }
+
+    /// Stands again where a spot was taken: there the reader is refused what it read from the spot on as a whole.
+    pub fn go_back(&mut self, spot: Spot)
+        ensures { GoesBack self.old self.new spot }
+    {
+        self.at = spot.start;
     }
 }

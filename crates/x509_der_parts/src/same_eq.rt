@@ -1,7 +1,8 @@
 //! Equality that holds of the same value alone.
 
 use crate::deviation::{Deviation, Deviations, Place};
-use crate::errors::{ReadError, SliceError, TooLong, WriteError};
+use crate::element::Element;
+use crate::errors::{ReadError, Refused, SliceError, TooLong, WriteError};
 use crate::reader::Spot;
 
 /// A type whose `==` answers true exactly where the two values are the same.
@@ -45,6 +46,18 @@ impl SameEq for Spot {
 }
 
 impl SameEq for ReadError {
+    ghost use Rattle.std.proofs.Common.{rules};
+
+    ghost decides = { Prim.search (rules) };
+}
+
+impl SameEq for Refused {
+    ghost use Rattle.std.proofs.Common.{rules};
+
+    ghost decides = { Prim.search (rules) };
+}
+
+impl SameEq for Element {
     ghost use Rattle.std.proofs.Common.{rules};
 
     ghost decides = { Prim.search (rules) };

@@ -165,11 +165,11 @@ impl<A: Allocator + Copy> Content<A> for Version {
     fn known_content(&self) {}
 
     fn read_content(_alloc: A, reader: &mut Reader<'_, A>) -> Result<Self, ReadError> {
-        let bytes = reader.take_rest();
-        match version_in(bytes) {
-            Some(version) => Ok(version),
-            None => Err(ReadError::BadVersion),
-        }
+        let Some(version) = version_in(reader.rest()) else {
+            return Err(ReadError::BadVersion);
+        };
+        reader.pass_rest();
+        Ok(version)
     }
 }
 

@@ -1,11 +1,11 @@
 -- A shape that stands alone in a content: it may begin with any byte.
-use Rattle.std.proofs.Common.{◌↔◌, ℕ, List}
+use Rattle.std.proofs.Common.{◌≡◌, ◌↔◌, ℕ, List, []}
 use Rattle.x509_der_parts.specs.declared.errors.ReadError.{ReadError}
 use Rattle.x509_der_parts.specs.Tally.{Tally}
 use Rattle.x509_der_parts.specs.Shape.{Shape, Lawful}
 use Rattle.x509_der_parts.specs.Tagged.{IsTagged, tagged}
 use Rattle.x509_der_parts.specs.Structure.{structure}
-use Rattle.x509_der_parts.specs.laws.PrimitiveContent.{begins_any}
+use Rattle.x509_der_parts.specs.laws.PrimitiveContent.{begins_any, ends}
 use Rattle.x509_der_parts.specs.Reading.{Cursor, Accepts, Refuses}
 use Rattle.x509_der_parts.specs.ContentOf.{content_of}
 
@@ -28,7 +28,7 @@ module _ {V : Type 0} (s : Shape V) where
   content_of_accepts old new v a = record { bytes = a.bytes; tally = a.tally; spelled = a.spelled; moved = a.moved; ready = a.ready; min_headers = a.min_headers; only = a.only }
 
   pub content_of_refuses : (old new : Cursor) (e : ReadError) → Refuses s old new e → Refuses (content_of s) old new e
-  content_of_refuses old new e a = record { spares = a.spares; grows = a.grows; bound = a.bound; min_headers = a.min_headers; none = λ w p q z i g f. let o = a.none w p q z i g f in record { memory = o.memory; marked = o.marked } }
+  content_of_refuses old new e a = record { spares = a.spares; grows = a.grows; bound = a.bound; min_headers = a.min_headers; none = λ w p q z i g f. let o = a.none w p q z i g f in record { memory = o.memory; marked = o.marked }; forward = a.forward; within = a.within; outside = λ f. let e : old.rest ≡ [] = ends old.rest f in a.outside (rw e tt) }
 
   -- in an element it is the same
   pub tagged_content_of : (t : ℕ) (v : V) (p : List ℕ) (y : Tally) → IsTagged t s v p y ↔ IsTagged t (content_of s) v p y

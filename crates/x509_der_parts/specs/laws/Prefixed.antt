@@ -57,12 +57,15 @@ byte_accepts b old new r t =
       only = λ w p q z i e f. record { value = refl; bytes = i.0; tally = i.1 };
     }
 
-byte_refuses : (b : ℕ) (old new : Cursor) (e : ReadError) → (e ≡ OutOfMemory → ⊥) → new.headers ≡ old.headers → ((q : List ℕ) → old.rest ≡ b ∷ q → ⊥) → Refuses (byte_alone b) old new e
-byte_refuses b old new e m h n = record {
+byte_refuses : (b : ℕ) (old new : Cursor) (e : ReadError) → (e ≡ OutOfMemory → ⊥) → new.headers ≡ old.headers → new.at ≡ old.at → ((q : List ℕ) → old.rest ≡ b ∷ q → ⊥) → Refuses (byte_alone b) old new e
+byte_refuses b old new e m h at n = record {
   spares = λ f p. m;
   grows = omega (arith, h);
   bound = omega (arith, h);
   min_headers = λ x k z. omega (arith, z, h);
+  forward = omega (arith, at);
+  within = omega (arith, at);
+  outside = λ f. at;
   none = λ w p q z i g f. absurd (n q (g ∙ ap (λ y. y ++ q) i.0));
 }
 
@@ -71,8 +74,8 @@ module _ {V : Type 0} (b : ℕ) (s : Shape V) (l : Lawful s) where
   prefixed_accepts old mid new v r t a = join_accepts (λ v. tt) (λ v. v) (λ x y e f. f) (byte_alone b) s (byte_lawful b) l (λ c h. refl) old mid new v (byte_accepts b old mid r t) a
 
   -- the byte doesn't stand there
-  pub prefixed_none : (old new : Cursor) (e : ReadError) → (e ≡ OutOfMemory → ⊥) → new.headers ≡ old.headers → ((q : List ℕ) → old.rest ≡ b ∷ q → ⊥) → Refuses (prefixed b s) old new e
-  prefixed_none old new e m h n = join_first (λ v. tt) (λ v. v) (λ x y e f. f) (byte_alone b) s (byte_lawful b) l (λ c h. refl) old new e (byte_refuses b old new e m h n)
+  pub prefixed_none : (old new : Cursor) (e : ReadError) → (e ≡ OutOfMemory → ⊥) → new.headers ≡ old.headers → new.at ≡ old.at → ((q : List ℕ) → old.rest ≡ b ∷ q → ⊥) → Refuses (prefixed b s) old new e
+  prefixed_none old new e m h at n = join_first (λ v. tt) (λ v. v) (λ x y e f. f) (byte_alone b) s (byte_lawful b) l (λ c h. refl) old new e (byte_refuses b old new e m h at n)
 
   -- what follows it is refused
   pub prefixed_refuses : (old mid new : Cursor) (e : ReadError) → Ready old → TakesByte old mid b → Refuses s mid new e → Refuses (prefixed b s) old new e

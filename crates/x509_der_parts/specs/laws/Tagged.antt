@@ -6,7 +6,7 @@ use Rattle.x509_der_parts.specs.MarkOrder.{Deep}
 use Rattle.x509_der_parts.specs.Element.{element, header, is_tag}
 use Rattle.x509_der_parts.specs.Tally.{Tally, moved}
 use Rattle.x509_der_parts.specs.facts.Tally.{inside_marks, inside_headers, inside_clean, inside_is_clean}
-use Rattle.x509_der_parts.specs.Shape.{Shape, Lawful, IsElement, Same, Begins}
+use Rattle.x509_der_parts.specs.Shape.{Shape, Lawful, IsElement, Same, Begins, Follows}
 use Rattle.x509_der_parts.specs.facts.Parts.{content_there, content_marked}
 use Rattle.x509_der_parts.specs.facts.Fields.{stands}
 use Rattle.x509_der_parts.specs.Fields.{Inner}
@@ -16,6 +16,11 @@ use Rattle.x509_der_parts.specs.Tagged.{IsTagged, tagged}
 begins_element : (t : ℕ) (c : List ℕ) → Begins (λ b. eqb b t) (element t c)
 unfolding element
 begins_element t c = eq-eqb t t refl
+
+-- so it begins with the tag, whatever follows it
+pub begins_element_follows : (t : ℕ) (c q : List ℕ) → Follows (λ b. eqb b t) (element t c ++ q) → ⊥
+unfolding element
+begins_element_follows t c q f = let e : eqb t t ≡ true = eq-eqb t t refl in cc
 
 module _ {V : Type 0} (t : ℕ) (s : Shape V) (l : Lawful s) where
   tagged_one : (v w : V) (p q r u : List ℕ) (y z : Tally) → IsTagged t s v p y → IsTagged t s w q z → p ++ r ≡ q ++ u → Same v w p q y z

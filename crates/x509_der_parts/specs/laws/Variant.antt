@@ -56,6 +56,9 @@ module _ {P V : Type 0} (make : P → V) (of : V → List ℕ) (Ok : V → Type 
     grows = a.grows;
     bound = a.bound;
     min_headers = a.min_headers;
+    forward = a.forward;
+    within = a.within;
+    outside = a.outside;
     none = λ w p q z b g f. let o = a.none b.payload p q z b.spelled g f in record { memory = o.memory; marked = o.marked };
   }
 
@@ -76,7 +79,7 @@ module _ {V : Type 0} (of : V → List ℕ) (Ok : V → Type 0) where
 
   -- so it is refused with nothing read, and never for memory
   pub no_variant_refuses : (old : Cursor) (e : ReadError) → (e ≡ OutOfMemory → ⊥) → Refuses (no_variant of Ok) old old e
-  no_variant_refuses old e m = record { spares = λ f p. m; grows = omega arith; bound = omega arith; min_headers = λ x n z. omega (arith, z); none = λ w p q z b g f. absurd b }
+  no_variant_refuses old e m = record { spares = λ f p. m; grows = omega arith; bound = omega arith; min_headers = λ x n z. omega (arith, z); none = λ w p q z b g f. absurd b; forward = omega arith; within = omega arith; outside = λ f. refl }
 
 none_is : none ≡ record { marks = []; headers = 0 }
 unfolding none

@@ -1,5 +1,5 @@
 -- Reading one of two shapes by the first byte.
-use Rattle.std.proofs.Common.{◌≡◌, ℕ, Bool, true, inl, inr, List, [], ◌∷◌, ◌++◌, ap, arith}
+use Rattle.std.proofs.Common.{◌≡◌, ℕ, Bool, true, refl, inl, inr, List, [], ◌∷◌, ◌++◌, ap, arith}
 use Rattle.x509_der_parts.specs.declared.choice.Choice.TheVariants.{First, Second}
 use Rattle.x509_der_parts.specs.declared.errors.ReadError.{ReadError}
 use Rattle.x509_der_parts.specs.declared.errors.ReadError.TheVariants.{OutOfMemory}
@@ -15,7 +15,7 @@ use Rattle.x509_der_parts.specs.Reading.{Cursor, Accepts, Refuses}
 pub begun_cons : (f : ℕ → Bool) (b : ℕ) (r t : List ℕ) → t ≡ b ∷ r → f b ≡ true → Begun f t
 begun_cons f b r t e h = rw e h
 
-not_begun : (f : ℕ → Bool) (r : List ℕ) → Follows f r → Begun f r → ⊥
+pub not_begun : (f : ℕ → Bool) (r : List ℕ) → Follows f r → Begun f r → ⊥
 not_begun f [] h b = b
 not_begun f (c ∷ r) h b = cc
 
@@ -60,6 +60,9 @@ module _ {V W : Type 0} (a : Shape V) (b : Shape W) (la : Lawful a) (lb : Lawful
     bound = i.bound;
     spares = λ f. i.spares f.0;
     min_headers = λ m n. elim [ inl z ↦ omega (arith, z, i.grows) | inr (inl k) ↦ i.min_headers m n k.1 | inr (inr k) ↦ absurd (not_both_begun a.starts b.starts old.rest apart h k.0) ];
+    forward = i.forward;
+    within = i.within;
+    outside = λ f. i.outside (follows_left a.starts b.starts old.rest f);
     none = elim [
       | inl w ↦ λ p q z j g f. let o = i.none w p q z j g (follows_left a.avoids b.avoids q f) in record { memory = o.memory; marked = λ t. o.marked t.0 }
       | inr w ↦ λ p q z j g f. absurd (not_both_begun a.starts b.starts old.rest apart h (begun_right w p q old.rest z j g))
@@ -72,6 +75,9 @@ module _ {V W : Type 0} (a : Shape V) (b : Shape W) (la : Lawful a) (lb : Lawful
     bound = i.bound;
     spares = λ f. i.spares f.1;
     min_headers = λ m n. elim [ inl z ↦ omega (arith, z, i.grows) | inr (inl k) ↦ absurd (not_both_begun a.starts b.starts old.rest apart k.0 h) | inr (inr k) ↦ i.min_headers m n k.1 ];
+    forward = i.forward;
+    within = i.within;
+    outside = λ f. i.outside (follows_right a.starts b.starts old.rest f);
     none = elim [
       | inl v ↦ λ p q z j g f. absurd (not_both_begun a.starts b.starts old.rest apart (begun_left v p q old.rest z j g) h)
       | inr w ↦ λ p q z j g f. let o = i.none w p q z j g (follows_right a.avoids b.avoids q f) in record { memory = o.memory; marked = λ t. o.marked t.1 }
@@ -84,6 +90,9 @@ module _ {V W : Type 0} (a : Shape V) (b : Shape W) (la : Lawful a) (lb : Lawful
     bound = omega arith;
     spares = λ f p. nm;
     min_headers = λ m n. elim [ inl z ↦ omega (arith, z) | inr (inl i) ↦ absurd (not_begun a.starts old.rest h i.0) | inr (inr i) ↦ absurd (not_begun b.starts old.rest k i.0) ];
+    forward = omega arith;
+    within = omega arith;
+    outside = λ f. refl;
     none = elim [
       | inl v ↦ λ p q z j g f. absurd (not_begun a.starts old.rest h (begun_left v p q old.rest z j g))
       | inr w ↦ λ p q z j g f. absurd (not_begun b.starts old.rest k (begun_right w p q old.rest z j g))

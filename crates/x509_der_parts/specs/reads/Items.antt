@@ -3,7 +3,8 @@ use Rattle.std.proofs.Common.{◌≡◌, ℕ, ◌<◌, false, ⊎_elim, List, []
 use Rattle.x509_der_parts.specs.declared.errors.ReadError.{ReadError}
 use Rattle.x509_der_parts.specs.declared.errors.ReadError.TheVariants.{OutOfMemory}
 use Rattle.x509_der_parts.specs.Tally.{Tally, none, joined}
-use Rattle.x509_der_parts.specs.Shape.{Shape, Lawful}
+use Rattle.x509_der_parts.specs.PrimitiveContent.{all}
+use Rattle.x509_der_parts.specs.Shape.{Shape, Lawful, Follows}
 use Rattle.x509_der_parts.specs.laws.PrimitiveContent.{ends}
 use Rattle.x509_der_parts.specs.laws.Optional.{Full}
 use Rattle.x509_der_parts.specs.laws.RawElement.{follows_free}
@@ -19,6 +20,14 @@ pub record SoFar {V : Type 0} (s : Shape V) (old now : Cursor) (done : List V) :
   pub spelled : Items s done bytes tally
   pub moved : Moved old now bytes tally
   pub ready : Ready now
+
+none_behind : (p q : List ℕ) → p ++ q ≡ [] → q ≡ []
+none_behind [] q e = e
+none_behind (c ∷ p) q e = cc
+
+-- where no byte begins a content of items, there is none
+none_begins : (old now : Cursor) (p : List ℕ) → old.rest ≡ p ++ now.rest → Follows all old.rest → now.rest ≡ []
+none_begins old now p e f = none_behind p now.rest (sym e ∙ ends old.rest f)
 
 module _ {V : Type 0} (s : Shape V) (l : Lawful s) (full : Full s) (free : (c : ℕ) → s.avoids c ≡ false) where
   pub items_start : (old : Cursor) → Ready old → SoFar s old old []
@@ -74,6 +83,9 @@ module _ {V : Type 0} (s : Shape V) (l : Lawful s) (full : Full s) (free : (c : 
             let k = items_split s l full free done w i.bytes p now.rest i.tally z i.spelled b e1 in
             let h = more_front k.more now.rest k.tally k.spelled n in
             record { memory = (a.none h.0 h.1 h.2 h.3 h.4 h.5 (follows_free s.avoids free h.2)).memory; marked = λ t. absurd t };
+        forward = omega (arith, m.at, a.forward);
+        within = omega (arith, m.at, a.within, ap length m.rest, length-append i.bytes now.rest);
+        outside = λ f. absurd (n (none_begins old now i.bytes m.rest f));
       }
 
   -- no memory to keep one more item
@@ -88,4 +100,7 @@ module _ {V : Type 0} (s : Shape V) (l : Lawful s) (full : Full s) (free : (c : 
         bound = omega (arith, m.headers, n.headers, cost, l.cost v j.bytes j.tally j.spelled, ap length m.rest, length-append i.bytes now.rest, ap length n.rest, length-append j.bytes new.rest);
         min_headers = λ x. absurd (x k);
         none = λ w p q z b g f. record { memory = k; marked = λ t. absurd t };
+        forward = omega (arith, m.at, n.at);
+        within = omega (arith, m.at, n.at, ap length m.rest, length-append i.bytes now.rest, ap length n.rest, length-append j.bytes new.rest);
+        outside = λ f. absurd (omega (arith, full v j.bytes j.tally j.spelled, ap length (none_begins old now i.bytes m.rest f), ap length n.rest, length-append j.bytes new.rest));
       }

@@ -10,6 +10,7 @@ use Rattle.x509_der_parts.specs.Join.{join, Apart}
 use Rattle.x509_der_parts.specs.laws.Join.{follows_left, follows_right, follows_first}
 use Rattle.x509_der_parts.specs.Reading.{Cursor, Accepts, Refuses}
 use Rattle.x509_der_parts.specs.reads.Cursor.{moved_joined, still_none}
+use Rattle.x509_der_parts.specs.reads.Standing.{stays}
 
 module _ {X V W : Type 0} (fst : X → V) (snd : X → W) (whole : (x y : X) → fst x ≡ fst y → snd x ≡ snd y → x ≡ y) (a : Shape V) (b : Shape W) (la : Lawful a) (lb : Lawful b) (apart : Apart a b) where
   before : (w : W) (p q : List ℕ) (y : Tally) → b.spelled w p y → Follows (λ c. a.avoids c || b.avoids c) q → Follows a.avoids (p ++ q)
@@ -45,6 +46,9 @@ module _ {X V W : Type 0} (fst : X → V) (snd : X → W) (whole : (x y : X) →
     none = λ w p q z k g f.
         let o = i.none (fst w) k.front (k.back ++ q) k.first k.fore (g ∙ behind p k.front k.back q k.bytes) (before (snd w) k.back q k.second k.aft f) in
         record { memory = o.memory; marked = λ t c. o.marked t.0 (joined_is_clean (length k.front) k.first k.second z k.tally c).0 };
+    forward = i.forward;
+    within = i.within;
+    outside = λ f. i.outside (follows_left a.starts b.starts old.rest f);
   }
 
   pub join_second : (old mid new : Cursor) (v : V) (e : ReadError) → Accepts a old mid v → Refuses b mid new e → Refuses (join fst snd a b) old new e
@@ -60,4 +64,9 @@ module _ {X V W : Type 0} (fst : X → V) (snd : X → W) (whole : (x y : X) →
             let e2 : mid.rest ≡ k.back ++ q = append_cancel_left i.bytes mid.rest (k.back ++ q) (sym m.rest ∙ g ∙ behind p k.front k.back q k.bytes ∙ ap (λ y. y ++ (k.back ++ q)) o.bytes) in
             let r = j.none (snd w) k.back q k.second k.aft e2 (follows_right a.avoids b.avoids q f) in
             record { memory = r.memory; marked = λ t c. r.marked t.1 (joined_is_clean (length k.front) k.first k.second z k.tally c).1 };
+        forward = omega (arith, j.forward, m.at);
+        within = omega (arith, j.within, m.at, ap length m.rest, length-append i.bytes mid.rest);
+        outside = λ f.
+            let s = stays a la old mid v i (follows_left a.starts b.starts old.rest f) in
+            j.outside (rw s.0 (follows_right a.starts b.starts old.rest f)) ∙ s.1;
       }

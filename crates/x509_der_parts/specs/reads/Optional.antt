@@ -25,7 +25,8 @@ pub not_empty_is : (r : List ℕ) → (length r == 0) ≡ false → r ≡ [] →
 not_empty_is [] e h = search (rules, nat_tests)
 not_empty_is (b ∷ r) e h = cc
 
-absent_front : (f : ℕ → Bool) (p q r : List ℕ) → r ≡ p ++ q → 1 ≤ length p → Begins f p → Follows f r → ⊥
+-- what begins with a byte of a set doesn't stand where none of the set does
+pub absent_front : (f : ℕ → Bool) (p q r : List ℕ) → r ≡ p ++ q → 1 ≤ length p → Begins f p → Follows f r → ⊥
 absent_front f p q r e n b h = no_start f p q n b (rw e at h)
 
 begins_follows : (f : ℕ → Bool) (b : ℕ) (r : List ℕ) → f b ≡ true → Follows f (b ∷ r) → ⊥
@@ -65,6 +66,9 @@ module _ {V : Type 0} (s : Shape V) (l : Lawful s) (full : Full s) where
     grows = a.grows;
     bound = a.bound;
     min_headers = λ m n z. omega (arith, z, a.grows);
+    forward = a.forward;
+    within = a.within;
+    outside = a.outside;
     none = elim [
       | None ↦ λ p q z i h g.
           let e2 : q ≡ b ∷ r = sym (h ∙ ap (λ x. x ++ q) i.0) ∙ n in

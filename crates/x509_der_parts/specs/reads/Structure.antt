@@ -23,5 +23,8 @@ module _ {V W : Type 0} (view : W → V) (s : Shape V) (inj : (x y : W) → view
     grows = a.grows;
     bound = a.bound;
     min_headers = a.min_headers;
+    forward = a.forward;
+    within = a.within;
+    outside = a.outside;
     none = λ x p q z i g f. let o = a.none (view x) p q z i g f in record { memory = o.memory; marked = o.marked };
   }

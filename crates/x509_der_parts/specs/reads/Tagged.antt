@@ -1,5 +1,5 @@
 -- Reading an element by way of its content.
-use Rattle.std.proofs.Common.{◌≡◌, ℕ, ◌+◌, ◌*◌, ◌≤◌, List, [], ◌++◌, length, refl, sym, ap, subst, ⊎_elim, ◌∙◌, arith, append-nil, length-append}
+use Rattle.std.proofs.Common.{◌≡◌, ℕ, ◌+◌, ◌*◌, ◌≤◌, List, [], ◌++◌, length, refl, sym, ap, subst, eqb, ⊎_elim, ◌∙◌, arith, append-nil, length-append}
 use Rattle.std.proofs.lemmas.List.{append_cancel_left, length-map}
 use Rattle.x509_der_parts.specs.declared.errors.ReadError.{ReadError}
 use Rattle.x509_der_parts.specs.declared.errors.ReadError.TheVariants.{OutOfMemory}
@@ -7,10 +7,11 @@ use Rattle.x509_der_parts.specs.Element.{element, header}
 use Rattle.x509_der_parts.specs.facts.Element.{element_one, element_length, header_long}
 use Rattle.x509_der_parts.specs.Tally.{Tally, inside, moved}
 use Rattle.x509_der_parts.specs.facts.Tally.{inside_headers, inside_is_clean}
-use Rattle.x509_der_parts.specs.Shape.{Shape, Lawful}
+use Rattle.x509_der_parts.specs.Shape.{Shape, Lawful, Follows}
 use Rattle.x509_der_parts.specs.Tagged.{MinInside, tagged}
-use Rattle.x509_der_parts.specs.Reading.{Cursor, Ready, Accepts, Refuses, Entered, Leaves}
+use Rattle.x509_der_parts.specs.Reading.{Cursor, Ready, Accepts, Refuses, Entered, NotEntered, Leaves}
 use Rattle.x509_der_parts.specs.reads.Cursor.{ready_after, moved_inside}
+use Rattle.x509_der_parts.specs.laws.Tagged.{begins_element_follows}
 
 module _ {V : Type 0} (t : ℕ) (s : Shape V) (l : Lawful s) where
   tagged_cost : (c : List ℕ) (v : V) (y : Tally) → s.spelled v c y → (2 * (inside (header c) y).headers ≤ length (element t c)) × (length ((inside (header c) y).marks) ≤ (inside (header c) y).headers)
@@ -46,18 +47,25 @@ module _ {V : Type 0} (t : ℕ) (s : Shape V) (l : Lawful s) where
       }
 
   -- no element with the tag stands there
-  pub tagged_wrong : (old new : Cursor) (e : ReadError) → (e ≡ OutOfMemory → ⊥) → new.headers ≡ old.headers + 1 → ((c q : List ℕ) → old.rest ≡ element t c ++ q → ⊥) → Refuses (tagged t s) old new e
+  pub tagged_wrong : (old new : Cursor) (e : ReadError) → (e ≡ OutOfMemory → ⊥) → new.headers ≡ old.headers + 1 → NotEntered t old new → Refuses (tagged t s) old new e
   tagged_wrong old new e m h n = record {
     spares = λ f p. m;
     grows = omega arith;
     bound = omega arith;
-    min_headers = λ m i j. ⊎_elim (λ k. omega (arith, k)) (λ k. absurd (n k.content k.after k.bytes)) j;
-    none = λ w p q z b g f. absurd (n b.content q (g ∙ ap (λ x. x ++ q) b.bytes));
+    min_headers = λ m i j. ⊎_elim (λ k. omega (arith, k)) (λ k. absurd (n.none k.content k.after k.bytes)) j;
+    none = λ w p q z b g f. absurd (n.none b.content q (g ∙ ap (λ x. x ++ q) b.bytes));
+    forward = omega (arith, n.at);
+    within = omega (arith, n.at);
+    outside = λ f. n.at;
   }
 
+  -- where the tag begins an element, it is not outside
+  entered_begins : (old inner : Cursor) (after : List ℕ) → Entered t old inner after → Follows (λ b. eqb b t) old.rest → ⊥
+  entered_begins old inner after n f = begins_element_follows t inner.rest after (rw n.bytes at f)
+
   -- its content is refused
-  pub tagged_refuses : (old inner end new : Cursor) (after : List ℕ) (e : ReadError) → Entered t old inner after → Refuses s inner end e → new.headers ≡ end.headers → Refuses (tagged t s) old new e
-  tagged_refuses old inner end new after e n a h = record {
+  pub tagged_refuses : (old inner end new : Cursor) (after : List ℕ) (e : ReadError) → Entered t old inner after → Refuses s inner end e → Leaves end new after → Refuses (tagged t s) old new e
+  tagged_refuses old inner end new after e n a l = let h = l.headers in record {
     spares = λ f p. a.spares f (n.places ∙ p);
     grows = omega (arith, a.grows, n.headers);
     bound = omega (arith, a.bound, n.headers, ap length n.bytes, length-append (element t inner.rest) after, element_length t inner.rest, header_long inner.rest);
@@ -66,12 +74,16 @@ module _ {V : Type 0} (t : ℕ) (s : Shape V) (l : Lawful s) where
         let k1 = element_one t t inner.rest b.content after q (sym n.bytes ∙ g ∙ ap (λ x. x ++ q) b.bytes) in
         let o = a.none w b.content [] b.part b.spelled (k1.content ∙ sym (append-nil b.content)) tt in
         record { memory = o.memory; marked = λ i c. o.marked i (inside_is_clean (header b.content) b.part z b.tally c) };
+    forward = omega (arith, a.forward, n.at, l.at);
+    within = omega (arith, a.within, n.at, l.at, ap length n.bytes, length-append (element t inner.rest) after, element_length t inner.rest);
+    outside = λ f. absurd (entered_begins old inner after n f);
   }
 
   -- bytes are left over in its content
-  pub tagged_left_over : (old inner end new : Cursor) (after : List ℕ) (v : V) (e : ReadError) → (e ≡ OutOfMemory → ⊥) → Entered t old inner after → Accepts s inner end v → (end.rest ≡ [] → ⊥) → new.headers ≡ end.headers → Refuses (tagged t s) old new e
-  tagged_left_over old inner end new after v e nm n a more h =
+  pub tagged_left_over : (old inner end new : Cursor) (after : List ℕ) (v : V) (e : ReadError) → (e ≡ OutOfMemory → ⊥) → Entered t old inner after → Accepts s inner end v → (end.rest ≡ [] → ⊥) → Leaves end new after → Refuses (tagged t s) old new e
+  tagged_left_over old inner end new after v e nm n a more b =
       let m = a.moved in
+      let h = b.headers in
       record {
         spares = λ f p. nm;
         grows = omega (arith, m.headers, n.headers);
@@ -82,4 +94,7 @@ module _ {V : Type 0} (t : ℕ) (s : Shape V) (l : Lawful s) where
             let o = a.only w b.content [] b.part b.spelled (k1.content ∙ sym (append-nil b.content)) tt in
             let e1 : a.bytes ++ end.rest ≡ a.bytes ++ [] = sym m.rest ∙ k1.content ∙ o.bytes ∙ sym (append-nil a.bytes) in
             absurd (more (append_cancel_left a.bytes end.rest [] e1));
+        forward = omega (arith, m.at, n.at, b.at);
+        within = omega (arith, m.at, n.at, b.at, ap length m.rest, length-append a.bytes end.rest, ap length n.bytes, length-append (element t inner.rest) after, element_length t inner.rest);
+        outside = λ f. absurd (entered_begins old inner after n f);
       }

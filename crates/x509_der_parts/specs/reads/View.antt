@@ -10,8 +10,9 @@ use Rattle.x509_der_parts.specs.reads.Counts.{tallied_sum, tallied_length, one_m
 use Rattle.x509_der_parts.specs.Shape.{Shape, Lawful, Follows}
 use Rattle.x509_der_parts.specs.View.{viewed, Viewed}
 use Rattle.x509_der_parts.specs.laws.View.{some_one}
-use Rattle.x509_der_parts.specs.Reading.{Cursor, Ready, Accepts, Refuses, Marked, NotMarked, put_in}
+use Rattle.x509_der_parts.specs.Reading.{Cursor, Ready, Accepts, Refuses, IsSpot, GoesBack, Marked, NotMarked, put_in}
 use Rattle.x509_der_parts.specs.reads.Cursor.{Booked, moved_marked, ready_after, still_none}
+use Rattle.x509_der_parts.specs.reads.Standing.{stays}
 
 -- a reader that booked a mark is ready for more
 pub ready_marked : (old new : Cursor) (kind : Deviation) (spot : Spot) → Ready old → sum old.counts < old.headers → Marked old new kind spot → Ready new
@@ -56,20 +57,28 @@ module _ {B V : Type 0} (of : B → Option (V × List Deviation)) (back : V → 
     grows = a.grows;
     bound = a.bound;
     min_headers = a.min_headers;
+    forward = a.forward;
+    within = a.within;
+    outside = a.outside;
     none = λ w p q z i g f.
         let o = a.none i.base p q i.part i.spelled g f in
         record { memory = o.memory; marked = λ t c. o.marked t (marked_clean i.kinds (length p) i.part z i.tally c).1 };
   }
 
-  -- the plain value means nothing
-  pub viewed_meaningless : (old mid new : Cursor) (b : B) (e : ReadError) → (e ≡ OutOfMemory → ⊥) → Accepts s old mid b → of b ≡ None → new.headers ≡ mid.headers → Refuses (viewed of back valid readable s) old new e
-  viewed_meaningless old mid new b e nm a m k =
+  -- the plain value means nothing, and the reader stands where that began
+  pub viewed_meaningless : (old mid new : Cursor) (spot : Spot) (b : B) (e : ReadError) → (e ≡ OutOfMemory → ⊥) → Accepts s old mid b → of b ≡ None → IsSpot old spot → GoesBack mid new spot → Refuses (viewed of back valid readable s) old new e
+  viewed_meaningless old mid new spot b e nm a m i g =
       let am = a.moved in
+      let k = g.headers in
+      let at : new.at ≡ old.at = g.at ∙ i.start in
       record {
         spares = λ f p. nm;
         grows = omega (arith, k, am.headers);
         bound = omega (arith, k, am.headers, l.cost b a.bytes a.tally a.spelled, ap length am.rest, length-append a.bytes mid.rest);
         min_headers = λ x n z. omega (arith, a.min_headers n z, k, am.headers);
+        forward = omega (arith, at);
+        within = omega (arith, at);
+        outside = λ f. at;
         none = λ w p q z i g f.
             let o = a.only i.base p q i.part i.spelled g f in
             let c : Some (w, i.kinds) ≡ None = sym i.means ∙ ap of o.value ∙ m in
@@ -93,6 +102,9 @@ module _ {B V : Type 0} (of : B → Option (V × List Deviation)) (back : V → 
         bound = omega (arith, m.headers, am.headers, l.cost b a.bytes a.tally a.spelled, ap length am.rest, length-append a.bytes mid.rest);
         min_headers = λ x. absurd (x m.memory);
         none = λ w p q z i g f. record { memory = m.memory; marked = λ t c. kinds_mark old mid b v ks a k n w p q z i g f c };
+        forward = omega (arith, m.at, am.at);
+        within = omega (arith, m.at, am.at, ap length am.rest, length-append a.bytes mid.rest);
+        outside = λ f. m.at ∙ (stays s l old mid b a f).1;
       }
 
   -- there is room in the counts for a mark over the whole
@@ -117,4 +129,7 @@ module _ {B V : Type 0} (of : B → Option (V × List Deviation)) (back : V → 
         bound = omega (arith, m.headers, k.headers, am.headers, l.cost b a.bytes a.tally a.spelled, ap length am.rest, length-append a.bytes mid.rest);
         min_headers = λ x. absurd (x m.memory);
         none = λ w p q z i g f. record { memory = m.memory; marked = λ t c. kinds_mark old mid b v ks a d n w p q z i g f c };
+        forward = omega (arith, m.at, k.at, am.at);
+        within = omega (arith, m.at, k.at, am.at, ap length am.rest, length-append a.bytes mid.rest);
+        outside = λ f. m.at ∙ k.at ∙ (stays s l old mid b a f).1;
       }

@@ -1,17 +1,19 @@
 -- Reading all that is left, and so a whole input.
-use Rattle.std.proofs.Common.{◌≡◌, ℕ, ◌≤◌, false, List, [], ◌++◌, length, map, sum, refl, sym, ap, subst, ◌∙◌, arith, append-nil, length-append, Some, None}
+use Rattle.std.proofs.Common.{◌≡◌, ℕ, ◌+◌, ◌≤◌, false, List, [], ◌++◌, length, map, sum, refl, sym, ap, subst, ◌∙◌, arith, append-nil, length-append, Some, None}
 use Rattle.std.specs.Prelude.{Result, Ok, Err, replicate, IfErr}
 use Rattle.std.proofs.lemmas.List.{append_cancel_left}
 use Rattle.x509_der_parts.specs.declared.errors.ReadError.{ReadError}
-use Rattle.x509_der_parts.specs.declared.errors.ReadError.TheVariants.{OutOfMemory}
+use Rattle.x509_der_parts.specs.declared.errors.ReadError.TheVariants.{OutOfMemory, LeftOver}
 use Rattle.x509_der_parts.specs.Tally.{Tally, Mark, moved}
 use Rattle.x509_der_parts.specs.facts.Tally.{map-moved_zero}
 use Rattle.x509_der_parts.specs.reads.Counts.{counts_are, counts_sum}
 use Rattle.x509_der_parts.specs.facts.MarkOrder.{placing_same}
 use Rattle.x509_der_parts.specs.Shape.{Shape, Lawful}
 use Rattle.x509_der_parts.specs.facts.Fields.{strict_where}
-use Rattle.x509_der_parts.specs.Calls.{IsWhole, CountedRead, MeteredRead, Located, ReadsAll, RefusesAll, TakesAll}
+use Rattle.x509_der_parts.specs.Calls.{IsWhole, CountedRead, MeteredRead, Located, ReadsAll, RefusesAll, TakesAll, GotTo}
 use Rattle.x509_der_parts.specs.Reading.{Cursor, Accepts, Refuses, ForMemory, tallied, placed}
+use Rattle.x509_der_parts.specs.laws.RawElement.{follows_free}
+use Rattle.x509_der_parts.specs.reads.Standing.{stays}
 
 -- anything may follow
 abbrev pub Free : {V : Type 0} → Shape V → Type 0
@@ -33,21 +35,34 @@ module _ {V : Type 0} (s : Shape V) (l : Lawful s) (free : Free s) where
       let o = a.only w old.rest [] y i (sym (append-nil old.rest)) tt in
       append_cancel_left a.bytes new.rest [] (sym a.moved.rest ∙ o.bytes ∙ sym (append-nil a.bytes))
 
-  pub left_over_all : (old new : Cursor) (v : V) (e : ReadError) → (e ≡ OutOfMemory → ⊥) → Accepts s old new v → (new.rest ≡ [] → ⊥) → RefusesAll s old new e
-  left_over_all old new v e nm a n =
+  pub left_over_all : (old new : Cursor) (v : V) → Accepts s old new v → (new.rest ≡ [] → ⊥) → RefusesAll s old new LeftOver
+  left_over_all old new v a n =
       let m = a.moved in
+      let nm : LeftOver ≡ OutOfMemory → ⊥ = λ e. cc in
       record {
         spares = λ f p. nm;
         bound = omega (arith, m.headers, l.cost v a.bytes a.tally a.spelled, ap length m.rest, length-append a.bytes new.rest);
         min_headers = λ x k i. omega (arith, m.headers, a.min_headers k i);
         none = λ x w y i. n (left_nothing old new v a w y i);
         marked = λ f w y i c. n (left_nothing old new v a w y i);
+        within = omega (arith, m.at, ap length m.rest, length-append a.bytes new.rest);
+        outside = λ f. (stays s l old new v a f).1;
+        behind = λ k w p q y i g o. (refl, m.at ∙ ap (λ x. old.at + length x) (sym (a.only w p q y i g (follows_free s.avoids free q)).bytes));
       }
 
-pub refuses_all : {V : Type 0} (s : Shape V) (old new : Cursor) (e : ReadError) → Refuses s old new e → RefusesAll s old new e
-refuses_all s old new e a =
+pub refuses_all : {V : Type 0} (s : Shape V) → Free s → (old new : Cursor) (e : ReadError) → Refuses s old new e → RefusesAll s old new e
+refuses_all s free old new e a =
     let here : (v : _) (y : Tally) → s.spelled v old.rest y → ForMemory s e y = λ v y i. a.none v old.rest [] y i (sym (append-nil old.rest)) tt in
-    record { spares = a.spares; bound = a.bound; min_headers = a.min_headers; none = λ m v y i. m (here v y i).memory; marked = λ f v y i. (here v y i).marked f }
+    record {
+      spares = a.spares;
+      bound = a.bound;
+      min_headers = a.min_headers;
+      none = λ m v y i. m (here v y i).memory;
+      marked = λ f v y i. (here v y i).marked f;
+      within = a.within;
+      outside = a.outside;
+      behind = λ m v p q y i g o. absurd (m (a.none v p q y i g (follows_free s.avoids free q)).memory);
+    }
 
 -- of a whole input
 pub frugal_whole : {V : Type 0} (s : Shape V) (old new : Cursor) (r : Result V ReadError) → old.places ≡ None → ReadsAll s old new r → s.frugal → IfErr r (λ e. e ≡ OutOfMemory → ⊥)
@@ -92,3 +107,10 @@ not_located s old new v o n a =
     let b = a.accepts in
     let h : None ≡ Some (map (moved old.at) b.tally.marks) = sym n ∙ b.moved.places ∙ ap (λ x. placed old.at x b.tally.marks) o in
     cc
+
+pub got_to : {V : Type 0} (s : Shape V) (old new : Cursor) (string : List ℕ) (e : ReadError) → old.rest ≡ string → old.at ≡ 0 → RefusesAll s old new e → GotTo s string e new.at
+got_to s old new string e f z a = record {
+  within = omega (arith, a.within, z, ap length f);
+  outside = λ h. a.outside (rw f h) ∙ z;
+  behind = λ m v p q y i g o. let b = a.behind m v p q y i (f ∙ g) o in (b.0, omega (arith, b.1, z));
+}

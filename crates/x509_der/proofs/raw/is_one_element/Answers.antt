@@ -1,8 +1,8 @@
 use Rattle.x509_der.proofs.Raws.{raw_all, raw_none}
 use Rattle.x509_der.proofs.raw.is_one_element.Goals as goal
 
-pub returns-in-Ok : goal.returns-in-Ok
-returns-in-Ok c = rw (c.is_empty.ensures, ← c.whole_reader-reader.ensures.rest) (raw_all c.whole_reader-reader.result c.whole_element.new.self c.in-Ok._whole.now c.in-Ok.ensures.takes)
+pub returns-in-Some : goal.returns-in-Some
+returns-in-Some c = raw_all c.args.bytes.now c.in-Some.element c.in-Some.ensures
 
-pub returns : goal.returns
-returns c = rw (← c.whole_reader-reader.ensures.rest) (λ e. cc, λ h. absurd (raw_none c.whole_reader-reader.result c.in-Err.ensures.takes.0 h))
+pub returns-in-None : goal.returns-in-None
+returns-in-None c = (λ e. cc, λ h. absurd (raw_none c.args.bytes.now c.in-None.ensures h))

@@ -8,7 +8,7 @@ pub returns-in_err-behind-clause-err : goal.returns-in_err-behind-clause-err
 returns-in_err-behind-clause-err g c =
     let r = c.requires in
     let p = err_from_is_err_and c.from_residual.result c.from_residual.ensures.1 in
-    rw (p.1, p.2) (none_entered g.T.Structure.fields g.met.T.Structure.same g.F.Field.shape g.G.Field.shape (g.F.Field.lawful r.first) (g.G.Field.lawful r.second) r.apart c.whole_reader-reader.result c.args.bytes.now _ c.whole_reader-reader.ensures.rest c.in_err-behind.ensures.enters)
+    rw (p.1, p.2) (none_entered g.T.Structure.fields g.met.T.Structure.same g.F.Field.shape g.G.Field.shape (g.F.Field.lawful r.first) (g.G.Field.lawful r.second) r.apart c.whole_reader-reader.result c.args.bytes.now _ c.whole_reader-reader.ensures.rest c.in_err-behind.ensures.enters.none)
 
 pub returns-in_err-fields-clause-err : goal.returns-in_err-fields-clause-err
 returns-in_err-fields-clause-err g c =

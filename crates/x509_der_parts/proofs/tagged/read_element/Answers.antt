@@ -8,7 +8,7 @@ pub returns-in_err-value : goal.returns-in_err-value
 returns-in_err-value g c =
     let s = g.F.Field.shape in
     let p = err_from_is_err_and c.from_residual-in_err-value.result c.from_residual-in_err-value.ensures.1 in
-    rw (p.1, p.2) (tagged_refuses c.args.tag s (g.F.Field.lawful c.requires.fits) c.args.reader.now c.enter.new.self c.read-outcome.new.reader c.leave.new.self c.in_ok-after.after.now _ c.in_ok-after.ensures.enters c.in_err-value.ensures c.leave.ensures.headers)
+    rw (p.1, p.2) (tagged_refuses c.args.tag s (g.F.Field.lawful c.requires.fits) c.args.reader.now c.enter.new.self c.read-outcome.new.reader c.leave.new.self c.in_ok-after.after.now _ c.in_ok-after.ensures.enters c.in_err-value.ensures c.leave.ensures)
 
 pub returns-then-done : goal.returns-then-done
 returns-then-done g c =
@@ -20,7 +20,7 @@ pub returns-else-done : goal.returns-else-done
 returns-else-done g c =
     let s = g.F.Field.shape in
     tagged_left_over c.args.tag s (g.F.Field.lawful c.requires.fits) c.args.reader.now c.enter.new.self c.read-outcome.new.reader c.leave.new.self c.in_ok-after.after.now c.in_ok-value.value _ (λ e. cc) c.in_ok-after.ensures.enters c.in_ok-value.ensures
-    (not_empty_is c.read-outcome.new.reader.rest (sym c.is_empty-done.ensures ∙ c.if-done.false)) c.leave.ensures.headers
+    (not_empty_is c.read-outcome.new.reader.rest (sym c.is_empty-done.ensures ∙ c.if-done.false)) c.leave.ensures
 
 pub returns-in_err-after : goal.returns-in_err-after
 returns-in_err-after g c =

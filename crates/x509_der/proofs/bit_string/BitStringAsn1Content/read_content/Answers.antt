@@ -6,7 +6,7 @@ use Rattle.x509_der.proofs.bit_string.BitStringAsn1Content.read_content.Goals as
 
 pub returns : goal.returns
 returns g c =
-    let p = c.take_rest-content.result.now in
+    let p = c.rest-content.result.now in
     let u = c.in-Some.unused in
     let i : IsBits (used c.in_ok-bytes.bytes.items u) p = c.in-Some.ensures.some.bits ∙ ap (λ x. bit_content (used x u)) (sym c.in_ok-bytes.ensures.items) in
-    plain_accepts IsBits bit_content (λ v. Unit {0}) ⊥ bits_plain c.args.reader.now c.take_rest-content.new.self p (used c.in_ok-bytes.bytes.items u) c.requires c.take_rest-content.ensures i
+    plain_accepts IsBits bit_content (λ v. Unit {0}) ⊥ bits_plain c.args.reader.now c.pass_rest.new.self p (used c.in_ok-bytes.bytes.items u) c.requires c.rest-content.ensures.all c.pass_rest.ensures i

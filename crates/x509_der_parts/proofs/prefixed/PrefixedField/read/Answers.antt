@@ -1,4 +1,4 @@
-use Rattle.std.proofs.Common.{ap}
+use Rattle.std.proofs.Common.{ap, ◌∙◌}
 use Rattle.std.proofs.lemmas.Result.{err_from_is_err_and}
 use Rattle.x509_der_parts.specs.Reading.{Cursor}
 use Rattle.x509_der_parts.specs.laws.Prefixed.{prefixed_accepts, prefixed_refuses, prefixed_none, other_byte, not_empty_byte}
@@ -7,12 +7,13 @@ use Rattle.x509_der_parts.proofs.prefixed.PrefixedField.read.Goals as goal
 pub returns-in_default : goal.returns-in_default
 returns-in_default g c =
     let t = c.in_default.ensures in
-    prefixed_none 0 g.F.Field.shape (g.F.Field.lawful c.requires.fits) c.args.reader.now c.byte.new.self _ (λ e. cc) (ap (λ (x : Cursor). x.headers) t.1) (not_empty_byte c.args.reader.now.rest 0 t.0)
+    prefixed_none 0 g.F.Field.shape (g.F.Field.lawful c.requires.fits) c.args.reader.now c.byte.new.self _ (λ e. cc) (ap (λ (x : Cursor). x.headers) t.1) (ap (λ (x : Cursor). x.at) t.1) (not_empty_byte c.args.reader.now.rest 0 t.0)
 
 pub returns-then-unused-ne0 : goal.returns-then-unused-ne0
 returns-then-unused-ne0 g c =
     let t = c.in-Some.ensures in
-    prefixed_none 0 g.F.Field.shape (g.F.Field.lawful c.requires.fits) c.args.reader.now c.byte.new.self _ (λ e. cc) t.headers (other_byte c.args.reader.now.rest c.in-Some.unused 0 c.byte.new.self.rest t.rest c.if-unused-ne0.true)
+    let b = c.go_back.ensures in
+    prefixed_none 0 g.F.Field.shape (g.F.Field.lawful c.requires.fits) c.args.reader.now c.go_back.new.self _ (λ e. cc) (b.headers ∙ t.headers) (b.at ∙ c.spot-spot.ensures.start) (other_byte c.args.reader.now.rest c.in-Some.unused 0 c.byte.new.self.rest t.rest c.if-unused-ne0.true)
 
 pub returns-in_err-field : goal.returns-in_err-field
 returns-in_err-field g c =

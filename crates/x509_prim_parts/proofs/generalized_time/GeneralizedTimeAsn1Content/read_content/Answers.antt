@@ -4,5 +4,5 @@ use Rattle.x509_prim_parts.specs.Times.{IsGeneralizedText, generalized_text}
 use Rattle.x509_prim_parts.specs.facts.Times.{generalized_plain}
 use Rattle.x509_prim_parts.proofs.generalized_time.GeneralizedTimeAsn1Content.read_content.Goals as goal
 
-pub returns-in-Some : goal.returns-in-Some
-returns-in-Some g c = plain_accepts IsGeneralizedText generalized_text IsMoment (Unit {0}) generalized_plain c.args.reader.now c.take_rest-content.new.self c.take_rest-content.result.now c.in-Some.time c.requires c.take_rest-content.ensures c.in-Some.ensures.some
+pub returns : goal.returns
+returns g c = plain_accepts IsGeneralizedText generalized_text IsMoment (Unit {0}) generalized_plain c.args.reader.now c.pass_rest.new.self c.rest.result.now c.in-Some.time c.requires c.rest.ensures.all c.pass_rest.ensures c.in-Some.ensures.some

@@ -1,7 +1,7 @@
 use Rattle.std.proofs.Common.{arith}
 use Rattle.std.proofs.lemmas.Grind.{common_steps}
 use Rattle.x509_der_parts.specs.reads.FirstElement.{no_first_empty, no_first_tag, no_first_length, no_first_short, is_first}
-use Rattle.x509_der_parts.proofs.header.first_element.Goals as goal
+use Rattle.x509_der_parts.proofs.header.split_first.Goals as goal
 
 pub returns-then-is_empty-clause-first : goal.returns-then-is_empty-clause-first
 returns-then-is_empty-clause-first c = no_first_empty c.args.bytes.now (grind (arith, common_steps))
