@@ -2,7 +2,7 @@
 
 ghost use Rattle.std.specs.Prelude.{◌≡◌, refl, IfOk, IfErr, MatchOption, None, Some};
 ghost use Rattle.x509_der.specs.Calls.{NoWhole};
-ghost use Rattle.x509_der.specs.FirstField.{FirstPart};
+ghost use Rattle.x509_der.specs.FirstField.{FirstPart, StartsContent};
 ghost use Rattle.x509_der.specs.laws.Structure.{structure_lawful, structure_element};
 ghost use Rattle.picky_asn1_x509_parts.specs.Extensions.{subject_key_arcs, authority_key_arcs, constraints_arcs};
 ghost use Rattle.picky_asn1_x509.specs.Certificates.{signature_fields, certificate_parts, certificate_base, certificate, certificate_bytes};
@@ -125,12 +125,14 @@ impl<A: Allocator + Copy> Certificate<A> {
     pub fn read_with_signed_part(alloc: A, bytes: &[u8]) -> Result<SignedRead<'_, Self>, ReadError>
         ensures ok { IfOk result (λ r. FirstPart certificate_parts tbs_certificate signature_fields
             bytes.now r.value r.signed.now r.inside r.outside) }
+        ensures start { IfOk result (λ r. StartsContent bytes.now r.start) }
         ensures err { IfErr result (NoWhole (certificate {A = A}) bytes.now) }
     {
         let read = read_first_field::<Self, TbsCertificate<A>, Signature<A>, A>(alloc, bytes)?;
         Ok(SignedRead {
             value: read.value,
             signed: read.slice,
+            start: read.start,
             inside: read.inside,
             outside: read.outside,
         })

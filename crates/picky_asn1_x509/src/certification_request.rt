@@ -2,7 +2,7 @@
 
 ghost use Rattle.std.specs.Prelude.{◌≡◌, ◌++◌, ◌∷◌, [], refl, IfOk, IfErr, OnOk, OnErr};
 ghost use Rattle.x509_der.specs.Calls.{NoWhole};
-ghost use Rattle.x509_der.specs.FirstField.{FirstPart};
+ghost use Rattle.x509_der.specs.FirstField.{FirstPart, StartsContent};
 ghost use Rattle.x509_der.specs.Items.{items};
 ghost use Rattle.x509_der.specs.Reading.{Ready, Reads};
 ghost use Rattle.x509_der.specs.Tagged.{tagged};
@@ -341,6 +341,7 @@ impl<A: Allocator + Copy> CertificationRequest<A> {
     pub fn read_with_signed_part(alloc: A, bytes: &[u8]) -> Result<SignedRead<'_, Self>, ReadError>
         ensures ok { IfOk result (λ r. FirstPart request_parts request_info signature_fields bytes.now
             r.value r.signed.now r.inside r.outside) }
+        ensures start { IfOk result (λ r. StartsContent bytes.now r.start) }
         ensures err { IfErr result (NoWhole (request {A = A}) bytes.now) }
     {
         let read = read_first_field::<Self, CertificationRequestInfo<A>, Signature<A>, A>(
@@ -349,6 +350,7 @@ impl<A: Allocator + Copy> CertificationRequest<A> {
         Ok(SignedRead {
             value: read.value,
             signed: read.slice,
+            start: read.start,
             inside: read.inside,
             outside: read.outside,
         })

@@ -9,6 +9,8 @@ pub struct SignedRead<'a, T> {
     pub value: T,
     /// The bytes of its first element, as they stand in what was read.
     pub signed: &'a [u8],
+    /// How many bytes of what was read stand before them: the header of the SEQUENCE.
+    pub start: usize,
     /// How many deviations of each kind stand inside those bytes.
     pub inside: Deviations,
     /// How many stand outside of them.

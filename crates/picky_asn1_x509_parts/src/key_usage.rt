@@ -57,6 +57,13 @@ impl<A: Allocator> KeyUsage<A> {
         KeyUsage::new(alloc, 9)
     }
 
+    /// How many bits there are, set or not. It may be more than a `usize` can say. Takes no memory.
+    pub fn len(&self) -> u128
+        ensures { result ≡ length self.now }
+    {
+        self.0.0.get_num_bits()
+    }
+
     /// The bits in bytes, from the top bit of each on; the unused bits of the last byte aren't set.
     pub fn as_bytes(&self) -> &[u8]
         ensures bytes { result.now ≡ payload self.now }

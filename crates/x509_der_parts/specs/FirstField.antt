@@ -36,6 +36,10 @@ pub record FirstPart {T V W : Type 0} (view : T → V × W) (a : Shape V) (b : S
   pub counted : counts ≡ counts_of part.marks
   pub sums : Together counts others (counts_of tally.marks)
 
+-- so many bytes stand before the content of the SEQUENCE that the string is
+abbrev pub StartsContent : List ℕ → ℕ → Type 0
+StartsContent string start = (content : List ℕ) → string ≡ element 48 content → start ≡ header content
+
 -- both fields were read, the first one up to a place, with what was counted there
 pub record BothTaken {V W : Type 0} (a : Shape V) (b : Shape W) (old new : Cursor) (v : V) (w : W) (place : ℕ) (counts : List ℕ) : Type 0 where
   pub mid : Cursor

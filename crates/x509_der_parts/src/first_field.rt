@@ -2,7 +2,7 @@
 
 ghost use Rattle.std.specs.Prelude.{◌≡◌, ◌+◌, ◌≤◌, IfOk, IfErr};
 ghost use Rattle.x509_der_parts.specs.Calls.{NoWhole};
-ghost use Rattle.x509_der_parts.specs.FirstField.{in_sequence, FirstPart, TakesBoth};
+ghost use Rattle.x509_der_parts.specs.FirstField.{in_sequence, FirstPart, StartsContent, TakesBoth};
 ghost use Rattle.x509_der_parts.specs.Join.{Apart};
 ghost use Rattle.x509_der_parts.specs.Reading.{Ready};
 ghost use Rattle.x509_der_parts.specs.declared.errors.ReadError.TheVariants.{OutOfMemory};
@@ -23,6 +23,8 @@ pub struct FirstField<'a, T> {
     pub value: T,
     /// The bytes that encode the value's first field.
     pub slice: &'a [u8],
+    /// How many bytes of the input stand before them: the header of the SEQUENCE.
+    pub start: usize,
     /// How many deviations of each kind stand inside the slice.
     pub inside: Deviations,
     /// How many stand outside of it.
@@ -69,6 +71,7 @@ pub fn read_first_field<
     requires apart { Apart F.shape G.shape }
     ensures ok { IfOk result (λ r. FirstPart T.fields F.shape G.shape bytes.now r.value r.slice.now r.inside
         r.outside) }
+    ensures start { IfOk result (λ r. StartsContent bytes.now r.start) }
     ensures err { IfErr result (NoWhole (in_sequence T.fields F.shape G.shape) bytes.now) }
     ensures frugal { F.shape.frugal → G.shape.frugal → IfErr result (λ e. e ≡ OutOfMemory → ⊥) }
 {
@@ -88,6 +91,7 @@ pub fn read_first_field<
     Ok(FirstField {
         value,
         slice,
+        start,
         inside,
         outside,
     })

@@ -1,5 +1,5 @@
 -- Hash functions, the object identifiers that name them, and the algorithm identifiers of RSASSA-PSS (RFC 4055, 2.1).
-use Rattle.std.specs.Prelude.{ℕ, List, [], ◌∷◌, Option, Some, None}
+use Rattle.std.specs.Prelude.{ℕ, List, [], ◌∷◌, Option, Some, None, codes}
 use Rattle.x509_der.specs.Types.{Deviation}
 use Rattle.x509_der.specs.Types.deviation
 use Rattle.x509_der.specs.Shape.{Shape}
@@ -43,6 +43,17 @@ hash_len hash.SHA3_224 = 28
 hash_len hash.SHA3_256 = 32
 hash_len hash.SHA3_384 = 48
 hash_len hash.SHA3_512 = 64
+
+-- how each is spelled
+abbrev pub hash_function_name : HashAlgorithm → List ℕ
+hash_function_name hash.SHA224 = codes "SHA224"
+hash_function_name hash.SHA256 = codes "SHA256"
+hash_function_name hash.SHA384 = codes "SHA384"
+hash_function_name hash.SHA512 = codes "SHA512"
+hash_function_name hash.SHA3_224 = codes "SHA3_224"
+hash_function_name hash.SHA3_256 = codes "SHA3_256"
+hash_function_name hash.SHA3_384 = codes "SHA3_384"
+hash_function_name hash.SHA3_512 = codes "SHA3_512"
 
 abbrev pub hashes : List HashAlgorithm
 hashes = hash.SHA224 ∷ hash.SHA256 ∷ hash.SHA384 ∷ hash.SHA512 ∷ hash.SHA3_224 ∷ hash.SHA3_256 ∷ hash.SHA3_384 ∷ hash.SHA3_512 ∷ []

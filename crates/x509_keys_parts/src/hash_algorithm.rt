@@ -4,7 +4,7 @@ ghost use Rattle.std.specs.Prelude.{◌≡◌, false, refl, IfOk, IfErr, None, S
 ghost use Rattle.x509_der.specs.ObjectIdentifier.{dotted};
 ghost use Rattle.x509_der.specs.View.{if_found};
 ghost use Rattle.x509_der.specs.laws.Meaning.{seen_lawful, seen_element, sequence_keeps};
-ghost use Rattle.x509_keys_parts.specs.HashAlgorithms.{hash_arcs, hash_len, hash_number, hash_of, hash_name_base, hash_name_meaning, hash_name, null_kinds, hash_inner, hash_base, hash_fields, hash_meaning, hash_algorithm};
+ghost use Rattle.x509_keys_parts.specs.HashAlgorithms.{hash_arcs, hash_function_name, hash_len, hash_number, hash_of, hash_name_base, hash_name_meaning, hash_name, null_kinds, hash_inner, hash_base, hash_fields, hash_meaning, hash_algorithm};
 ghost use Rattle.x509_keys_parts.specs.Unsupported.{Names};
 ghost use Rattle.x509_keys_parts.specs.facts.HashAlgorithmFacts.{hash_name_is, hash_name_keeps, hash_is, few_kinds};
 
@@ -72,6 +72,22 @@ fn known<A: Allocator>(identifier: &ObjectIdentifier<A>) -> Option<HashAlgorithm
 }
 
 impl HashAlgorithm {
+    /// The function's name, as `SHA3_256`.
+    pub fn name(self) -> &'static str
+        ensures { result.now ≡ hash_function_name self }
+    {
+        match self {
+            HashAlgorithm::SHA224 => "SHA224",
+            HashAlgorithm::SHA256 => "SHA256",
+            HashAlgorithm::SHA384 => "SHA384",
+            HashAlgorithm::SHA512 => "SHA512",
+            HashAlgorithm::SHA3_224 => "SHA3_224",
+            HashAlgorithm::SHA3_256 => "SHA3_256",
+            HashAlgorithm::SHA3_384 => "SHA3_384",
+            HashAlgorithm::SHA3_512 => "SHA3_512",
+        }
+    }
+
     /// How many bytes a hash has.
     pub fn len(self) -> usize
         ensures { result ≡ hash_len self }

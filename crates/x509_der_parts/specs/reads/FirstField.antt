@@ -25,7 +25,7 @@ use Rattle.x509_der_parts.specs.laws.Structure.{structure_lawful}
 use Rattle.x509_der_parts.specs.Calls.{NoWhole}
 use Rattle.x509_der_parts.specs.reads.WholeInput.{whole_strict}
 use Rattle.x509_der_parts.specs.Reading.{Cursor, Accepts, Refuses, Entered, tallied}
-use Rattle.x509_der_parts.specs.FirstField.{BothTaken, FirstPart, both_fields, in_sequence}
+use Rattle.x509_der_parts.specs.FirstField.{BothTaken, FirstPart, StartsContent, both_fields, in_sequence}
 
 -- both fields are read, or one of them is refused
 module _ {V W : Type 0} (a : Shape V) (b : Shape W) (la : Lawful a) (lb : Lawful b) (apart : Apart a b) where
@@ -119,6 +119,12 @@ module _ {T V W : Type 0} (view : T → V × W) (inj : (x y : T) → view x ≡ 
           counted = counted;
           sums = λ k. omega (arith, sums k, ap (λ x. get_or x k 0) total);
         })
+
+    -- where the content begins, of the SEQUENCE that the string is
+    pub content_starts : (start : ℕ) → old.at ≡ 0 → start ≡ inner.at → StartsContent string start
+    content_starts start zero begins c e =
+        let k = element_one 48 48 inner.rest c after [] (sym n.bytes ∙ from ∙ e ∙ sym (append-nil (element 48 c))) in
+        begins ∙ n.at ∙ ap (λ x. x + header inner.rest) zero ∙ ap (λ x. 0 + header x) k.content ∙ omega arith
 
     -- where the first field begins and ends
     pub places_in : (j : V × W) (start place : ℕ) (counts : List ℕ) → old.at ≡ 0 → BothTaken a b inner end j.0 j.1 place counts → start ≡ inner.at → (start ≤ place) × (place ≤ length string)

@@ -1,6 +1,6 @@
 use Rattle.std.proofs.Common.{◌-◌, take, drop, refl, sym, ◌∙◌, arith}
 use Rattle.std.proofs.lemmas.Result.{err_from_is_err_and}
-use Rattle.x509_der_parts.specs.reads.FirstField.{both_grow, first_part, places_in, none_entered, none_refused, none_more, none_behind, spares_memory}
+use Rattle.x509_der_parts.specs.reads.FirstField.{both_grow, first_part, content_starts, places_in, none_entered, none_refused, none_more, none_behind, spares_memory}
 use Rattle.x509_der_parts.specs.reads.Optional.{empty_is, not_empty_is}
 use Rattle.x509_der_parts.proofs.first_field.read_first_field.Goals as goal
 
@@ -57,3 +57,9 @@ returns-in_err-fields-clause-frugal g c = λ f h.
     let p = err_from_is_err_and c.from_residual-in_err-fields.result c.from_residual-in_err-fields.ensures.1 in
     rw (p.1, p.2) (spares_memory g.T.Structure.fields g.met.T.Structure.same g.F.Field.shape g.G.Field.shape (g.F.Field.lawful r.first) (g.G.Field.lawful r.second) r.apart c.whole_reader-reader.result c.enter.new.self c.read_both.new.reader c.in_ok-behind.behind.now c.args.bytes.now c.whole_reader-reader.ensures.rest c.in_ok-behind.ensures.enters
     _ c.whole_reader-reader.ensures.places c.in_err-fields.ensures f h)
+
+pub returns-clause-start : goal.returns-clause-start
+returns-clause-start g c =
+    let r = c.requires in
+    content_starts g.T.Structure.fields g.met.T.Structure.same g.F.Field.shape g.G.Field.shape (g.F.Field.lawful r.first) (g.G.Field.lawful r.second) r.apart c.whole_reader-reader.result c.enter.new.self c.read_both.new.reader c.in_ok-behind.behind.now c.args.bytes.now c.whole_reader-reader.ensures.rest c.in_ok-behind.ensures.enters
+    c.spot-start.result.start c.whole_reader-reader.ensures.at c.spot-start.ensures.start
