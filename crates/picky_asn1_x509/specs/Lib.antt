@@ -9,6 +9,7 @@ pub use Rattle.x509_der.specs.DefinedBy
 pub use Rattle.x509_der.specs.Deviations
 pub use Rattle.x509_der.specs.Element
 pub use Rattle.x509_der.specs.Fields
+pub use Rattle.x509_der.specs.FirstElement
 pub use Rattle.x509_der.specs.FirstField
 pub use Rattle.x509_der.specs.Integer
 pub use Rattle.x509_der.specs.Items
@@ -23,6 +24,7 @@ pub use Rattle.x509_der.specs.Prefixed
 pub use Rattle.x509_der.specs.PrimitiveContent
 pub use Rattle.x509_der.specs.RawElement
 pub use Rattle.x509_der.specs.RawIn
+pub use Rattle.x509_der.specs.ReadErrors
 pub use Rattle.x509_der.specs.Reading
 pub use Rattle.x509_der.specs.RoundTrip
 pub use Rattle.x509_der.specs.Shape

@@ -11,6 +11,7 @@ pub use Rattle.x509_der.specs.Types.deviation
 pub use Rattle.x509_der.specs.Types.{Place}
 pub use Rattle.x509_der.specs.Types.{ReadError}
 pub use Rattle.x509_der.specs.Types.read_error
+pub use Rattle.x509_der.specs.Types.{Refused}
 pub use Rattle.x509_der.specs.Types.{WriteError}
 pub use Rattle.x509_der.specs.Types.write_error
 pub use Rattle.x509_der.specs.Types.{SliceError}
