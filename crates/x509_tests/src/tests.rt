@@ -7,6 +7,7 @@ mod certificates;
 mod character_strings;
 mod clones;
 mod elements;
+mod explained;
 mod extension_lists;
 mod extensions;
 mod fields;
