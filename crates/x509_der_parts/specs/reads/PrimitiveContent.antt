@@ -5,6 +5,7 @@ use Rattle.x509_der_parts.specs.declared.errors.ReadError.TheVariants.{OutOfMemo
 use Rattle.x509_der_parts.specs.Tally.{none}
 use Rattle.x509_der_parts.specs.laws.PrimitiveContent.{ends, IsPlain, itself_plain}
 use Rattle.x509_der_parts.specs.PrimitiveContent.{plain, IsItself, IsBytes, itself}
+use Rattle.x509_der_parts.specs.Element.{AreBytes}
 use Rattle.x509_der_parts.specs.RawElement.{Raw, raws, one_header}
 use Rattle.x509_der_parts.specs.laws.RawElement.{raws_lawful, follows_free}
 use Rattle.x509_der_parts.specs.Reading.{Cursor, Ready, Moved, Accepts, Refuses, TakesRest, RawTaken}
@@ -57,9 +58,9 @@ module _ {V : Type 0} (Is : V → List ℕ → Type 0) (of : V → List ℕ) (Ok
 pub itself_accepts : (Allowed : List ℕ → Type 0) (old new : Cursor) (c v : List ℕ) → Ready old → TakesRest old new c → c ≡ v → Allowed v → Accepts (itself Allowed) old new v
 itself_accepts Allowed old new c v r t e a = plain_accepts (IsItself Allowed) (λ v. v) (IsBytes Allowed) ⊥ (itself_plain Allowed) old new c v r t ((rw e at t.bytes, a), e)
 
-pub raw_accepts : (old new : Cursor) (v p : List ℕ) → Ready old → RawTaken old new p → v ≡ p → new.headers ≡ old.headers + 1 → new.counts ≡ old.counts → new.at + length new.rest ≡ old.at + length old.rest → new.places ≡ old.places → Accepts raws old new v
-raw_accepts old new v p r t e h c at places =
-    let s : Raw v p one_header = record { is = t.raw; bytes = sym e; tally = refl } in
+pub raw_accepts : (old new : Cursor) (v p : List ℕ) → Ready old → AreBytes p → RawTaken old new p → v ≡ p → new.headers ≡ old.headers + 1 → new.counts ≡ old.counts → new.at + length new.rest ≡ old.at + length old.rest → new.places ≡ old.places → Accepts raws old new v
+raw_accepts old new v p r b t e h c at places =
+    let s : Raw v p one_header = record { is = t.raw; each = b; bytes = sym e; tally = refl } in
     let m : Moved old new p one_header = record { rest = t.rest; at = omega (arith, at, ap length t.rest, length-append p new.rest); headers = h; counts = c; places = places ∙ sym (placed_none old.at old.places) } in
     record {
       bytes = p;
@@ -68,5 +69,5 @@ raw_accepts old new v p r t e h c at places =
       moved = m;
       ready = ready_after old new p one_header r m (raws_lawful.cost v p one_header s) (omega arith);
       min_headers = λ n z. z;
-      only = λ w q q2 z b g f. raws_lawful.one w v q p q2 new.rest z one_header b s (sym g ∙ t.rest) f (follows_free (λ x. false) (λ x. refl) new.rest);
+      only = λ w q q2 z d g f. raws_lawful.one w v q p q2 new.rest z one_header d s (sym g ∙ t.rest) f (follows_free (λ x. false) (λ x. refl) new.rest);
     }
