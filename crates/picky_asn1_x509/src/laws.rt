@@ -35,7 +35,7 @@ pub use x509_keys::laws::{
     digest_info_fields, ec_private_key_fields, hash_fields, hash_identifiers, mask_gen_fields,
     private_key_fields, private_keys_are_elements, private_keys_inside, private_keys_read_back,
     public_keys_read_back, raw_algorithm_fields, rsa_private_key_fields, rsa_public_key_fields,
-    rsassa_pss_fields, sha_identifiers, subject_public_key_fields, two_raw_algorithms,
+    rsassa_pss_fields, sha_identifiers, subject_public_key_fields,
 };
 pub use x509_names::laws::{
     attribute_fields as attribute_type_and_value_fields, attributes_read_back,

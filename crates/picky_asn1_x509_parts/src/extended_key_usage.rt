@@ -13,8 +13,8 @@ use std::alloc::{AllocError, Allocator, Global};
 use std::marker::Model;
 use std::slice;
 use x509_der::parts::{
-    Content, ContentOf, Field, OneTag, Reader, SEQUENCE_TAG, ToContent, element_len, read_element,
-    write_element,
+    Constructed, Content, ContentOf, Field, OneTag, Reader, SEQUENCE_TAG, ToContent, element_len,
+    read_element, write_element,
 };
 use x509_der::{
     Asn1SequenceOf, CloneEq, FromDer, ObjectIdentifier, ObjectIdentifierAsn1, ReadError, SameEq,
@@ -201,7 +201,11 @@ impl<A: Allocator + Copy> FromDer<A> for ExtendedKeyUsage<A> {
 }
 
 impl<A: Allocator + Copy> OneTag<A> for ExtendedKeyUsage<A> {
+    type Form = Constructed;
+
     ghost tag = { 48 };
+
+    ghost form = { refl };
 
     ghost spelled_around = { λ v p y. (λ s. s, λ s. s) };
 

@@ -11,7 +11,8 @@ ghost use Rattle.picky_asn1_x509_parts.specs.KeyUsages.{key_usage, put};
 use std::alloc::{AllocError, Allocator, Global};
 use std::marker::Model;
 use x509_der::parts::{
-    Content, ContentOf, Field, OneTag, Reader, ToContent, element_len, read_element, write_element,
+    BIT_STRING_TAG, Content, ContentOf, Field, OneTag, Primitive, Reader, ToContent, element_len,
+    read_element, write_element,
 };
 use x509_der::{BitString, BitStringAsn1, CloneEq, FromDer, ReadError, SameEq, ToDer, TooLong};
 
@@ -305,9 +306,6 @@ impl<A: Allocator> SameEq for KeyUsage<A> {
     ghost decides = { Prim.search (rules, bits_decide) };
 }
 
-/// The tag of a BIT STRING.
-const BITS_TAG: u8 = 3;
-
 impl<A: Allocator> ToContent for KeyUsage<A> {
     ghost content = { bit_content };
 
@@ -324,11 +322,11 @@ impl<A: Allocator> ToDer for KeyUsage<A> {
     ghost strict = { λ v. element 3 (bit_content v) };
 
     fn encoded_len(&self) -> Result<usize, TooLong> {
-        element_len(BITS_TAG, &ContentOf(self))
+        element_len(BIT_STRING_TAG, &ContentOf(self))
     }
 
     fn write_back(&self, out: &mut [u8]) -> usize {
-        write_element(BITS_TAG, &ContentOf(self), out)
+        write_element(BIT_STRING_TAG, &ContentOf(self), out)
     }
 }
 
@@ -362,13 +360,13 @@ impl<A: Allocator + Copy> Field<A> for KeyUsage<A> {
     ghost agrees = { λ v. refl };
 
     fn starts(byte: u8) -> bool {
-        byte == BITS_TAG
+        byte == BIT_STRING_TAG
     }
 
     fn known(&self) {}
 
     fn read(alloc: A, reader: &mut Reader<'_, A>) -> Result<Self, ReadError> {
-        let ContentOf(value) = read_element(alloc, BITS_TAG, reader)?;
+        let ContentOf(value) = read_element(alloc, BIT_STRING_TAG, reader)?;
         Ok(value)
     }
 }
@@ -380,7 +378,11 @@ impl<A: Allocator + Copy> FromDer<A> for KeyUsage<A> {
 }
 
 impl<A: Allocator + Copy> OneTag<A> for KeyUsage<A> {
+    type Form = Primitive;
+
     ghost tag = { 3 };
+
+    ghost form = { refl };
 
     ghost spelled_around = { λ v p y. (λ s. s, λ s. s) };
 

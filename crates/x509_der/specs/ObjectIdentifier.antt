@@ -1,7 +1,8 @@
--- Facts about object identifiers: their content is read back, one way.
+-- Object identifiers: their arcs, and how these are encoded (X.690, 8.19) and printed.
 use Rattle.std.specs.Prelude.{◌≡◌, ℕ, ◌+◌, ◌*◌, ◌-◌, List, [], ◌∷◌, ◌++◌, Option, Some, None, Bool, true, false, ◌==◌, ◌&&◌, if◌then◌else◌, nat_lt, ◌≢◌, nat_eq, zero, suc, ◌/◌, ◌%◌, ◌<◌, ◌≤◌, ◌^◌, length, slice_index, EachIndex, map}
 use Rattle.std.specs.List.{flat_map, join_with_byte}
 use Rattle.std.specs.Fmt.{decimal}
+use Rattle.std.specs.Cmp.Lexicographic.{pointwise}
 use Rattle.x509_der_parts.specs.Shape.{Shape}
 use Rattle.x509_der_parts.specs.PrimitiveContent.{plain}
 -- for the proofs of literal texts
@@ -52,6 +53,10 @@ pub record IsLawful (arcs : List ℕ) : Type 0 where
   pub second : slice_index arcs 0 < 2 → slice_index arcs 1 < 40
   pub both : 40 * slice_index arcs 0 + slice_index arcs 1 < 2 ^ 64
   pub each : EachIndex arcs (λ k. slice_index arcs k < 2 ^ 64)
+
+-- whether arcs are the same
+abbrev pub is_arcs : List ℕ → List ℕ → Bool
+is_arcs x y = pointwise nat_eq x y
 
 -- the arcs begin with front, and more follow
 pub record IsUnder (front arcs : List ℕ) : Type 0 where

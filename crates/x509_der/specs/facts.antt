@@ -13,8 +13,11 @@ pub use Rattle.x509_der_parts.specs.facts.SameEq
 pub use Rattle.x509_der_parts.specs.facts.Tally
 pub use Rattle.x509_der_parts.specs.facts.Writing
 pub mod Alternatives
+pub mod ArcLists
 pub mod Lasts
+pub mod Named
 pub mod Partly
+pub mod Retagged
 pub mod ObjectIdentifier
 pub mod BitEdits
 pub mod BitString

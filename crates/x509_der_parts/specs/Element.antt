@@ -27,6 +27,10 @@ AreBytes s = (k : ℕ) → slice_index s k < 256
 abbrev pub is_tag : ℕ → Bool
 is_tag t = not (t % 32 == 31)
 
+-- bit 6 of a tag: 1 where the content is constructed (8.1.2.5)
+abbrev pub form_bit : ℕ → ℕ
+form_bit t = t / 32 % 2
+
 -- p is one element
 pub record IsRaw (p : List ℕ) : Type 0 where
   pub tag : ℕ

@@ -5,7 +5,7 @@ ghost use Rattle.std.specs.Prelude.{◌≡◌};
 use crate::errors::{ReadError, TooLong};
 use crate::reader::Reader;
 use crate::tagged::Tagged;
-use crate::traits::{Content, Field, FromDer, Tag, ToContent, ToDer};
+use crate::traits::{Content, Field, FromDer, OneTag, TagOf, ToContent, ToDer};
 use std::alloc::Allocator;
 use std::marker::Model;
 
@@ -59,8 +59,9 @@ impl<A: Allocator + Copy, T: Content<A>> Field<A> for ContentOf<T> {
     }
 }
 
-/// A type under an implicit tag is read alone too.
-impl<A: Allocator + Copy, N: Tag, T: Content<A> + Drop> FromDer<A> for Tagged<N, ContentOf<T>> {
+/// A type under an implicit tag is read alone too, where it has one tag of the same form: no CHOICE (X.680, 31.2.7), and
+/// no primitive tag around a list (X.690, 8.14).
+impl<A: Allocator + Copy, N: TagOf<T::Form>, T: OneTag<A>> FromDer<A> for Tagged<N, ContentOf<T>> {
     ghost always = { T.content_always };
 
     ghost whole = { tt };

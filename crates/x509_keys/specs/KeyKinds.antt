@@ -1,7 +1,8 @@
 -- Which keys an algorithm has, by its object identifier.
 use Rattle.std.specs.Prelude.{ℕ, if◌then◌else◌, List, [], ◌∷◌}
 use Rattle.std.specs.List.{list_any}
-use Rattle.x509_keys_parts.specs.AlgorithmKinds.{is_arcs, ec_public_key_algorithm}
+use Rattle.x509_der.specs.ObjectIdentifier.{is_arcs}
+use Rattle.x509_keys_parts.specs.AlgorithmKinds.{ec_public_key_algorithm}
 use Rattle.x509_keys.specs.declared.key_kind.KeyKind.{KeyKind}
 use Rattle.x509_keys.specs.declared.key_kind.KeyKind.TheVariants as kinds
 

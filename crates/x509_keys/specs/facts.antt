@@ -9,13 +9,12 @@ pub use Rattle.x509_keys_parts.specs.facts.EcParameters
 pub mod EcPrivateKeys
 pub use Rattle.x509_keys_parts.specs.facts.HashAlgorithmFacts
 pub mod KeyPlaces
-pub use Rattle.x509_keys_parts.specs.facts.Named
+pub use Rattle.x509_der.specs.facts.Named
 pub use Rattle.x509_keys_parts.specs.facts.NaturalContents
 pub mod PrivateKeyInfos
 pub mod PrivateKeyPlaces
 pub mod PrivateKeyValues
 pub mod PublicKeys
-pub use Rattle.x509_keys_parts.specs.facts.RawAlgorithm
 pub use Rattle.x509_keys_parts.specs.facts.RawAlgorithmFacts
 pub use Rattle.x509_keys_parts.specs.facts.RawAlgorithmSame
 pub mod ReadBack

@@ -1,12 +1,11 @@
 //! Which keys an algorithm has.
 
 ghost use Rattle.std.specs.Prelude.{◌≡◌};
-ghost use Rattle.std.specs.List.{list_any};
-ghost use Rattle.x509_keys_parts.specs.AlgorithmKinds.{is_arcs};
 ghost use Rattle.x509_keys.specs.KeyKinds.{key_kind};
 
 use std::alloc::Allocator;
 use x509_der::ObjectIdentifier;
+use x509_keys_parts::algorithm_parameters::is_among;
 
 /// What an object identifier says of the keys of an algorithm.
 #[derive(Debug, Drop, Clone, Copy, PartialEq, Eq)]
@@ -37,13 +36,6 @@ const MLDSA_ALGORITHMS: &[&[u64]] = &[
     &[2, 16, 840, 1, 101, 3, 4, 3, 18],
     &[2, 16, 840, 1, 101, 3, 4, 3, 19],
 ];
-
-/// Whether the arcs of an object identifier stand in a table.
-fn is_among<A: Allocator>(identifier: &ObjectIdentifier<A>, table: &[&[u64]]) -> bool
-    ensures { result ≡ list_any (λ arcs. is_arcs identifier.now arcs.now) table.now }
-{
-    table.iter().any(|arcs| identifier.is_arcs(*arcs))
-}
 
 /// The kind of keys that an object identifier says.
 pub fn key_kind<A: Allocator>(identifier: &ObjectIdentifier<A>) -> KeyKind

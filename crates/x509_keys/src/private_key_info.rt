@@ -1,9 +1,9 @@
 //! Private keys and their algorithms.
 
 ghost use Rattle.std.specs.Prelude.{◌≡◌, [], ◌∷◌, Option, Some, None, IfOk, if◌then◌else◌, refl};
-ghost use Rattle.x509_der.specs.BitString.{bit_content};
 ghost use Rattle.x509_der.specs.Element.{element};
-ghost use Rattle.x509_der.specs.Optional.{optional};
+ghost use Rattle.x509_der.specs.Optional.{optional, optional_strict};
+ghost use Rattle.x509_der.specs.Types.read_error.{BadVersion, OutOfMemory};
 ghost use Rattle.x509_der.specs.View.{if_found};
 ghost use Rattle.x509_der.specs.laws.Meaning.{sequence_keeps, seen_lawful, seen_element};
 ghost use Rattle.x509_keys.specs.PrivateKeyInfos.{is_version, is_skipped, skipped_kinds, info_public_key, info_inner, info_base, info_meaning, private_key_info, info_bytes, curve_unless, version_with, rsa_info, ec_info, ed_info};
@@ -18,9 +18,8 @@ use crate::private_key_value::PrivateKeyValue;
 use crate::rsa_private_key::RsaPrivateKey;
 use std::alloc::{AllocError, Allocator, Global};
 use x509_der::parts::{
-    AnyDefinedBy, BIT_STRING_TAG, DefinedBy, Explicit1, Field, Found, Join, Optional, Reader,
-    Refusal, SEQUENCE_TAG, Sequence, Tag, Tagged, View, clone_three, element_len, read_viewed_or,
-    write_bytes, write_element,
+    AnyDefinedBy, DefinedBy, Explicit1, Field, Found, Join, LentBits, Optional, Reader, Refusal,
+    SEQUENCE_TAG, Sequence, Tag, Tagged, View, clone_three, read_viewed_or,
 };
 use x509_der::{
     BitString, BitStringAsn1, CloneEq, Deviation, FromDer, IntegerAsn1, ObjectIdentifier,
@@ -308,59 +307,17 @@ impl Tags for SkippedTags {
     }
 }
 
-/// The content of a BIT STRING, borrowed.
-#[derive(Drop)]
-struct BitContent<'a, A: Allocator>(&'a BitString<A>);
+/// The public key under its tag, where there is one.
+type WrittenPublicKey<'a> = Optional<Tagged<Explicit1, LentBits<'a>>>;
 
-impl<'a, A: Allocator> ToDer for BitContent<'a, A> {
-    ghost strict = { λ b. bit_content b.0.now };
-
-    fn encoded_len(&self) -> Result<usize, TooLong> {
-        self.0.payload_view().len().checked_add(1).ok_or(TooLong)
-    }
-
-    fn write_back(&self, out: &mut [u8]) -> usize {
-        let start = write_bytes(self.0.payload_view(), out) - 1;
-        out[start] = self.0.get_num_unused_bits();
-        start
-    }
-}
-
-/// A BIT STRING, borrowed.
-#[derive(Drop)]
-struct Bits<'a, A: Allocator>(&'a BitString<A>);
-
-impl<'a, A: Allocator> ToDer for Bits<'a, A> {
-    ghost strict = { λ b. element 3 (bit_content b.0.now) };
-
-    fn encoded_len(&self) -> Result<usize, TooLong> {
-        element_len(BIT_STRING_TAG, &BitContent(self.0))
-    }
-
-    fn write_back(&self, out: &mut [u8]) -> usize {
-        write_element(BIT_STRING_TAG, &BitContent(self.0), out)
-    }
-}
-
-/// The public key under its tag, where there is one, borrowed.
-#[derive(Drop)]
-struct PublicBits<'a, A: Allocator>(&'a Option<BitString<A>>);
-
-impl<'a, A: Allocator> ToDer for PublicBits<'a, A> {
-    ghost strict = { λ b. (optional info_public_key).strict b.0.now };
-
-    fn encoded_len(&self) -> Result<usize, TooLong> {
-        match self.0 {
-            Some(bits) => element_len(Explicit1::BYTE, &Bits(bits)),
-            None => Ok(0),
-        }
-    }
-
-    fn write_back(&self, out: &mut [u8]) -> usize {
-        match self.0 {
-            Some(bits) => write_element(Explicit1::BYTE, &Bits(bits), out),
-            None => out.len(),
-        }
+/// The public key, to be written, where there is one.
+fn lent_public_key<A: Allocator>(public_key: &Option<BitString<A>>) -> WrittenPublicKey<'_>
+    ensures { optional_strict (λ b. element 161 (element 3 b)) result ≡ optional_strict info_public_key.strict
+        public_key.now }
+{
+    match public_key {
+        Some(bits) => Optional(Some(Tagged::new(LentBits::of(bits)))),
+        None => Optional(None),
     }
 }
 
@@ -368,21 +325,26 @@ impl<'a, A: Allocator> ToDer for PublicBits<'a, A> {
 type WrittenKey<'a, A> = DefinedBy<&'a AlgorithmIdentifier<A>, &'a PrivateKeyValue<A>>;
 
 /// The fields that are written, borrowed.
-type Written<'a, A> = Tagged<Sequence, Join<&'a u8, Join<WrittenKey<'a, A>, PublicBits<'a, A>>>>;
+type Written<'a, A> = Tagged<Sequence, Join<&'a u8, Join<WrittenKey<'a, A>, WrittenPublicKey<'a>>>>;
+
+/// The fields of a private key, to be written.
+fn written<A: Allocator>(value: &PrivateKeyInfo<A>) -> Written<'_, A>
+    ensures { ⟦<Written<'static, A> as ToDer>⟧.strict result ≡ info_bytes value.now }
+{
+    let key = DefinedBy(&value.private_key_algorithm, &value.private_key);
+    let rest = Join(key, lent_public_key(&value.public_key));
+    Tagged::new(Join(&value.version, rest))
+}
 
 impl<A: Allocator> ToDer for PrivateKeyInfo<A> {
     ghost strict = { info_bytes };
 
     fn encoded_len(&self) -> Result<usize, TooLong> {
-        let key = DefinedBy(&self.private_key_algorithm, &self.private_key);
-        let rest = Join(key, PublicBits(&self.public_key));
-        Written::new(Join(&self.version, rest)).encoded_len()
+        written(self).encoded_len()
     }
 
     fn write_back(&self, out: &mut [u8]) -> usize {
-        let key = DefinedBy(&self.private_key_algorithm, &self.private_key);
-        let rest = Join(key, PublicBits(&self.public_key));
-        Written::new(Join(&self.version, rest)).write_back(out)
+        written(self).write_back(out)
     }
 }
 
@@ -466,7 +428,10 @@ impl<A: Allocator + Copy> View<Fields<A>> for PrivateKeyInfo<A> {
 }
 
 impl<A: Allocator + Copy> Refusal<Fields<A>> for PrivateKeyInfo<A> {
-    fn refusal(_parts: &Fields<A>) -> ReadError {
+    fn refusal(_parts: &Fields<A>) -> ReadError
+        ensures memory { result ≡ OutOfMemory → ⊥ }
+        ensures name { result ≡ BadVersion }
+    {
         ReadError::BadVersion
     }
 }

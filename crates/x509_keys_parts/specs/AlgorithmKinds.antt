@@ -1,13 +1,9 @@
 -- Which parameters an algorithm has, by its object identifier.
-use Rattle.std.specs.Prelude.{ℕ, Bool, nat_eq, ◌||◌, if◌then◌else◌, List, [], ◌∷◌}
+use Rattle.std.specs.Prelude.{ℕ, Bool, ◌||◌, if◌then◌else◌, List, [], ◌∷◌}
 use Rattle.std.specs.List.{list_any}
-use Rattle.std.specs.Cmp.Lexicographic.{pointwise}
-use Rattle.x509_der.specs.ObjectIdentifier.{is_strictly_under}
+use Rattle.x509_der.specs.ObjectIdentifier.{is_arcs, is_strictly_under}
 use Rattle.x509_keys_parts.specs.declared.algorithm_parameters.AlgorithmKind.{AlgorithmKind}
 use Rattle.x509_keys_parts.specs.declared.algorithm_parameters.AlgorithmKind.TheVariants as kinds
-
-abbrev pub is_arcs : List ℕ → List ℕ → Bool
-is_arcs x y = pointwise nat_eq x y
 
 -- rsaEncryption, and RSASSA-PKCS1-v1_5 with SHA-1, SHA-224, SHA-256, SHA-384 and SHA-512 (RFC 8017, A.1 and A.2.4),
 -- and with SHA3-224, SHA3-256, SHA3-384 and SHA3-512 (NIST, Computer Security Objects Register, sigAlgs)

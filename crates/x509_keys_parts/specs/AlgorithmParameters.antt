@@ -8,10 +8,10 @@ use Rattle.x509_der.specs.Element.{element}
 use Rattle.x509_der.specs.Shape.{Shape}
 use Rattle.x509_der.specs.Tagged.{tagged}
 use Rattle.x509_der.specs.Optional.{optional}
-use Rattle.x509_der.specs.PrimitiveContent.{nothing}
 use Rattle.x509_der.specs.Variant.{variant, no_variant, bare}
 use Rattle.x509_keys_parts.specs.AesParameters.{aes_parameters}
 use Rattle.x509_keys_parts.specs.EcParameters.{ec_parameters}
+use Rattle.x509_keys_parts.specs.HashAlgorithms.{null}
 use Rattle.x509_keys_parts.specs.RsassaPss.{rsassa_pss}
 use Rattle.x509_keys_parts.specs.declared.algorithm_parameters.AlgorithmIdentifierParameters.TheVariants as parameters
 use Rattle.x509_keys_parts.specs.declared.algorithm_parameters.AlgorithmKind.TheVariants as kinds
@@ -40,10 +40,6 @@ if_null (Some u) = parameters.Null
 abbrev pub if_aes : {A : Type 0} → Option (AesParameters A) → AlgorithmIdentifierParameters A
 if_aes None = parameters.None
 if_aes (Some p) = parameters.Aes p
-
--- NULL
-abbrev pub null : Shape (Unit {0})
-null = tagged 5 nothing
 
 -- how the parameters of a kind are spelled: NULL OPTIONAL; RSASSA-PSS-params; EcParameters; nothing; AesParameters OPTIONAL; NULL; and of an unknown kind not at all
 abbrev pub by_kind : {A : Type 0} → AlgorithmKind → Shape (AlgorithmIdentifierParameters A)

@@ -10,7 +10,7 @@ use Rattle.x509_der.specs.PrimitiveContent.{nothing}
 use Rattle.x509_der.specs.ObjectIdentifier.{oids}
 use Rattle.x509_der.specs.View.{Meaning, seen}
 use Rattle.x509_der.specs.Partly.{partly}
-use Rattle.x509_keys_parts.specs.Named.{named}
+use Rattle.x509_der.specs.Named.{named}
 use Rattle.x509_keys_parts.specs.declared.hash_algorithm.HashAlgorithm.{HashAlgorithm}
 use Rattle.x509_keys_parts.specs.declared.hash_algorithm.HashAlgorithm.TheVariants as hash
 

@@ -9,7 +9,7 @@ pub mod DigestInfos
 pub mod EcParameters
 pub mod HashAlgorithms
 pub mod HashLaws
-pub mod Named
+pub use Rattle.x509_der.specs.Named
 pub mod RawAlgorithm
 pub mod RsaSignatures
 pub mod RsassaPss

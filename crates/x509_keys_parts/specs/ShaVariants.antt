@@ -1,6 +1,6 @@
 -- Hash functions by name, and the object identifiers that name them.
 use Rattle.std.specs.Prelude.{ℕ, List, [], ◌∷◌, Option, codes}
-use Rattle.x509_keys_parts.specs.Named.{named}
+use Rattle.x509_der.specs.Named.{named}
 use Rattle.x509_keys_parts.specs.HashAlgorithms.{nist_hash}
 use Rattle.x509_keys_parts.specs.declared.sha_variant.ShaVariant.{ShaVariant}
 use Rattle.x509_keys_parts.specs.declared.sha_variant.ShaVariant.TheVariants as sha

@@ -7,9 +7,9 @@ pub mod AlgorithmParameters
 pub mod DigestInfoFacts
 pub mod EcParameters
 pub mod HashAlgorithmFacts
-pub mod Named
+pub use Rattle.x509_der.specs.facts.Named
+pub mod NamedErrors
 pub mod NaturalContents
-pub mod RawAlgorithm
 pub mod RawAlgorithmFacts
 pub mod RawAlgorithmSame
 pub mod RsassaPssFacts

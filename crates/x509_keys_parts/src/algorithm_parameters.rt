@@ -3,7 +3,8 @@
 ghost use Rattle.std.specs.Prelude.{◌≡◌, true, refl, IfOk};
 ghost use Rattle.std.specs.List.{list_any};
 ghost use Rattle.x509_der.specs.Reading.{Ready, Reads};
-ghost use Rattle.x509_keys_parts.specs.AlgorithmKinds.{is_arcs, kind_of as kind_by};
+ghost use Rattle.x509_der.specs.ObjectIdentifier.{is_arcs};
+ghost use Rattle.x509_keys_parts.specs.AlgorithmKinds.{kind_of as kind_by};
 ghost use Rattle.x509_keys_parts.specs.AlgorithmParameters.{parameters_bytes, AreParameters, if_null, if_aes, by_kind, parameters_avoid};
 
 use crate::aes::AesParameters;
@@ -129,7 +130,7 @@ const BARE_ALGORITHMS: &[&[u64]] = &[
 ];
 
 /// Whether the arcs of an object identifier stand in a table.
-fn is_among<A: Allocator>(identifier: &ObjectIdentifier<A>, table: &[&[u64]]) -> bool
+pub fn is_among<A: Allocator>(identifier: &ObjectIdentifier<A>, table: &[&[u64]]) -> bool
     ensures { result ≡ list_any (λ arcs. is_arcs identifier.now arcs.now) table.now }
 {
     table.iter().any(|arcs| identifier.is_arcs(*arcs))

@@ -17,8 +17,8 @@ use crate::hash_algorithm::HashAlgorithm;
 use crate::rsassa_pss::{MaskGenAlgorithm, RsassaPssParams};
 use std::alloc::{AllocError, Allocator, Global};
 use x509_der::parts::{
-    Content, Field, Join, OneTag, Reader, SEQUENCE_TAG, Sequence, Structure, Tagged, ToContent,
-    clone_both, element_len, read_as_content, read_sequence, write_element,
+    Constructed, Content, Field, Join, OneTag, Reader, SEQUENCE_TAG, Sequence, Structure, Tagged,
+    ToContent, clone_both, element_len, read_as_content, read_sequence, write_element,
 };
 use x509_der::{CloneEq, FromDer, OctetStringAsn1, ReadError, SameEq, ToDer, TooLong};
 
@@ -146,7 +146,11 @@ impl<A: Allocator + Copy> FromDer<A> for DigestInfo<A> {
 }
 
 impl<A: Allocator + Copy> OneTag<A> for DigestInfo<A> {
+    type Form = Constructed;
+
     ghost tag = { 48 };
+
+    ghost form = { refl };
 
     ghost spelled_around = { λ v p y. tagged_fields 48 digest_info_parts digest_info_inner v p y };
 

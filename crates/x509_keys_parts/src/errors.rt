@@ -1,6 +1,6 @@
 //! Why an algorithm isn't taken.
 
-ghost use Rattle.std.specs.Prelude.{◌≡◌};
+ghost use Rattle.std.specs.Prelude.{◌≡◌, IfOk, IfErr};
 ghost use Rattle.x509_der.specs.ObjectIdentifier.{dotted};
 ghost use Rattle.x509_keys_parts.specs.Unsupported.{Names};
 
@@ -40,6 +40,17 @@ impl<A: Allocator> From<AllocError> for AlgorithmError<A> {
     }
 }
 
+/// The error that names an algorithm by a text; where there was no memory for the text, want of it.
+pub(crate) fn named_by<A: Allocator>(text: Result<String<A>, AllocError>) -> AlgorithmError<A>
+    ensures text { IfOk text (λ algorithm. result ≡ AlgorithmError.Unsupported (record { algorithm = algorithm })) }
+    ensures memory { IfErr text (λ _. result ≡ AlgorithmError.OutOfMemory) }
+{
+    match text {
+        Ok(algorithm) => AlgorithmError::Unsupported(UnsupportedAlgorithmError { algorithm }),
+        Err(refused) => AlgorithmError::from(refused),
+    }
+}
+
 /// The error of an object identifier that isn't understood: its dotted text, or want of memory for that.
 pub(crate) fn unsupported<A: Allocator>(
     alloc: A,
@@ -47,8 +58,5 @@ pub(crate) fn unsupported<A: Allocator>(
 ) -> AlgorithmError<A>
     ensures { Names result (dotted identifier.now) }
 {
-    match identifier.to_string(alloc) {
-        Ok(algorithm) => AlgorithmError::Unsupported(UnsupportedAlgorithmError { algorithm }),
-        Err(refused) => AlgorithmError::from(refused),
-    }
+    named_by(identifier.to_string(alloc))
 }

@@ -13,13 +13,12 @@ use std::alloc::{AllocError, Allocator, Global};
 use std::marker::Model;
 use x509_der::parts::{
     Field, Found, Join, OBJECT_IDENTIFIER_TAG, Optional, Reader, SEQUENCE_TAG, Sequence, Tagged,
-    View, read_viewed, write_bytes,
+    View, from_lawful, read_viewed, write_bytes,
 };
 use x509_der::{
     CloneEq, Deviation, FromDer, ObjectIdentifier, ObjectIdentifierAsn1, ReadError, SameEq, ToDer,
     TooLong,
 };
-use x509_oids_algorithms as oids;
 
 /// A hash function.
 ///
@@ -143,19 +142,11 @@ impl HashAlgorithm {
     ///
     /// # Errors
     /// `AllocError` where memory is refused.
+    #[tactic(auto, using(crate::specs::facts::HashAlgorithmFacts::arcs_lawful))]
     pub fn to_oid<A: Allocator>(self, alloc: A) -> Result<ObjectIdentifier<A>, AllocError>
         ensures { IfOk result (λ o. o ≡ hash_arcs self) }
     {
-        match self {
-            HashAlgorithm::SHA224 => oids::sha224(alloc),
-            HashAlgorithm::SHA256 => oids::sha256(alloc),
-            HashAlgorithm::SHA384 => oids::sha384(alloc),
-            HashAlgorithm::SHA512 => oids::sha512(alloc),
-            HashAlgorithm::SHA3_224 => oids::sha3_224(alloc),
-            HashAlgorithm::SHA3_256 => oids::sha3_256(alloc),
-            HashAlgorithm::SHA3_384 => oids::sha3_384(alloc),
-            HashAlgorithm::SHA3_512 => oids::sha3_512(alloc),
-        }
+        from_lawful(alloc, self.arcs())
     }
 
     /// The hash function that an object identifier names. Takes memory only where there is none.

@@ -1,6 +1,6 @@
 //! Laws of the types of this crate. A function here does nothing when it runs: its contract is the law.
 
-ghost use Rattle.std.specs.Prelude.{◌≡◌, ◌∷◌, ◌++◌, [], ℕ, List, Some, true};
+ghost use Rattle.std.specs.Prelude.{◌≡◌, ◌∷◌, ◌++◌, ◌↔◌, [], ℕ, List, Some, true};
 ghost use Rattle.x509_der.specs.Tally.{Tally};
 ghost use Rattle.x509_der.specs.Element.{element};
 ghost use Rattle.x509_der.specs.Tagged.{tagged};
@@ -16,7 +16,7 @@ ghost use Rattle.x509_keys_parts.specs.RsassaPss.{mask_gen, rsassa_pss};
 ghost use Rattle.x509_keys_parts.specs.DigestInfos.{digest_info};
 ghost use Rattle.x509_keys_parts.specs.HashLaws.{HashAt, MaskGenAt, PssAt, DigestInfoAt};
 ghost use Rattle.x509_keys_parts.specs.ShaVariants.{sha_arcs, sha_of};
-ghost use Rattle.x509_keys_parts.specs.RawAlgorithm.{RawAlgorithm, raw_algorithm, FieldsAt, TwoAt};
+ghost use Rattle.x509_keys_parts.specs.RawAlgorithm.{RawAlgorithm, raw_algorithm, FieldsAt};
 
 use crate::aes::AesParameters;
 use crate::aes_auth_enc::AesAuthEncParams;
@@ -38,15 +38,6 @@ pub fn raw_algorithm_fields<A: Allocator + Copy>()
         FieldsAt v string y }
 {
     fields::<RawAlgorithmIdentifier<A>, A>();
-}
-
-/// In a list of two, each stands in the slice that encodes it, also where the two are equal and encoded otherwise.
-pub fn two_raw_algorithms<A: Allocator + Copy>()
-    ensures { (v w : RawAlgorithm) (c d string : List ℕ) (x z y : Tally) → raw_algorithm.spelled v c x →
-        raw_algorithm.spelled w d z → string ≡ element 48 (c ++ d) →
-        (tagged 48 (items raw_algorithm)).spelled (v ∷ w ∷ []) string y → TwoAt v w c d string y }
-{
-    spellings_are_lawful::<RawAlgorithmIdentifier<A>, A>();
 }
 
 /// `HashAlgorithm::from_oid` of what `to_oid` gives is the same hash function, for all eight, and no other object
@@ -74,9 +65,13 @@ pub fn algorithm_fields<A: Allocator + Copy>()
     fields::<AlgorithmIdentifier<A>, A>();
 }
 
-/// What is read has the parameters that its object identifier says. So nothing is read as an algorithm identifier of
-/// MD5 with RSA encryption, of MD5, or of DSA with SHA-1 and NULL, as their makers give them.
+/// An algorithm identifier is readable exactly where it has the parameters that its object identifier says, and what is
+/// read is. So nothing is read as an algorithm identifier of MD5 with RSA encryption, of MD5, or of DSA with SHA-1 and
+/// NULL, as their makers give them.
 pub fn algorithms_fit<A: Allocator + Copy>()
+    ensures readable { (v : Algorithm A) → algorithm_identifier.readable v ↔ (
+        fit (kind_of v.algorithm) v.parameters ≡ true
+        ) }
     ensures fit { (v : Algorithm A) (string : List ℕ) (y : Tally) → algorithm_identifier.spelled v string y →
         fit (kind_of v.algorithm) v.parameters ≡ true }
     ensures md5_with_rsa { (string : List ℕ) (y : Tally) →

@@ -11,7 +11,7 @@ use crate::aes::{AesMode, AesParameters};
 use crate::algorithm_identifier::{AlgorithmIdentifier, new_unchecked};
 use crate::algorithm_parameters::AlgorithmIdentifierParameters;
 use crate::ec_parameters::EcParameters;
-use crate::errors::{AlgorithmError, UnsupportedAlgorithmError};
+use crate::errors::{AlgorithmError, named_by};
 use crate::rsassa_pss::RsassaPssParams;
 use crate::sha_variant::ShaVariant;
 use std::alloc::{AllocError, Allocator};
@@ -94,10 +94,7 @@ fn aes<A: Allocator>(alloc: A, size: u64, mode: AesMode) -> Result<ObjectIdentif
 fn unsupported_hash<A: Allocator>(alloc: A, variant: ShaVariant) -> AlgorithmError<A>
     ensures { Names result (sha_name variant) }
 {
-    match String::from_str(alloc, variant.name()) {
-        Ok(algorithm) => AlgorithmError::Unsupported(UnsupportedAlgorithmError { algorithm }),
-        Err(refused) => AlgorithmError::from(refused),
-    }
+    named_by(String::from_str(alloc, variant.name()))
 }
 
 impl<A: Allocator> AlgorithmIdentifier<A> {

@@ -8,8 +8,8 @@ ghost use Rattle.x509_der.specs.View.{if_found};
 use std::alloc::{AllocError, Allocator, Global};
 use std::marker::Model;
 use x509_der::parts::{
-    Field, Found, Join, Optional, Reader, SEQUENCE_TAG, Sequence, Tagged, View, known_there,
-    read_viewed,
+    Field, Found, Join, Optional, Reader, SEQUENCE_TAG, Sequence, Tagged, View, known_bytes,
+    known_there, read_viewed,
 };
 use x509_der::{
     Asn1RawDer, CloneEq, Deviation, FromDer, ObjectIdentifier, ObjectIdentifierAsn1, ReadError,
@@ -250,6 +250,7 @@ impl<A: Allocator + Copy> Field<A> for ReadParameters<A> {
 
     fn read(alloc: A, reader: &mut Reader<'_, A>) -> Result<Self, ReadError> {
         let bytes = reader.whole_element()?;
+        known_bytes(bytes);
         let parameters = hold(alloc, bytes)?;
         Ok(ReadParameters(parameters))
     }

@@ -243,22 +243,12 @@ impl<A: Allocator> ToDer for RsassaPssParams<A> {
     }
 }
 
-/// Whether a number in two's complement is negative.
-fn is_negative(content: &[u8]) -> bool
-    ensures { result ≡ sign_bit content.now }
-{
-    match content {
-        [] => false,
-        [first, ..] => *first >= 128,
-    }
-}
-
 /// The salt length that an INTEGER says, and the deviation of one that is too large; none where it is negative.
 #[tactic(auto, using(crate::specs::facts::RsassaPssFacts::salt_small, crate::specs::facts::RsassaPssFacts::salt_large, crate::specs::facts::RsassaPssFacts::salt_negative))]
 fn salt_in<A: Allocator>(salt: &IntegerAsn1<A>) -> Option<(usize, Found)>
     ensures { salt_of salt.now ≡ meant result }
 {
-    if is_negative(salt.as_bytes()) {
+    if salt.is_negative() {
         return None;
     }
     match salt.to_u64() {

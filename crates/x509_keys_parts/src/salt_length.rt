@@ -5,7 +5,7 @@ ghost use Rattle.x509_der.specs.Element.{element};
 ghost use Rattle.x509_der.specs.Integer.{natural_content};
 
 use std::marker::Model;
-use x509_der::parts::{ContentOf, ToContent, element_len, write_element};
+use x509_der::parts::{ContentOf, INTEGER_TAG, ToContent, element_len, write_element};
 use x509_der::{ToDer, TooLong};
 
 /// A number that is written as an INTEGER, without memory.
@@ -45,9 +45,6 @@ fn write_natural(number: usize, out: &mut [u8]) -> usize
     }
     write_natural(number / 256, &mut out[..last])
 }
-
-/// The tag of an INTEGER.
-const INTEGER_TAG: u8 = 2;
 
 impl ToContent for SaltLength {
     ghost content = { natural_content };

@@ -7,8 +7,8 @@ ghost use Rattle.x509_keys_parts.specs.Unsupported.{Names};
 
 use crate::errors::{AlgorithmError, unsupported};
 use std::alloc::{AllocError, Allocator};
-use x509_der::{CloneEq, ObjectIdentifier, SameEq};
-use x509_oids_algorithms as oids;
+use x509_der::parts::from_lawful;
+use x509_der::{ObjectIdentifier, SameEq};
 
 /// A hash function, for makers of algorithm identifiers. It has no encoding of its own.
 #[derive(Debug, Drop, Clone, Copy, PartialEq, Eq)]
@@ -122,25 +122,11 @@ impl ShaVariant {
     ///
     /// # Errors
     /// `AllocError` where memory is refused.
+    #[tactic(auto, using(crate::specs::facts::ShaVariantFacts::sha_lawful))]
     pub fn to_oid<A: Allocator>(self, alloc: A) -> Result<ObjectIdentifier<A>, AllocError>
         ensures { IfOk result (λ o. o ≡ sha_arcs self) }
     {
-        match self {
-            ShaVariant::MD5 => oids::md5(alloc),
-            ShaVariant::SHA1 => oids::sha1(alloc),
-            ShaVariant::SHA2_224 => oids::sha224(alloc),
-            ShaVariant::SHA2_256 => oids::sha256(alloc),
-            ShaVariant::SHA2_384 => oids::sha384(alloc),
-            ShaVariant::SHA2_512 => oids::sha512(alloc),
-            ShaVariant::SHA2_512_224 => oids::sha512_224(alloc),
-            ShaVariant::SHA2_512_256 => oids::sha512_256(alloc),
-            ShaVariant::SHA3_224 => oids::sha3_224(alloc),
-            ShaVariant::SHA3_256 => oids::sha3_256(alloc),
-            ShaVariant::SHA3_384 => oids::sha3_384(alloc),
-            ShaVariant::SHA3_512 => oids::sha3_512(alloc),
-            ShaVariant::SHAKE128 => oids::shake128(alloc),
-            ShaVariant::SHAKE256 => oids::shake256(alloc),
-        }
+        from_lawful(alloc, self.arcs())
     }
 
     /// The hash function that an object identifier names. Takes memory only where there is none.
@@ -159,12 +145,6 @@ impl ShaVariant {
             Some(sha) => Ok(sha),
             None => Err(unsupported(alloc, identifier)),
         }
-    }
-}
-
-impl CloneEq for ShaVariant {
-    fn clone_eq(&self) -> Result<Self, AllocError> {
-        Ok(*self)
     }
 }
 

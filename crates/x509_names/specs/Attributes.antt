@@ -1,6 +1,5 @@
 -- Attributes of names: AttributeTypeAndValue, and what each attribute's value is (RFC 5280, 4.1.2.4 and appendix A.1).
-use Rattle.std.specs.Prelude.{ℕ, Bool, true, false, if◌then◌else◌, nat_eq, List, [], ◌∷◌, ◌++◌, Option, Some, None}
-use Rattle.std.specs.Cmp.Lexicographic.{pointwise}
+use Rattle.std.specs.Prelude.{ℕ, Bool, true, false, if◌then◌else◌, List, [], ◌∷◌, ◌++◌, Option, Some, None}
 use Rattle.x509_names_parts.specs.declared.directory_string.DirectoryString.{DirectoryString}
 use Rattle.x509_names_parts.specs.DirectoryStrings.{directory_string}
 use Rattle.x509_names.specs.declared.name_attr.NameAttr.{NameAttr}
@@ -13,7 +12,8 @@ use Rattle.x509_der.specs.Choice.{choice}
 use Rattle.x509_der.specs.Element.{element}
 use Rattle.x509_der.specs.Shape.{Shape}
 use Rattle.x509_der.specs.Tagged.{tagged}
-use Rattle.x509_der.specs.ObjectIdentifier.{oids, oid_content}
+use Rattle.x509_der.specs.Named.{named}
+use Rattle.x509_der.specs.ObjectIdentifier.{is_arcs, oids, oid_content}
 use Rattle.x509_der.specs.RawElement.{raws}
 use Rattle.x509_der.specs.DefinedBy.{defined_by}
 use Rattle.x509_der.specs.Variant.{variant}
@@ -43,24 +43,14 @@ arcs_of attr.Phone = 2 ∷ 5 ∷ 4 ∷ 20 ∷ []
 abbrev pub email_arcs : List ℕ
 email_arcs = 1 ∷ 2 ∷ 840 ∷ 113549 ∷ 1 ∷ 9 ∷ 1 ∷ []
 
-abbrev pub is_attr : List ℕ → NameAttr → Bool
-is_attr arcs a = pointwise nat_eq arcs (arcs_of a)
+abbrev pub attrs : List NameAttr
+attrs =
+    attr.CommonName ∷ attr.Surname ∷ attr.SerialNumber ∷ attr.CountryName ∷ attr.LocalityName ∷ attr.StateOrProvinceName
+    ∷ attr.StreetName ∷ attr.OrganizationName ∷ attr.OrganizationalUnitName ∷ attr.GivenName ∷ attr.Phone ∷ []
 
 -- the attribute that arcs say, if they say one
 abbrev pub attr_of : List ℕ → Option NameAttr
-attr_of arcs =
-    if is_attr arcs attr.CommonName then Some attr.CommonName
-    else if is_attr arcs attr.Surname then Some attr.Surname
-    else if is_attr arcs attr.SerialNumber then Some attr.SerialNumber
-    else if is_attr arcs attr.CountryName then Some attr.CountryName
-    else if is_attr arcs attr.LocalityName then Some attr.LocalityName
-    else if is_attr arcs attr.StateOrProvinceName then Some attr.StateOrProvinceName
-    else if is_attr arcs attr.StreetName then Some attr.StreetName
-    else if is_attr arcs attr.OrganizationName then Some attr.OrganizationName
-    else if is_attr arcs attr.OrganizationalUnitName then Some attr.OrganizationalUnitName
-    else if is_attr arcs attr.GivenName then Some attr.GivenName
-    else if is_attr arcs attr.Phone then Some attr.Phone
-    else None
+attr_of arcs = named arcs_of attrs arcs
 
 abbrev pub text_or : AttributeKind → Option NameAttr → AttributeKind
 text_or k (Some a) = kind.Text a
@@ -68,7 +58,7 @@ text_or k None = k
 
 -- the kind of value that arcs say: the directory string of an attribute, an IA5String, or any element
 abbrev pub kind_of : List ℕ → AttributeKind
-kind_of arcs = text_or (if pointwise nat_eq arcs email_arcs then kind.Email else kind.Other) (attr_of arcs)
+kind_of arcs = text_or (if is_arcs arcs email_arcs then kind.Email else kind.Other) (attr_of arcs)
 
 -- the value of an attribute that is a directory string
 abbrev pub text_value : {A : Type 0} → NameAttr → DirectoryString A → AttributeTypeAndValueParameters A

@@ -6,7 +6,7 @@ ghost use Rattle.x509_der.specs.Reading.{Ready, Reads};
 ghost use Rattle.x509_der.specs.Structure.{structure};
 ghost use Rattle.x509_der.specs.laws.ContentOf.{content_of_lawful, tagged_fields};
 ghost use Rattle.x509_der.specs.laws.Structure.{structure_lawful, structure_element};
-ghost use Rattle.x509_names.specs.Attributes.{arcs_of, email_arcs, attr_of as attr_by, kind_of as kind_by};
+ghost use Rattle.x509_names.specs.Attributes.{email_arcs, kind_of as kind_by};
 ghost use Rattle.x509_names.specs.Attributes.{text_value as text_by, value_bytes, IsValue, by_kind};
 ghost use Rattle.x509_names.specs.Attributes.{attribute_parts, attribute_inner, attribute_base, attribute};
 ghost use Rattle.x509_names.specs.Attributes.{attribute_content, attribute_bytes};
@@ -14,15 +14,15 @@ ghost use Rattle.x509_names.specs.Attributes.{text_attribute as text_by_attr, em
 ghost use Rattle.x509_names.specs.facts.Attributes.{attribute_same};
 ghost use Rattle.x509_names.specs.declared.name_attr.NameAttr.TheVariants as attr;
 
-use crate::name_attr::NameAttr;
+use crate::name_attr::{NameAttr, attr_of, identifier_of};
 use std::alloc::{AllocError, Allocator, Global};
 use x509_der::parts::{
-    AnyDefinedBy, Choice, Content, DefinedBy, Field, OneTag, Reader, SEQUENCE_TAG, Sequence,
-    Structure, Tagged, ToContent, element_len, read_as_content, read_sequence, write_element,
+    AnyDefinedBy, Choice, Constructed, Content, DefinedBy, Field, OneTag, Reader, SEQUENCE_TAG,
+    Sequence, Structure, Tagged, ToContent, element_len, read_as_content, read_sequence,
+    write_element,
 };
 use x509_der::{
-    Asn1RawDer, CloneEq, FromDer, ObjectIdentifier, ObjectIdentifierAsn1, ReadError, SameEq, ToDer,
-    TooLong,
+    Asn1RawDer, CloneEq, FromDer, ObjectIdentifierAsn1, ReadError, SameEq, ToDer, TooLong,
 };
 use x509_names_parts::DirectoryString;
 use x509_oids_objects as oids;
@@ -136,37 +136,6 @@ enum AttributeKind {
     Other,
 }
 
-/// The attribute that an object identifier says, of those whose values are directory strings.
-fn attr_of<A: Allocator>(identifier: &ObjectIdentifier<A>) -> Option<NameAttr>
-    ensures { result ≡ attr_by identifier.now }
-{
-    if identifier.is_arcs(&[2, 5, 4, 3]) {
-        Some(NameAttr::CommonName)
-    } else if identifier.is_arcs(&[2, 5, 4, 4]) {
-        Some(NameAttr::Surname)
-    } else if identifier.is_arcs(&[2, 5, 4, 5]) {
-        Some(NameAttr::SerialNumber)
-    } else if identifier.is_arcs(&[2, 5, 4, 6]) {
-        Some(NameAttr::CountryName)
-    } else if identifier.is_arcs(&[2, 5, 4, 7]) {
-        Some(NameAttr::LocalityName)
-    } else if identifier.is_arcs(&[2, 5, 4, 8]) {
-        Some(NameAttr::StateOrProvinceName)
-    } else if identifier.is_arcs(&[2, 5, 4, 9]) {
-        Some(NameAttr::StreetName)
-    } else if identifier.is_arcs(&[2, 5, 4, 10]) {
-        Some(NameAttr::OrganizationName)
-    } else if identifier.is_arcs(&[2, 5, 4, 11]) {
-        Some(NameAttr::OrganizationalUnitName)
-    } else if identifier.is_arcs(&[2, 5, 4, 42]) {
-        Some(NameAttr::GivenName)
-    } else if identifier.is_arcs(&[2, 5, 4, 20]) {
-        Some(NameAttr::Phone)
-    } else {
-        None
-    }
-}
-
 /// The kind of value that an object identifier says.
 fn kind_of<A: Allocator>(identifier: &ObjectIdentifierAsn1<A>) -> AttributeKind
     ensures { result ≡ kind_by identifier.now }
@@ -178,28 +147,6 @@ fn kind_of<A: Allocator>(identifier: &ObjectIdentifierAsn1<A>) -> AttributeKind
         AttributeKind::Email
     } else {
         AttributeKind::Other
-    }
-}
-
-/// The object identifier of an attribute.
-///
-/// # Errors
-/// `AllocError` where memory is refused.
-fn identifier_of<A: Allocator>(alloc: A, attr: &NameAttr) -> Result<ObjectIdentifier<A>, AllocError>
-    ensures { IfOk result (λ o. o ≡ arcs_of attr.now) }
-{
-    match attr {
-        NameAttr::CommonName => oids::at_common_name(alloc),
-        NameAttr::Surname => oids::at_surname(alloc),
-        NameAttr::SerialNumber => oids::at_serial_number(alloc),
-        NameAttr::CountryName => oids::at_country_name(alloc),
-        NameAttr::LocalityName => oids::at_locality_name(alloc),
-        NameAttr::StateOrProvinceName => oids::at_state_or_province_name(alloc),
-        NameAttr::StreetName => oids::at_street_name(alloc),
-        NameAttr::OrganizationName => oids::at_organization_name(alloc),
-        NameAttr::OrganizationalUnitName => oids::at_organizational_unit_name(alloc),
-        NameAttr::GivenName => oids::at_given_name(alloc),
-        NameAttr::Phone => oids::at_phone(alloc),
     }
 }
 
@@ -632,7 +579,11 @@ impl<A: Allocator + Copy> FromDer<A> for AttributeTypeAndValue<A> {
 }
 
 impl<A: Allocator + Copy> OneTag<A> for AttributeTypeAndValue<A> {
+    type Form = Constructed;
+
     ghost tag = { 48 };
+
+    ghost form = { refl };
 
     ghost spelled_around = { λ v p y. tagged_fields 48 attribute_parts attribute_inner v p y };
 

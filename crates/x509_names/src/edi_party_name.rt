@@ -10,9 +10,9 @@ ghost use Rattle.x509_names.specs.facts.EdiPartyNames.{edi_same, assigner_apart}
 
 use std::alloc::{AllocError, Allocator, Global};
 use x509_der::parts::{
-    Content, Explicit0, Explicit1, Field, Join, OneTag, Optional, Reader, SEQUENCE_TAG, Sequence,
-    Structure, Tagged, ToContent, clone_both, element_len, known_there, read_as_content,
-    read_sequence, write_element,
+    Constructed, Content, Explicit0, Explicit1, Field, Join, OneTag, Optional, Reader,
+    SEQUENCE_TAG, Sequence, Structure, Tagged, ToContent, clone_both, element_len, known_there,
+    read_as_content, read_sequence, write_element,
 };
 use x509_der::{CloneEq, FromDer, ReadError, SameEq, ToDer, TooLong};
 use x509_names_parts::DirectoryString;
@@ -173,7 +173,11 @@ impl<A: Allocator + Copy> FromDer<A> for EdiPartyName<A> {
 }
 
 impl<A: Allocator + Copy> OneTag<A> for EdiPartyName<A> {
+    type Form = Constructed;
+
     ghost tag = { 48 };
+
+    ghost form = { refl };
 
     ghost spelled_around = { λ v p y. tagged_fields 48 edi_parts edi_inner v p y };
 

@@ -13,7 +13,7 @@ use crate::attribute_type_and_value::{
 pub use crate::name_attr::NameAttr;
 use std::alloc::{AllocError, Allocator, Global};
 use std::marker::Model;
-use x509_der::parts::{Content, Field, OneTag, Reader, SEQUENCE_TAG, ToContent};
+use x509_der::parts::{Constructed, Content, Field, OneTag, Reader, SEQUENCE_TAG, ToContent};
 use x509_der::{Asn1SequenceOf, Asn1SetOf, CloneEq, FromDer, ReadError, SameEq, ToDer, TooLong};
 use x509_names_parts::DirectoryString;
 use x509_prim::Ia5StringAsn1;
@@ -147,19 +147,10 @@ impl<A: Allocator + Copy> Name<A> {
         ensures ok { OnOk result (self.new ≡ self.old ++ (attribute ∷ []) ∷ []) }
         ensures err { OnErr result (self.new ≡ self.old) }
     {
-        let set = set_of(self.allocator(), attribute)?;
+        let set = Asn1SetOf::of_one(self.allocator(), attribute)?;
         self.0.0.push(set)?;
         Ok(())
     }
-}
-
-/// A set of one item.
-fn set_of<T: Drop, A: Allocator + Copy>(alloc: A, item: T) -> Result<Asn1SetOf<T, A>, AllocError>
-    ensures { IfOk result (λ set. set ≡ item ∷ []) }
-{
-    let mut set = Vec::with_capacity(alloc, 1)?;
-    set.push(item)?;
-    Ok(Asn1SetOf(set))
 }
 
 impl<A: Allocator + Copy> Name<A> {
@@ -266,7 +257,11 @@ impl<A: Allocator + Copy> FromDer<A> for Name<A> {
 }
 
 impl<A: Allocator + Copy> OneTag<A> for Name<A> {
+    type Form = Constructed;
+
     ghost tag = { 48 };
+
+    ghost form = { refl };
 
     ghost spelled_around = { λ v p y. (λ s. s, λ s. s) };
 

@@ -10,8 +10,9 @@ ghost use Rattle.x509_names.specs.facts.OtherNames.{other_same};
 
 use std::alloc::{AllocError, Allocator, Global};
 use x509_der::parts::{
-    Content, Explicit0, Field, Join, OneTag, Reader, SEQUENCE_TAG, Sequence, Structure, Tagged,
-    ToContent, clone_both, element_len, read_as_content, read_sequence, write_element,
+    Constructed, Content, Explicit0, Field, Join, OneTag, Reader, SEQUENCE_TAG, Sequence,
+    Structure, Tagged, ToContent, clone_both, element_len, read_as_content, read_sequence,
+    write_element,
 };
 use x509_der::{
     Asn1RawDer, CloneEq, FromDer, ObjectIdentifierAsn1, ReadError, SameEq, ToDer, TooLong,
@@ -164,7 +165,11 @@ impl<A: Allocator + Copy> FromDer<A> for OtherName<A> {
 }
 
 impl<A: Allocator + Copy> OneTag<A> for OtherName<A> {
+    type Form = Constructed;
+
     ghost tag = { 48 };
+
+    ghost form = { refl };
 
     ghost spelled_around = { λ v p y. tagged_fields 48 other_parts other_inner v p y };
 

@@ -11,8 +11,8 @@ ghost use Rattle.x509_names_parts.specs.facts.Validities.{validity_same};
 use crate::time::Time;
 use std::alloc::{AllocError, Allocator};
 use x509_der::parts::{
-    Content, Field, Join, OneTag, Reader, SEQUENCE_TAG, Sequence, Structure, Tagged, ToContent,
-    element_len, read_as_content, read_sequence, write_element,
+    Constructed, Content, Field, Join, OneTag, Reader, SEQUENCE_TAG, Sequence, Structure, Tagged,
+    ToContent, element_len, read_as_content, read_sequence, write_element,
 };
 use x509_der::{CloneEq, FromDer, ReadError, SameEq, ToDer, TooLong};
 
@@ -158,7 +158,11 @@ impl<A: Allocator + Copy> FromDer<A> for Validity {
 }
 
 impl<A: Allocator + Copy> OneTag<A> for Validity {
+    type Form = Constructed;
+
     ghost tag = { 48 };
+
+    ghost form = { refl };
 
     ghost spelled_around = { λ v p y. tagged_fields 48 validity_parts validity_inner v p y };
 

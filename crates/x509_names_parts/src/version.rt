@@ -1,6 +1,7 @@
 //! The version of a certificate.
 
 ghost use Rattle.std.specs.Prelude.{◌≡◌, refl, IfSome, IfNone};
+ghost use Rattle.x509_der.specs.Types.read_error.{BadVersion, OutOfMemory};
 ghost use Rattle.x509_der.specs.laws.Meaning.{seen_lawful, seen_element};
 ghost use Rattle.x509_names_parts.specs.declared.version.Version.{Version};
 ghost use Rattle.x509_names_parts.specs.Versions.{version_number, version_of, version_base, version_meaning, version};
@@ -9,7 +10,8 @@ ghost use Rattle.x509_names_parts.specs.facts.Versions.{version_is, version_keep
 
 use std::alloc::{AllocError, Allocator};
 use x509_der::parts::{
-    Content, Field, Found, INTEGER_TAG, OneTag, Reader, Refusal, ToContent, View, read_viewed_or,
+    Content, Field, Found, INTEGER_TAG, OneTag, Primitive, Reader, Refusal, ToContent, View,
+    read_viewed_or,
 };
 use x509_der::{CloneEq, FromDer, ReadError, SameEq, ToDer, TooLong};
 
@@ -110,7 +112,10 @@ impl View<u8> for Version {
 }
 
 impl Refusal<u8> for Version {
-    fn refusal(_parts: &u8) -> ReadError {
+    fn refusal(_parts: &u8) -> ReadError
+        ensures memory { result ≡ OutOfMemory → ⊥ }
+        ensures name { result ≡ BadVersion }
+    {
         ReadError::BadVersion
     }
 }
@@ -137,14 +142,13 @@ impl<A: Allocator + Copy> Field<A> for Version {
 }
 
 /// The version of a content.
+#[tactic(auto, using(crate::specs::facts::Versions::one_byte, crate::specs::facts::Versions::no_byte, crate::specs::facts::Versions::one_long))]
 fn version_in(bytes: &[u8]) -> Option<Version>
     ensures some { IfSome result (λ v. bytes.now ≡ version_bytes v) }
     ensures none { IfNone result ((v : Version) → bytes.now ≡ version_bytes v → ⊥) }
 {
     match bytes {
-        [0] => Some(Version::V1),
-        [1] => Some(Version::V2),
-        [2] => Some(Version::V3),
+        [number] => Version::from_u8(*number),
         _ => None,
     }
 }
@@ -180,7 +184,11 @@ impl<A: Allocator + Copy> FromDer<A> for Version {
 }
 
 impl<A: Allocator + Copy> OneTag<A> for Version {
+    type Form = Primitive;
+
     ghost tag = { 2 };
+
+    ghost form = { refl };
 
     ghost spelled_around = { λ v p y. version_around v p y };
 

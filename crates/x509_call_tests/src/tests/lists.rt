@@ -5,10 +5,10 @@ use super::checks::bytes_of;
 use refusing::{Refusing, Turn, in_turn};
 use std::alloc::Global;
 use std::process::Abort;
-use x509_der::parts::{Content, ContentOf, Explicit0, Tagged};
+use x509_der::parts::{ContentOf, Explicit0, Implicit0, OneTag, TagOf, Tagged};
 use x509_der::{
-    Asn1SequenceOf, Asn1SetOf, BitStringAsn1Container, FromDer, IntegerAsn1,
-    OctetStringAsn1Container, ReadError, from_bytes,
+    Asn1SequenceOf, Asn1SetOf, BitStringAsn1Container, IntegerAsn1, OctetStringAsn1Container,
+    ReadError, from_bytes,
 };
 use x509_names::{Validity, Version};
 
@@ -35,12 +35,12 @@ fn contained_values_are_as_stated(rt: HostRuntime) {
 }
 
 /// What a run showed that should read this value under an implicit tag.
-fn content_turn<A: Heap, T: Content<A> + PartialEq + Drop>(
+fn content_turn<A: Heap, N: TagOf<T::Form> + Drop, T: OneTag<A> + PartialEq>(
     heap: A,
     bytes: &[u8],
     stated: &T,
 ) -> Turn {
-    match from_bytes::<Tagged<Explicit0, ContentOf<T>>, A>(heap, bytes) {
+    match from_bytes::<Tagged<N, ContentOf<T>>, A>(heap, bytes) {
         Ok(element) => {
             let ContentOf(value) = element.into_inner();
             Turn::right(value == *stated)
@@ -51,22 +51,27 @@ fn content_turn<A: Heap, T: Content<A> + PartialEq + Drop>(
 }
 
 /// An element is read with another tag in the place of its own, also where memory is refused first.
-fn content_is_read<A: Heap, T: FromDer<A> + Content<A> + PartialEq>(
+fn content_is_read<A: Heap, N: TagOf<T::Form> + Drop, T: OneTag<A> + PartialEq>(
     rt: &impl Abort,
     heap: A,
     element: &[u8],
     under: &[u8],
 ) {
     let stated = from_bytes::<T, _>(heap, element).expect(rt, "a value");
-    let requests = in_turn!(heap, content_turn(heap, under, &stated));
+    let requests = in_turn!(heap, content_turn::<_, N, _>(heap, under, &stated));
     assert!(rt; requests.is_some(), "{element:?}");
 }
 
 fn contents_are_read_over<A: Heap>(rt: &impl Abort, heap: A) {
     let list = [0x30, 6, 2, 1, 1, 2, 1, 2];
-    content_is_read::<A, Asn1SequenceOf<u8, A>>(rt, heap, &list, &[0xA0, 6, 2, 1, 1, 2, 1, 2]);
+    content_is_read::<A, Explicit0, Asn1SequenceOf<u8, A>>(
+        rt,
+        heap,
+        &list,
+        &[0xA0, 6, 2, 1, 1, 2, 1, 2],
+    );
     let set = [0x31, 6, 2, 1, 2, 2, 1, 1];
-    content_is_read::<A, Asn1SetOf<u8, A>>(rt, heap, &set, &[0xA0, 6, 2, 1, 2, 2, 1, 1]);
+    content_is_read::<A, Explicit0, Asn1SetOf<u8, A>>(rt, heap, &set, &[0xA0, 6, 2, 1, 2, 2, 1, 1]);
 }
 
 #[test]
@@ -77,18 +82,18 @@ fn contents_are_read(rt: HostRuntime) {
 
 fn contents_of_containers_are_read_over<A: Heap>(rt: &impl Abort, heap: A) {
     let octets = [4, 3, 2, 1, 5];
-    content_is_read::<A, OctetStringAsn1Container<IntegerAsn1<A>>>(
+    content_is_read::<A, Implicit0, OctetStringAsn1Container<IntegerAsn1<A>>>(
         rt,
         heap,
         &octets,
-        &[0xA0, 3, 2, 1, 5],
+        &[0x80, 3, 2, 1, 5],
     );
     let bits = [3, 4, 0, 2, 1, 5];
-    content_is_read::<A, BitStringAsn1Container<IntegerAsn1<A>>>(
+    content_is_read::<A, Implicit0, BitStringAsn1Container<IntegerAsn1<A>>>(
         rt,
         heap,
         &bits,
-        &[0xA0, 4, 0, 2, 1, 5],
+        &[0x80, 4, 0, 2, 1, 5],
     );
 }
 
@@ -104,9 +109,9 @@ const VALIDITY: &str = "301e170d3139313031373137343132385a170d323231303136313734
 const VALIDITY_UNDER: &str = "a01e170d3139313031373137343132385a170d3232313031363137343132385a";
 
 fn contents_of_versions_are_read_over<A: Heap>(rt: &impl Abort, heap: A) {
-    content_is_read::<A, Version>(rt, heap, &[2, 1, 0], &[0xA0, 1, 0]);
-    content_is_read::<A, Version>(rt, heap, &[2, 1, 2], &[0xA0, 1, 2]);
-    let unknown = from_bytes::<Tagged<Explicit0, ContentOf<Version>>, A>(heap, &[0xA0, 1, 3]);
+    content_is_read::<A, Implicit0, Version>(rt, heap, &[2, 1, 0], &[0x80, 1, 0]);
+    content_is_read::<A, Implicit0, Version>(rt, heap, &[2, 1, 2], &[0x80, 1, 2]);
+    let unknown = from_bytes::<Tagged<Implicit0, ContentOf<Version>>, A>(heap, &[0x80, 1, 3]);
     assert!(rt; unknown.is_err(), "no version has the number 3");
 }
 
@@ -121,5 +126,5 @@ fn contents_of_validities_are_read(rt: HostRuntime) {
     let alone = bytes_of(&rt, rt.alloc(), VALIDITY);
     let under = bytes_of(&rt, rt.alloc(), VALIDITY_UNDER);
     let heap = Refusing::new(rt.alloc());
-    content_is_read::<_, Validity>(&rt, &heap, &alone, &under);
+    content_is_read::<_, Explicit0, Validity>(&rt, &heap, &alone, &under);
 }

@@ -7,6 +7,7 @@ use Rattle.x509_der_parts.specs.Choice.{Begun}
 use Rattle.x509_der_parts.specs.reads.Choice.{not_begun}
 use Rattle.x509_der_parts.specs.reads.Optional.{absent_front}
 use Rattle.x509_der_parts.specs.facts.Element.{element_length, header_long}
+use Rattle.x509_der_parts.specs.reads.Standing.{accepts_no_memory}
 use Rattle.x509_der_parts.specs.Shape.{Lawful, IsElement, Begins, Follows}
 use Rattle.x509_der_parts.specs.Fields.{Inner}
 use Rattle.x509_der_parts.specs.RawElement.{raws}
@@ -35,9 +36,9 @@ module _ (keep : ℕ → Bool) where
   pub raws_in_lawful : Lawful (raws_in keep)
   raws_in_lawful = record {
     one = λ v w p q r t y z a b e f g. raw_one v w p q r t y z a.0 b.0 e;
-    written = λ v d r. record { headers = 1; spelled = (record { is = d.0; bytes = refl; tally = refl }, d.1) };
+    written = λ v d r. record { headers = 1; spelled = (record { is = d.0.0; each = d.0.1; bytes = refl; tally = refl }, d.1) };
     clean = λ v p y a e. a.0.bytes;
-    valid = λ v p y a. rw (← a.0.bytes) (a.0.is, a.1);
+    valid = λ v p y a. rw (← a.0.bytes) ((a.0.is, a.0.each), a.1);
     read = λ v p y a. tt;
     begins = λ v p y a. begins_both is_tag keep p (raws_lawful.begins v p y a.0) a.1;
     cost = λ v p y a. raws_lawful.cost v p y a.0;
@@ -47,7 +48,7 @@ module _ (keep : ℕ → Bool) where
   }
 
   pub raws_in_element : IsElement (raws_in keep)
-  raws_in_element = record { one = λ v p y a. a.0.is; strict = λ v d. d.0; free = λ b. refl; tags = λ b h. both_tag (is_tag b) (keep b) h; min_headers = λ b rest h. inr (h, omega arith) }
+  raws_in_element = record { one = λ v p y a. a.0.is; strict = λ v d. d.0.0; free = λ b. refl; tags = λ b h. both_tag (is_tag b) (keep b) h; min_headers = λ b rest h. inr (h, omega arith) }
 
   pub raws_in_inner : Inner (raws_in keep)
   raws_in_inner v p y a ks z e n string whole i = tt
@@ -92,3 +93,7 @@ module _ (keep : ℕ → Bool) where
     within = omega arith;
     outside = λ f. refl;
   }
+
+  -- an element with a tag of the set, for which memory was refused
+  pub raws_in_no_memory : (old new : Cursor) (v : List ℕ) → Accepts (raws_in keep) old new v → Refuses (raws_in keep) old new OutOfMemory
+  raws_in_no_memory = accepts_no_memory (raws_in keep) raws_in_lawful (λ f. f)

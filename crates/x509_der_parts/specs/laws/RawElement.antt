@@ -28,9 +28,9 @@ raw_one v w p q r u y z a b e =
 pub raws_lawful : Lawful raws
 raws_lawful = record {
   one = λ v w p q r t y z a b e f g. raw_one v w p q r t y z a b e;
-  written = λ v d r. record { headers = 1; spelled = record { is = d; bytes = refl; tally = refl } };
+  written = λ v d r. record { headers = 1; spelled = record { is = d.0; each = d.1; bytes = refl; tally = refl } };
   clean = λ v p y a e. a.bytes;
-  valid = λ v p y a. rw (← a.bytes) a.is;
+  valid = λ v p y a. rw (← a.bytes) (a.is, a.each);
   read = λ v p y a. tt;
   begins = λ v p y a. rw a.is.bytes (begins_raw a.is.tag a.is.content a.is.fits);
   cost = λ v p y a. omega (arith, ap (λ (x : Tally). x.headers) a.tally, ap length a.is.bytes, element_length a.is.tag a.is.content, header_long a.is.content);
@@ -45,7 +45,7 @@ raws_inner v p y a ks z e n string whole i = tt
 pub raws_element : IsElement raws
 raws_element = record {
   one = λ v p y a. a.is;
-  strict = λ v d. d;
+  strict = λ v d. d.0;
   free = λ b. refl;
   tags = λ b h. h;
   min_headers = λ b rest h. omega arith;

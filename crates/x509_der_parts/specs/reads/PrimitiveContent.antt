@@ -1,17 +1,16 @@
 -- Reading a content that has no elements in it, up to its end; and an element whose content isn't looked into.
-use Rattle.std.proofs.Common.{◌≡◌, ℕ, ◌+◌, ◌≤◌, false, ◌⊎◌, inl, inr, ⊎_elim, List, ◌++◌, length, sum, refl, sym, ap, ◌∙◌, arith, append-nil, length-append}
+use Rattle.std.proofs.Common.{◌≡◌, ℕ, ◌+◌, false, ◌⊎◌, inl, inr, ⊎_elim, List, ◌++◌, length, sum, refl, sym, ap, ◌∙◌, arith, append-nil, length-append}
 use Rattle.x509_der_parts.specs.declared.errors.ReadError.{ReadError}
 use Rattle.x509_der_parts.specs.declared.errors.ReadError.TheVariants.{OutOfMemory}
 use Rattle.x509_der_parts.specs.Element.{AreBytes}
 use Rattle.x509_der_parts.specs.Tally.{none}
 use Rattle.x509_der_parts.specs.laws.PrimitiveContent.{ends, IsPlain, itself_plain}
 use Rattle.x509_der_parts.specs.PrimitiveContent.{plain, IsItself, IsBytes, itself}
+use Rattle.x509_der_parts.specs.Element.{AreBytes}
 use Rattle.x509_der_parts.specs.RawElement.{Raw, raws, one_header}
 use Rattle.x509_der_parts.specs.laws.RawElement.{raws_lawful, follows_free}
-use Rattle.x509_der_parts.specs.Reading.{Cursor, Ready, Moved, Accepts, Refuses, PassesRest, RawTaken, is_tag}
+use Rattle.x509_der_parts.specs.Reading.{Cursor, Ready, Moved, Accepts, Refuses, PassesRest, RawTaken}
 use Rattle.x509_der_parts.specs.reads.Cursor.{placed_none, ready_after}
-use Rattle.x509_der_parts.specs.reads.Optional.{absent_front}
-use Rattle.x509_der_parts.specs.facts.Element.{element_length, header_long}
 
 memory_or_not : (e : ReadError) → (e ≡ OutOfMemory) ⊎ (e ≡ OutOfMemory → ⊥)
 memory_or_not OutOfMemory = inl refl
@@ -63,9 +62,9 @@ module _ {V : Type 0} (Is : V → List ℕ → Type 0) (of : V → List ℕ) (Ok
 pub itself_accepts : (Allowed : List ℕ → Type 0) (old new : Cursor) (c v : List ℕ) → Ready old → AreBytes c → c ≡ old.rest → PassesRest old new → c ≡ v → Allowed v → Accepts (itself Allowed) old new v
 itself_accepts Allowed old new c v r b all t e a = plain_accepts (IsItself Allowed) (λ v. v) (IsBytes Allowed) ⊥ (itself_plain Allowed) old new c v r all t ((rw e at b, a), e)
 
-pub raw_accepts : (old new : Cursor) (v p : List ℕ) → Ready old → RawTaken old new p → v ≡ p → new.headers ≡ old.headers + 1 → new.counts ≡ old.counts → new.at + length new.rest ≡ old.at + length old.rest → new.places ≡ old.places → Accepts raws old new v
-raw_accepts old new v p r t e h c at places =
-    let s : Raw v p one_header = record { is = t.raw; bytes = sym e; tally = refl } in
+pub raw_accepts : (old new : Cursor) (v p : List ℕ) → Ready old → AreBytes p → RawTaken old new p → v ≡ p → new.headers ≡ old.headers + 1 → new.counts ≡ old.counts → new.at + length new.rest ≡ old.at + length old.rest → new.places ≡ old.places → Accepts raws old new v
+raw_accepts old new v p r b t e h c at places =
+    let s : Raw v p one_header = record { is = t.raw; each = b; bytes = sym e; tally = refl } in
     let m : Moved old new p one_header = record { rest = t.rest; at = omega (arith, at, ap length t.rest, length-append p new.rest); headers = h; counts = c; places = places ∙ sym (placed_none old.at old.places) } in
     record {
       bytes = p;
@@ -74,21 +73,5 @@ raw_accepts old new v p r t e h c at places =
       moved = m;
       ready = ready_after old new p one_header r m (raws_lawful.cost v p one_header s) (omega arith);
       min_headers = λ n z. z;
-      only = λ w q q2 z b g f. raws_lawful.one w v q p q2 new.rest z one_header b s (sym g ∙ t.rest) f (follows_free (λ x. false) (λ x. refl) new.rest);
-    }
-
--- no memory to keep an element that was gone past
-pub raw_memory : (old new : Cursor) (p : List ℕ) (e : ReadError) → RawTaken old new p → e ≡ OutOfMemory → new.headers ≡ old.headers + 1 → new.at + length new.rest ≡ old.at + length old.rest → Refuses raws old new e
-raw_memory old new p e t m h at =
-    let long : 1 ≤ length p = omega (arith, ap length t.raw.bytes, element_length t.raw.tag t.raw.content, header_long t.raw.content) in
-    let begins = raws_lawful.begins p p one_header (record { is = t.raw; bytes = refl; tally = refl }) in
-    record {
-      spares = λ f. absurd f;
-      grows = omega (arith, h);
-      bound = omega (arith, h);
-      min_headers = λ x. absurd (x m);
-      none = λ w p q z b g f. record { memory = m; marked = λ f. absurd f };
-      forward = omega (arith, at, ap length t.rest, length-append p new.rest);
-      within = omega (arith, at);
-      outside = λ f. absurd (absent_front is_tag p new.rest old.rest t.rest long begins f);
+      only = λ w q q2 z d g f. raws_lawful.one w v q p q2 new.rest z one_header d s (sym g ∙ t.rest) f (follows_free (λ x. false) (λ x. refl) new.rest);
     }

@@ -12,7 +12,8 @@ use Rattle.x509_keys_parts.specs.AesParameters.{aes_parameters}
 use Rattle.x509_keys_parts.specs.EcParameters.{ec_parameters}
 use Rattle.x509_keys_parts.specs.RsassaPss.{rsassa_pss}
 use Rattle.x509_keys_parts.specs.AlgorithmKinds.{kind_of}
-use Rattle.x509_keys_parts.specs.AlgorithmParameters.{parameters_bytes, AreParameters, if_null, if_aes, null, by_kind, parameters_avoid}
+use Rattle.x509_keys_parts.specs.AlgorithmParameters.{parameters_bytes, AreParameters, if_null, if_aes, by_kind, parameters_avoid}
+use Rattle.x509_keys_parts.specs.HashAlgorithms.{null}
 use Rattle.x509_keys_parts.specs.declared.algorithm_parameters.AlgorithmIdentifierParameters.TheVariants as parameters
 use Rattle.x509_keys_parts.specs.declared.algorithm_parameters.AlgorithmKind.TheVariants as kinds
 

@@ -12,7 +12,7 @@ use Rattle.x509_der.specs.laws.Tagged.{tagged_lawful}
 use Rattle.x509_der.specs.facts.ObjectIdentifier.{oid_lawful}
 use Rattle.x509_der.specs.View.{IsSeen}
 use Rattle.x509_der.specs.facts.Partly.{partly_is, partly_seen}
-use Rattle.x509_keys_parts.specs.facts.Named.{named_is}
+use Rattle.x509_der.specs.facts.Named.{named_is}
 use Rattle.x509_keys_parts.specs.HashAlgorithms.{nist_hash, hash_number, hash_arcs, hashes, hash_of, hash_name_base, hash_name_meaning, hash_name, HashFields, hash_base, null_kinds, hash_means, hash_fields, hash_meaning}
 use Rattle.x509_keys_parts.specs.declared.hash_algorithm.HashAlgorithm.{HashAlgorithm}
 use Rattle.x509_keys_parts.specs.declared.hash_algorithm.HashAlgorithm.TheVariants as hash
@@ -61,7 +61,7 @@ small_number hash.SHA3_256 = lit< tt
 small_number hash.SHA3_384 = lit< tt
 small_number hash.SHA3_512 = lit< tt
 
-nist_lawful : (n : ℕ) → n < 128 → IsLawful (nist_hash n)
+pub nist_lawful : (n : ℕ) → n < 128 → IsLawful (nist_hash n)
 nist_lawful n h = record { len = omega arith; first = omega arith; second = λ l. omega arith; both = omega arith; each = λ k l. each_arc n k h l }
 
 pub arcs_lawful : (h : HashAlgorithm) → IsLawful (hash_arcs h)

@@ -1,15 +1,15 @@
 -- What the fields of an algorithm identifier mean keeps the laws, and where two in a list stand.
-use Rattle.std.proofs.Common.{◌≡◌, lit<, ℕ, ◌+◌, ◌≤◌, Bool, true, false, cond, List, [], ◌∷◌, ◌++◌, length, append-nil, refl, ap, sym, subst, ◌∙◌, arith, Option, Some, None}
+use Rattle.std.proofs.Common.{◌≡◌, lit<, ℕ, zero, suc, ◌+◌, ◌≤◌, Bool, true, false, cond, List, [], ◌∷◌, ◌++◌, length, append-nil, refl, ap, sym, subst, ◌∙◌, arith, Option, Some, None}
 use Rattle.std.proofs.lemmas.Bool.Decides.{nat_tests}
 use Rattle.x509_der.specs.Types.{Deviation}
-use Rattle.x509_der.specs.Reading.{IsRaw, Cursor, Ready, RawTaken, Accepts}
+use Rattle.x509_der.specs.Reading.{Cursor, Ready, RawTaken, Accepts}
 use Rattle.x509_der.specs.reads.Cursor.{booked_none}
 use Rattle.x509_der.specs.reads.PrimitiveContent.{raw_accepts}
 use Rattle.x509_der.specs.reads.View.{viewed_accepts}
 use Rattle.x509_der.specs.facts.Lists.{same_pair}
-use Rattle.x509_der.specs.Element.{element, digits, header}
+use Rattle.x509_der.specs.Element.{AreBytes, element, digits}
 use Rattle.x509_der.specs.Optional.{optional}
-use Rattle.x509_der.specs.RawElement.{raws}
+use Rattle.x509_der.specs.RawElement.{IsRawBytes, raws}
 use Rattle.x509_der.specs.laws.View.{some_one}
 use Rattle.x509_der.specs.laws.RawElement.{raws_lawful, raws_element, raws_inner}
 use Rattle.x509_der.specs.View.{IsSeen}
@@ -26,13 +26,18 @@ use Rattle.x509_der.specs.facts.Fields.{stands_whole}
 use Rattle.x509_der.specs.Items.{Items, items}
 use Rattle.x509_der.specs.laws.Items.{items_lawful}
 use Rattle.x509_der.specs.facts.ItemPlaces.{item_exactly}
-use Rattle.x509_keys_parts.specs.RawAlgorithm.{RawAlgorithm, is_null, without_null, written_parameters, NotNull, RawIfThere, IsParameters, AnyParameters, element_meaning, parameters_meaning, parameters, Fields, inner, base, kinds_of, if_there, meaning, written_fields, IsRawAlgorithm, raw_meaning, raw_algorithm, TwoAt}
+use Rattle.x509_keys_parts.specs.RawAlgorithm.{RawAlgorithm, is_null, without_null, written_parameters, NotNull, RawIfThere, IsParameters, AnyParameters, element_meaning, parameters_meaning, parameters, Fields, inner, base, kinds_of, if_there, meaning, written_fields, IsRawAlgorithm, raw_meaning}
 
-null_raw : IsRaw (5 ∷ 0 ∷ [])
+null_bytes : AreBytes (5 ∷ 0 ∷ [])
+null_bytes zero = lit< tt
+null_bytes (suc zero) = lit< tt
+null_bytes (suc (suc k)) = lit< tt
+
+null_raw : IsRawBytes (5 ∷ 0 ∷ [])
 unfolding element digits
-null_raw = record { tag = 5; content = []; fits = refl; byte = lit< tt; bytes = refl }
+null_raw = (record { tag = 5; content = []; fits = refl; byte = lit< tt; bytes = refl }, null_bytes)
 
-written_valid : (p : Option (List ℕ)) → RawIfThere p → IsRaw (written_parameters p)
+written_valid : (p : Option (List ℕ)) → RawIfThere p → IsRawBytes (written_parameters p)
 written_valid None h = null_raw
 written_valid (Some r) h = h
 
@@ -54,7 +59,7 @@ pub without_null_is : (p : Option (List ℕ)) → NotNull (without_null p)
 without_null_is None = tt
 without_null_is (Some r) = not_null_test r (is_null r) refl
 
-raw_test : (r : List ℕ) (t : Bool) → IsRaw r → RawIfThere (cond t None (Some r))
+raw_test : (r : List ℕ) (t : Bool) → IsRawBytes r → RawIfThere (cond t None (Some r))
 raw_test r true h = tt
 raw_test r false h = h
 
@@ -95,9 +100,9 @@ pub parameters_element : IsElement parameters
 parameters_element = seen_element parameters_meaning raws raws_element parameters_means
 
 -- an element was taken: it is the parameters
-pub parameters_taken : (old new : Cursor) (p : List ℕ) → Ready old → RawTaken old new p → new.headers ≡ old.headers + 1 → new.counts ≡ old.counts → new.at + length new.rest ≡ old.at + length old.rest → new.places ≡ old.places → Accepts parameters old new (without_null (Some p))
-parameters_taken old new p r t h c at places =
-    viewed_accepts element_meaning written_parameters IsParameters AnyParameters raws raws_lawful parameters_seen.few old new new p (without_null (Some p)) [] r (raw_accepts old new p p r t refl h c at places) refl (booked_none old new)
+pub parameters_taken : (old new : Cursor) (p : List ℕ) → Ready old → AreBytes p → RawTaken old new p → new.headers ≡ old.headers + 1 → new.counts ≡ old.counts → new.at + length new.rest ≡ old.at + length old.rest → new.places ≡ old.places → Accepts parameters old new (without_null (Some p))
+parameters_taken old new p r b t h c at places =
+    viewed_accepts element_meaning written_parameters IsParameters AnyParameters raws raws_lawful parameters_seen.few old new new p (without_null (Some p)) [] r (raw_accepts old new p p r b t refl h c at places) refl (booked_none old new)
 
 parameters_there : (p : Option (Option (List ℕ))) → (optional parameters).valid p → IsParameters (if_there p)
 parameters_there None h = record { element = tt; not_null = tt }
@@ -136,24 +141,3 @@ raw_algorithm_means = record {
 -- at most one deviation
 pub one_kind : (b : Fields) (v : RawAlgorithm) (ks : List Deviation) → meaning b ≡ Some (v, ks) → length ks ≤ 1
 one_kind b v ks e = omega (arith, few_kinds b.1, ap length (some_one (of_fields b) v (kinds_of b.1) ks e).1)
-
--- a list of two
-abbrev list : Shape (List RawAlgorithm)
-list = tagged 48 (items raw_algorithm)
-
-one_item : (v : RawAlgorithm) (c : List ℕ) (x : Tally) → raw_algorithm.spelled v c x → Items raw_algorithm (v ∷ []) c (joined (length c) x none)
-one_item v c x i = record { front = c; back = []; first = x; second = none; fore = i; aft = (refl, refl); bytes = sym (append-nil c); tally = refl }
-
-pub two_at : Lawful raw_algorithm → IsElement raw_algorithm → (v w : RawAlgorithm) (c d string : List ℕ) (x z y : Tally) → raw_algorithm.spelled v c x → raw_algorithm.spelled w d z → string ≡ element 48 (c ++ d) → list.spelled (v ∷ w ∷ []) string y → TwoAt v w c d string y
-two_at l h v w c d string x z y i j e a =
-    let list_lawful = tagged_lawful 48 (items raw_algorithm) (items_lawful raw_algorithm l (full raw_algorithm h) h.free) in
-    let b = (stands_whole list list_lawful (v ∷ w ∷ []) string y a).parts in
-    let m = (element_one 48 48 (c ++ d) b.content [] [] (ap (λ r. r ++ []) (sym e ∙ b.bytes))).content in
-    let n : ℕ = 0 + header b.content in
-    let f = item_exactly raw_algorithm l h.free [] (w ∷ []) v [] c d b.content none x n string y (refl, refl) i (sym m) b.inner.parts in
-    let g = item_exactly raw_algorithm l h.free (v ∷ []) [] w c d [] b.content (joined (length c) x none) z n string y (one_item v c x i) j (sym m ∙ ap (λ r. c ++ r) (sym (append-nil d))) b.inner.parts in
-    let k : n + 0 ≡ header (c ++ d) = omega (arith, ap header m) in
-    let u : n + length c ≡ header (c ++ d) + length c = omega (arith, ap header m) in
-    let P : ℕ → Type 0 = λ q. FieldAt raw_algorithm v q c string y in
-    let Q : ℕ → Type 0 = λ q. FieldAt raw_algorithm w q d string y in
-    record { first = subst P k f.field; second = subst Q u g.field }

@@ -1,5 +1,5 @@
 -- The kinds of attributes keep the laws.
-use Rattle.std.proofs.Common.{◌≡◌, ℕ, ◌++◌, true, false, List, refl, ap}
+use Rattle.std.proofs.Common.{◌≡◌, ℕ, ◌<◌, ◌++◌, true, false, List, [], ◌∷◌, refl, ap, arith, lit<}
 use Rattle.x509_names_parts.specs.declared.directory_string.DirectoryString.{DirectoryString}
 use Rattle.x509_names_parts.specs.DirectoryStrings.{directory_string}
 use Rattle.x509_names.specs.declared.name_attr.NameAttr.{NameAttr}
@@ -8,7 +8,8 @@ use Rattle.x509_names.specs.declared.attribute_type_and_value.AttributeTypeAndVa
 use Rattle.x509_names.specs.declared.attribute_type_and_value.AttributeTypeAndValue.{AttributeTypeAndValue}
 use Rattle.x509_der.specs.Types.choice.{First}
 use Rattle.x509_der.specs.Element.{element}
-use Rattle.x509_der.specs.ObjectIdentifier.{oid_content}
+use Rattle.x509_der.specs.ObjectIdentifier.{IsLawful, oid_content}
+use Rattle.x509_der.specs.facts.ArcLists.{no_arcs, and_arc}
 use Rattle.x509_der.specs.Shape.{Lawful}
 use Rattle.x509_der.specs.laws.Tagged.{tagged_lawful}
 use Rattle.x509_der.specs.laws.PrimitiveContent.{itself_lawful}
@@ -87,3 +88,26 @@ text_kinds attr.Phone = refl
 
 pub email_kinds : kind_of email_arcs ≡ kind.Email
 email_kinds = refl
+
+at_lawful : (n : ℕ) → n < 128 → IsLawful (2 ∷ 5 ∷ 4 ∷ n ∷ [])
+at_lawful n h = record {
+  len = omega arith;
+  first = omega arith;
+  second = λ l. omega arith;
+  both = omega arith;
+  each = and_arc 2 (5 ∷ 4 ∷ n ∷ []) (omega arith) (and_arc 5 (4 ∷ n ∷ []) (omega arith) (and_arc 4 (n ∷ []) (omega arith) (and_arc n [] (omega (arith, h)) no_arcs)));
+}
+
+-- the arcs of each attribute are an object identifier's
+pub attr_lawful : (a : NameAttr) → IsLawful (arcs_of a)
+attr_lawful attr.CommonName = at_lawful 3 (lit< tt)
+attr_lawful attr.Surname = at_lawful 4 (lit< tt)
+attr_lawful attr.SerialNumber = at_lawful 5 (lit< tt)
+attr_lawful attr.CountryName = at_lawful 6 (lit< tt)
+attr_lawful attr.LocalityName = at_lawful 7 (lit< tt)
+attr_lawful attr.StateOrProvinceName = at_lawful 8 (lit< tt)
+attr_lawful attr.StreetName = at_lawful 9 (lit< tt)
+attr_lawful attr.OrganizationName = at_lawful 10 (lit< tt)
+attr_lawful attr.OrganizationalUnitName = at_lawful 11 (lit< tt)
+attr_lawful attr.GivenName = at_lawful 42 (lit< tt)
+attr_lawful attr.Phone = at_lawful 20 (lit< tt)

@@ -1,5 +1,5 @@
 -- What a number means as a version keeps the laws.
-use Rattle.std.proofs.Common.{◌≡◌, ◌↔◌, refl, sym, ◌∙◌, ap, lit<, ℕ, ◌<◌, zero, suc, List, [], length, Option, Some, None, arith}
+use Rattle.std.proofs.Common.{◌≡◌, ◌↔◌, refl, sym, ◌∙◌, ap, lit<, ℕ, ◌<◌, zero, suc, List, [], ◌∷◌, length, Option, Some, None, arith}
 use Rattle.std.proofs.lemmas.Bool.Decides.{nat_tests}
 use Rattle.x509_names_parts.specs.declared.version.Version.{Version}
 use Rattle.x509_names_parts.specs.declared.version.Version.TheVariants.{V1, V2, V3}
@@ -33,6 +33,24 @@ again zero v e = ap version_number (some_one V1 v e)
 again (suc zero) v e = ap version_number (some_one V2 v e)
 again (suc (suc zero)) v e = ap version_number (some_one V3 v e)
 again (suc (suc (suc n))) v e = let h = none_above n in cc
+
+single : (v : Version) → version_number v ∷ [] ≡ version_bytes v
+single V1 = refl
+single V2 = refl
+single V3 = refl
+
+-- the content of a version is the one byte of its number
+pub one_byte : (n : ℕ) (v : Version) → version_of n ≡ Some v → n ∷ [] ≡ version_bytes v
+one_byte n v e = ap (λ m. m ∷ []) (again n v e) ∙ single v
+
+pub no_byte : (n : ℕ) (v : Version) → version_of n ≡ None → n ∷ [] ≡ version_bytes v → ⊥
+no_byte n v e h =
+    let m : n ≡ version_number v = cc (h, single v) in
+    let k = ap version_of m ∙ there v in
+    cc
+
+pub one_long : (v : Version) → length (version_bytes v) ≡ 1
+one_long v = ap length (sym (single v))
 
 pub version_is : IsMeaning version_meaning version_base
 version_is = partly_is version_of version_number version_base there again

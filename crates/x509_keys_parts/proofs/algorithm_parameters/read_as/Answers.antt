@@ -6,7 +6,8 @@ use Rattle.x509_der.specs.Variant.{bare}
 use Rattle.x509_keys_parts.specs.AesParameters.{aes_parameters}
 use Rattle.x509_keys_parts.specs.EcParameters.{ec_parameters}
 use Rattle.x509_keys_parts.specs.RsassaPss.{rsassa_pss}
-use Rattle.x509_keys_parts.specs.AlgorithmParameters.{parameters_bytes, AreParameters, if_null, if_aes, null}
+use Rattle.x509_keys_parts.specs.AlgorithmParameters.{parameters_bytes, AreParameters, if_null, if_aes}
+use Rattle.x509_keys_parts.specs.HashAlgorithms.{null}
 use Rattle.x509_keys_parts.specs.declared.algorithm_parameters.AlgorithmIdentifierParameters.TheVariants as parameters
 use Rattle.x509_keys_parts.proofs.algorithm_parameters.read_as.Goals as goal
 

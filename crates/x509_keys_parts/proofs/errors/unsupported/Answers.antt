@@ -1,5 +1,8 @@
-use Rattle.std.proofs.Common.{rules}
+use Rattle.std.proofs.Common.{refl}
+use Rattle.std.specs.String.{string_bytes}
+use Rattle.x509_keys_parts.specs.declared.errors.AlgorithmError.TheVariants as error
+use Rattle.x509_keys_parts.specs.facts.NamedErrors.{text_or_memory}
 use Rattle.x509_keys_parts.proofs.errors.unsupported.Goals as goal
 
-pub returns-in-Ok : goal.returns-in-Ok
-returns-in-Ok g c = search (rules)
+pub returns : goal.returns
+returns g c = text_or_memory string_bytes (λ s. error.Unsupported (record { algorithm = s })) (λ s. refl) c.to_string.result c.named_by.result _ c.to_string.ensures.ok c.named_by.ensures.text c.named_by.ensures.memory

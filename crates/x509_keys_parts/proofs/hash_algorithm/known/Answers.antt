@@ -1,5 +1,5 @@
 use Rattle.std.proofs.Common.{sym, ◌∙◌}
-use Rattle.x509_keys_parts.specs.facts.Named.{named_next}
+use Rattle.x509_der.specs.facts.Named.{named_next}
 use Rattle.x509_keys_parts.specs.HashAlgorithms.{hash_arcs, hashes}
 use Rattle.x509_keys_parts.specs.declared.hash_algorithm.HashAlgorithm.TheVariants as hash
 use Rattle.x509_keys_parts.proofs.hash_algorithm.known.Goals as goal

@@ -1,5 +1,5 @@
 use Rattle.std.proofs.Common.{◌≡◌, drop}
-use Rattle.x509_keys_parts.specs.Named.{named}
+use Rattle.x509_der.specs.Named.{named}
 use Rattle.x509_keys_parts.specs.HashAlgorithms.{hash_arcs, hashes, hash_of}
 use Rattle.x509_keys_parts.proofs.hash_algorithm.known.Given as goal
 

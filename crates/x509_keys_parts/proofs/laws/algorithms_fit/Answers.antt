@@ -1,8 +1,11 @@
 use Rattle.std.proofs.Common.{◌∷◌, [], refl}
 use Rattle.x509_keys_parts.specs.AlgorithmIdentifier.{identified}
-use Rattle.x509_keys_parts.specs.facts.AlgorithmLaws.{readable_fits, unfit_unread}
+use Rattle.x509_keys_parts.specs.facts.AlgorithmLaws.{readable_fits, readable_where_fit, unfit_unread}
 use Rattle.x509_keys_parts.specs.declared.algorithm_parameters.AlgorithmIdentifierParameters.TheVariants.{Null}
 use Rattle.x509_keys_parts.proofs.laws.algorithms_fit.Goals as goal
+
+pub returns-clause-readable : goal.returns-clause-readable
+returns-clause-readable g c = λ v. (λ r. readable_fits v r, λ e. readable_where_fit v e)
 
 pub returns-clause-fit : goal.returns-clause-fit
 returns-clause-fit g c = λ v string y a. readable_fits v (c.spellings_are_lawful.ensures.lawful.read v string y a)

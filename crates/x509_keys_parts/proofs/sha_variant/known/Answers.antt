@@ -1,5 +1,5 @@
 use Rattle.std.proofs.Common.{sym, ◌∙◌}
-use Rattle.x509_keys_parts.specs.facts.Named.{named_next}
+use Rattle.x509_der.specs.facts.Named.{named_next}
 use Rattle.x509_keys_parts.specs.ShaVariants.{sha_arcs, shas}
 use Rattle.x509_keys_parts.specs.declared.sha_variant.ShaVariant.TheVariants as sha
 use Rattle.x509_keys_parts.proofs.sha_variant.known.Goals as goal

@@ -1,5 +1,5 @@
 use Rattle.std.proofs.Common.{◌≡◌, drop}
-use Rattle.x509_keys_parts.specs.Named.{named}
+use Rattle.x509_der.specs.Named.{named}
 use Rattle.x509_keys_parts.specs.ShaVariants.{sha_arcs, shas, sha_of}
 use Rattle.x509_keys_parts.proofs.sha_variant.known.Given as goal
 

@@ -1,9 +1,6 @@
 -- Values that are named by the arcs of object identifiers.
-use Rattle.std.specs.Prelude.{ℕ, Bool, nat_eq, if◌then◌else◌, List, [], ◌∷◌, Option, Some, None}
-use Rattle.std.specs.Cmp.Lexicographic.{pointwise}
-
-abbrev pub is_arcs : List ℕ → List ℕ → Bool
-is_arcs x y = pointwise nat_eq x y
+use Rattle.std.specs.Prelude.{ℕ, if◌then◌else◌, List, [], ◌∷◌, Option, Some, None}
+use Rattle.x509_der.specs.ObjectIdentifier.{is_arcs}
 
 -- the first value of a list whose arcs these are, if any
 abbrev pub named : {V : Type 0} → (V → List ℕ) → List V → List ℕ → Option V

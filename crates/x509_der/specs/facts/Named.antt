@@ -2,7 +2,8 @@
 use Rattle.std.proofs.Common.{◌≡◌, ℕ, suc, ◌+◌, ◌<◌, Bool, true, false, cond, List, [], ◌∷◌, drop, length, get_or, drop-cons, Option, Some, refl, ap, ◌∙◌, arith}
 use Rattle.std.specs.Prelude.{IsTrue}
 use Rattle.std.specs.Cmp.Lexicographic.{bytes_decides}
-use Rattle.x509_keys_parts.specs.Named.{is_arcs, named}
+use Rattle.x509_der.specs.ObjectIdentifier.{is_arcs}
+use Rattle.x509_der.specs.Named.{named}
 
 same_value : {V : Type 0} (v w : V) → ◌≡◌ {A = Option V} (Some v) (Some w) → v ≡ w
 same_value v w e = cc

@@ -1,0 +1,10 @@
+use Rattle.std.proofs.Common.{sym, ◌∙◌}
+use Rattle.x509_der.specs.facts.Named.{named_next}
+use Rattle.x509_names.specs.Attributes.{arcs_of, attrs}
+use Rattle.x509_names.specs.declared.name_attr.NameAttr.TheVariants as attr
+use Rattle.x509_names.proofs.name_attr.attr_of.Goals as goal
+
+pub loop-attr-preserved : goal.loop-attr-preserved
+loop-attr-preserved g c =
+    let missed = named_next arcs_of attrs c.loop-attr.attr-index attr.CommonName c.args.identifier.now c.loop-attr-test.true (λ e. c.if-is_arcs.ensures.1 (e ∙ sym c.arcs.ensures)) in
+    sym missed ∙ c.loop-attr.invariant
