@@ -272,6 +272,8 @@ pub record ExtensionAt {A : Type 0} (v : ExtensionFields A) (string : List ℕ) 
   pub means : critical_of spelled ≡ v.critical
   pub id_at : FieldAt (tagged 6 oids) v.extn_id (header content) ids string y
   pub critical_at : OptionalAt (tagged 1 booleans) spelled (header content + length ids) flags string y
+  pub octets : List ℕ
+  pub value_bytes : values ≡ element 4 octets
   pub value_at : Stands (by_kind (kind_of v.extn_id)) v.extn_value (header content + length keys) values string y
 
 -- the extension of an identifier, critical or not, with its value

@@ -3,6 +3,7 @@ pub mod AttributeFacts
 pub mod AttributeSame
 pub mod Constraints
 pub mod ExtensionFacts
+pub mod ExtensionOctets
 pub mod ExtensionListFacts
 pub mod KeyAuthorityFacts
 pub mod KeyAuthorityLaws

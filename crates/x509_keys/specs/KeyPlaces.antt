@@ -53,6 +53,8 @@ pub record InfoAt {A : Type 0} (v : PrivateKeyInfo A) (string : List ℕ) (y : T
   pub fields : content ≡ versions ++ ((algorithms ++ keys) ++ (others ++ publics))
   pub version_at : FieldAt (tagged 2 small_integers) v.version (header content) versions string y
   pub algorithm_at : FieldAt algorithm_identifier v.private_key_algorithm (header content + length versions) algorithms string y
+  pub octets : List ℕ
+  pub key_bytes : keys ≡ element 4 octets
   pub key_at : Stands (private_by_kind (key_kind v.private_key_algorithm.algorithm)) v.private_key ((header content + length versions) + length algorithms) keys string y
   pub other_at : OptionalAt skipped between ((header content + length versions) + length (algorithms ++ keys)) others string y
   pub public_at : OptionalAt info_public_key v.public_key (((header content + length versions) + length (algorithms ++ keys)) + length others) publics string y

@@ -12,6 +12,7 @@ pub mod KeyPlaces
 pub use Rattle.x509_der.specs.facts.Named
 pub use Rattle.x509_keys_parts.specs.facts.NaturalContents
 pub mod PrivateKeyInfos
+pub mod PrivateKeyOctets
 pub mod PrivateKeyPlaces
 pub mod PrivateKeyValues
 pub mod PublicKeys
