@@ -10,6 +10,7 @@
 # beside it, FILE.sources: the checksum of its sources and its own. The last line of a comparison is 'N passed, M failed'.
 set -eu
 export LC_ALL=C
+unset CDPATH
 cd "$(dirname "$0")/.."
 
 sum() { sha256sum <"$1" | cut -d ' ' -f 1; }

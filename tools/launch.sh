@@ -3,6 +3,7 @@
 # else one that was built here of them. Else it is proved and built first, which is said before.
 # usage: tools/launch.sh NAME ARGUMENT..
 set -eu
+unset CDPATH
 root=$(dirname "$0")/..
 name=$1
 shift
@@ -12,11 +13,12 @@ sum() { sha256sum <"$1" | cut -d ' ' -f 1; }
 # Whether a file has a line.
 has() { [ -f "$1" ] && grep -qxF "$2" "$1"; }
 
-# Without an argument each program only says how it is used, and ends with 2.
+# Without an argument each program only says how it is used.
 runs() {
-    status=0
-    "$1" </dev/null >/dev/null 2>&1 || status=$?
-    [ "$status" = 2 ]
+    case $("$1" 2>&1 </dev/null || true) in
+    *[Uu]sage:\ "$name"*) return 0 ;;
+    *) return 1 ;;
+    esac
 }
 
 # shellcheck disable=SC2046
@@ -31,6 +33,8 @@ if ! has "$root/dist/SOURCES" "$sources  $name"; then
     why="dist/ has none of the sources that stand here"
 elif ! { [ -f "$shipped" ] && has "$root/dist/SHA256SUMS" "$(sum "$shipped")  $name"; }; then
     why="dist/$name doesn't have the checksum in dist/SHA256SUMS"
+elif [ ! -x "$shipped" ]; then
+    why="dist/$name isn't executable: chmod +x dist/$name mends that"
 elif ! runs "$shipped"; then
     why="dist/$name doesn't run on this machine, which may have another processor or an older C library"
 else

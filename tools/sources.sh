@@ -5,6 +5,7 @@
 # usage: tools/sources.sh CRATE
 set -eu
 export LC_ALL=C
+unset CDPATH
 cd "$(dirname "$0")/.."
 
 # The lines of the crate and of those below it, as 'NAME: DEP DEP ..' without comments.

@@ -3,6 +3,7 @@
 import os
 import shutil
 import subprocess
+import sys
 import tempfile
 import unittest
 
@@ -17,7 +18,7 @@ run) ;;
 esac
 echo "built in $(pwd)" >>"$LOG"
 mkdir -p out
-printf '#!/bin/sh\\n[ $# -gt 0 ] || exit 2\\necho "%s" "$@"\\n' "$(cat src/main.rt)" >out/x509_tool
+printf '#!/bin/sh\\n[ $# -gt 0 ] || { echo "usage: x509_tool TYPE" >&2; exit 2; }\\necho "%s" "$@"\\n' "$(cat src/main.rt)" >out/x509_tool
 chmod +x out/x509_tool
 exit "${RT_STATUS:-0}"
 """
@@ -77,10 +78,12 @@ class DistTest(unittest.TestCase):
         return os.path.exists(self.log)
 
     def test_the_shipped_program_runs_at_once(self):
+        shutil.rmtree(f"{self.root}/crates/x509_tool/out")
         self.assertEqual(self.ran(["bin/x509_tool", "a", "b c"], has_rt=False), ("first a b c\n", ""))
 
     def test_what_makes_no_other_program(self):
         """A touched source, a proof, another crate, and a comment or a line of another crate in crates.txt."""
+        shutil.rmtree(f"{self.root}/crates/x509_tool/out")
         os.utime(f"{self.root}/crates/low/src/lib.rt")
         self.change("crates/low/proofs/Lib.antt", "changed")
         self.change("crates/other/src/lib.rt", "changed")
@@ -128,7 +131,7 @@ class DistTest(unittest.TestCase):
 
     def test_checksums_that_were_written_anew(self):
         """Where the shipped program and its checksum are another's, the comparison with what is built tells."""
-        text = "#!/bin/sh\n[ $# -gt 0 ] || exit 2\necho wrong\n"
+        text = "#!/bin/sh\necho wrong\n"
         self.change("dist/x509_tool", text)
         made = subprocess.run(["sha256sum", "x509_tool"], cwd=f"{self.root}/dist", stdout=subprocess.PIPE, encoding="utf-8", check=True)
         self.change("dist/SHA256SUMS", made.stdout)
@@ -136,7 +139,11 @@ class DistTest(unittest.TestCase):
         self.assertIn("other bytes", self.ran(["tools/dist.sh", "--check"], 1)[0])
 
     def test_a_machine_that_cannot_run_it(self):
-        self.change("dist/x509_tool", "\x7fELF of another processor")
+        # (an executable with the number of another processor in its header)
+        with open(sys.executable, "rb") as it:
+            header = it.read(4096)
+        with open(f"{self.root}/dist/x509_tool", "wb") as it:
+            it.write(header[:18] + b"\xf3\x00" + header[20:])
         made = subprocess.run(["sha256sum", "x509_tool"], cwd=f"{self.root}/dist", stdout=subprocess.PIPE, encoding="utf-8", check=True)
         self.change("dist/SHA256SUMS", made.stdout)
         shutil.rmtree(f"{self.root}/crates/x509_tool/out")
