@@ -1,11 +1,12 @@
 #!/bin/sh
 # Makes dist/ anew, from what the gate has proved and built, or compares it. tools/artifacts.txt says what it holds.
-# usage: tools/dist.sh              makes each artifact, SHA256SUMS and SOURCES. What isn't built of the sources that stand
-#                                   here is proved and built first
-#        tools/dist.sh --check      compares dist/ with what is built, and says which file differs
-#        tools/dist.sh --sums       compares checksums alone, for which no toolchain is needed
-#        tools/dist.sh --after-ci   --check right after rt ci, which has built anew what stands in out/
-#        tools/dist.sh --build NAME proves and builds an artifact where that isn't done, and prints its path
+# usage: tools/dist.sh                  makes each artifact, SHA256SUMS and SOURCES. What isn't built of the sources that
+#                                       stand here is proved and built first
+#        tools/dist.sh --check          compares dist/ with what is built, and says which file differs
+#        tools/dist.sh --sums           compares checksums alone, for which no toolchain is needed
+#        tools/dist.sh --after-ci SUMS  --check right after rt ci, which has built anew the programs in out/, and the
+#                                       libraries that aren't among SUMS (tools/plant.py --before-ci)
+#        tools/dist.sh --build NAME     proves and builds an artifact where that isn't done, and prints its path
 # SOURCES has the toolchain's line, and the checksum of each artifact's sources (tools/sources.sh). What is built has a record
 # beside it, FILE.sources: the checksum of its sources and its own. The last line of a comparison is 'N passed, M failed'.
 set -eu
@@ -23,16 +24,15 @@ record() { printf '%s %s\n' "$(tools/sources.sh "$1")" "$(sum "$2")"; }
 
 is_built() { [ -f "$2" ] && [ -f "$2.sources" ] && [ "$(cat "$2.sources")" = "$(record "$1" "$2")" ]; }
 
-# Proves and builds what a crate makes: a program by its stored run.
-make_crate() (
-    cd "crates/$1"
-    if [ -f src/main.rt ]; then
+# Proves and builds what a crate makes: a program by its stored run, or a static library.
+make_crate() {
+    if [ -f "crates/$1/src/main.rt" ]; then
         # shellcheck disable=SC2046
-        cat stdin 2>/dev/null | rt run -- $(cat args 2>/dev/null) >&2
+        (cd "crates/$1" && cat stdin 2>/dev/null | rt run -- $(cat args 2>/dev/null) >&2)
     else
-        rt lib </dev/null >&2
+        python3 tools/build_library.py "$1" ${stood+--stood "$stood"} >&2
     fi
-)
+}
 
 # Builds the file of a crate where that isn't done.
 build() {
@@ -119,8 +119,11 @@ case ${1-} in
 '') make_dist ;;
 --check | --sums) compare "$1" ;;
 --after-ci)
+    stood=$2
+    # (all is built first, so that dist/ can be made of it where it differs)
     artifacts | while read -r _name crate file; do
         if [ -f "$file" ]; then record "$crate" "$file" >"$file.sources"; fi
+        build "$crate" "$file" </dev/null || true
     done
     compare --check
     ;;
@@ -133,7 +136,7 @@ case ${1-} in
     done
     ;;
 *)
-    sed -n '3,10s/^# //p' "$0" >&2
+    sed -n '3,9s/^# //p' "$0" >&2
     exit 2
     ;;
 esac

@@ -162,9 +162,9 @@ class DistTest(unittest.TestCase):
         """What rt ci has just built is taken for what it is."""
         shutil.rmtree(f"{self.root}/crates/x509_tool/out")
         shutil.copytree(f"{self.root}/dist", f"{self.root}/crates/x509_tool/out")
-        self.assertEqual(self.ran(["tools/dist.sh", "--after-ci"])[0], "1 passed, 0 failed\n")
+        self.assertEqual(self.ran(["tools/dist.sh", "--after-ci", ""])[0], "1 passed, 0 failed\n")
         self.change("crates/x509_tool/out/x509_tool", "other")
-        self.assertIn("other bytes", self.ran(["tools/dist.sh", "--after-ci"], 1)[0])
+        self.assertIn("other bytes", self.ran(["tools/dist.sh", "--after-ci", ""], 1)[0])
         self.assertFalse(self.is_built())
 
     def test_what_else_stands_in_dist(self):

@@ -115,11 +115,14 @@ class ProgramTest(unittest.TestCase):
         """What a run gives whose standard input comes in pieces."""
         words = [*self.program, *arguments]
         with subprocess.Popen(words, bufsize=0, stdin=subprocess.PIPE, stdout=subprocess.PIPE, stderr=subprocess.PIPE) as it:
+            limit = threading.Timer(SECONDS, it.kill)
+            limit.start()
             feeder = threading.Thread(target=feed, args=(it.stdin, given, pause))
             feeder.start()
             output = it.stdout.read()
             error = it.stderr.read()
             feeder.join()
+            limit.cancel()
         return it.returncode, output, error
 
     def test_output_to_a_full_device(self):
