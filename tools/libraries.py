@@ -31,11 +31,14 @@ def closure(name, uses):
 
 def sum_of(path):
     """The checksum of a file, or an empty text where there is none."""
+    made = hashlib.sha256()
     try:
         with open(path, "rb") as it:
-            return hashlib.file_digest(it, "sha256").hexdigest()
+            while part := it.read(1 << 20):
+                made.update(part)
     except OSError:
         return ""
+    return made.hexdigest()
 
 
 def library(name):

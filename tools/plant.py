@@ -145,7 +145,8 @@ def whole_fate(said):
     if re.search(r"(?m)^logic=proved", said.text):
         return PROVED, ""
     fates = [said.fate_of(it) for it in said.told]
-    return next((it for it in fates if it[0] == REFUSED), next((it for it in fates if it[0] != PROVED), (UNKNOWN, "no function is told")))
+    others = [it for it in fates if it[0] != PROVED]
+    return next((it for it in others if it[0] == REFUSED), next(iter(others), (UNKNOWN, "no function is told")))
 
 
 def read_edits(folder, word, crate):

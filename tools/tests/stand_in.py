@@ -77,7 +77,8 @@ def answer(name, text):
 def outcome(wrong, arguments):
     """The status, and what is printed."""
     try:
-        names = [os.fsencode(it).decode(errors="strict" if wrong != "takes any bytes for an argument" else "ignore") for it in arguments]
+        errors = "ignore" if wrong == "takes any bytes for an argument" else "strict"
+        names = [os.fsencode(it).decode(errors=errors) for it in arguments]
     except UnicodeDecodeError:
         return 2, ""
     if wrong == "never fetches a second argument":

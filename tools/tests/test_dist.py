@@ -18,7 +18,8 @@ run) ;;
 esac
 echo "built in $(pwd)" >>"$LOG"
 mkdir -p out
-printf '#!/bin/sh\\n[ $# -gt 0 ] || { echo "usage: x509_tool TYPE" >&2; exit 2; }\\necho "%s" "$@"\\n' "$(cat src/main.rt)" >out/x509_tool
+text='#!/bin/sh\\n[ $# -gt 0 ] || { echo "usage: x509_tool TYPE" >&2; exit 2; }\\necho "%s" "$@"\\n'
+printf "$text" "$(cat src/main.rt)" >out/x509_tool
 chmod +x out/x509_tool
 exit "${RT_STATUS:-0}"
 """
@@ -73,6 +74,11 @@ class DistTest(unittest.TestCase):
 
     def change(self, path, text):
         write(f"{self.root}/{path}", text)
+
+    def write_sums(self):
+        """Writes the checksum of what stands in dist/, as one would who wants it to be believed."""
+        how = {"cwd": f"{self.root}/dist", "stdout": subprocess.PIPE, "encoding": "utf-8", "check": True}
+        self.change("dist/SHA256SUMS", subprocess.run(["sha256sum", "x509_tool"], **how).stdout)
 
     def is_built(self):
         return os.path.exists(self.log)
@@ -133,8 +139,7 @@ class DistTest(unittest.TestCase):
         """Where the shipped program and its checksum are another's, the comparison with what is built tells."""
         text = "#!/bin/sh\necho wrong\n"
         self.change("dist/x509_tool", text)
-        made = subprocess.run(["sha256sum", "x509_tool"], cwd=f"{self.root}/dist", stdout=subprocess.PIPE, encoding="utf-8", check=True)
-        self.change("dist/SHA256SUMS", made.stdout)
+        self.write_sums()
         self.assertEqual(self.ran(["tools/dist.sh", "--sums"])[0], "1 passed, 0 failed\n")
         self.assertIn("other bytes", self.ran(["tools/dist.sh", "--check"], 1)[0])
 
@@ -144,8 +149,7 @@ class DistTest(unittest.TestCase):
             header = it.read(4096)
         with open(f"{self.root}/dist/x509_tool", "wb") as it:
             it.write(header[:18] + b"\xf3\x00" + header[20:])
-        made = subprocess.run(["sha256sum", "x509_tool"], cwd=f"{self.root}/dist", stdout=subprocess.PIPE, encoding="utf-8", check=True)
-        self.change("dist/SHA256SUMS", made.stdout)
+        self.write_sums()
         shutil.rmtree(f"{self.root}/crates/x509_tool/out")
         output, error = self.ran(["bin/x509_tool", "a"])
         self.assertEqual(output, "first a\n")

@@ -103,7 +103,7 @@ fn main(_rt: HostRuntime) -> ExitCode {
 """
 FILES = {
     "crates.txt": "tiny:\nmain:\n",
-    "crates/tiny/src/lib.rt": "//! Small functions, two of which have one name.\n#![tactic(auto)]\n\npub mod back;\npub mod front;\n",
+    "crates/tiny/src/lib.rt": "//! Two of one name.\n#![tactic(auto)]\n\npub mod back;\npub mod front;\n",
     "crates/tiny/src/front.rt": FRONT,
     "crates/tiny/src/back.rt": BACK,
     "crates/tiny/proofs/front/zeros/Invariants.antt": INVARIANTS,
@@ -112,29 +112,47 @@ FILES = {
 # Wrong bodies, each with the function that must be refused.
 WRONG = {
     "zeros_counts_twice": "file: src/front.rt\nfunction: front::zeros\nold: count += 1;\nnew: count += 2;\n",
-    "of_is_more": "file: src/front.rt\nfunction: front::of\nold:     number\n}\nnew:     number / 2\n}\n",
+    "of_is_less": "file: src/front.rt\nfunction: front::of\nold:     number\nnew:     number / 2\n",
     "seven_is_eight": "file: src/front.rt\nfunction: front::seven\nold: const SEVEN: u8 = 7;\nnew: const SEVEN: u8 = 8;\n",
 }
 # What changes nothing that is promised, and what is said of it.
 RIGHT = {
     # another function of that name is broken by another edit
-    "same_as_before": ("file: src/back.rt\nfunction: back::of\nold: let answer = number;\nnew: let answer = number % 255 + number / 255 * 255;\n", "NOT REFUSED"),
-    "names_another_of": ("file: src/back.rt\nfunction: front::of\nold: let answer = number;\nnew: let answer = number | 0;\n", "BAD EDIT"),
+    "same_as_before": (
+        "file: src/back.rt\nfunction: back::of\n"
+        "old: let answer = number;\nnew: let answer = number % 255 + number / 255 * 255;\n",
+        "NOT REFUSED",
+    ),
+    "names_another_of": (
+        "file: src/back.rt\nfunction: front::of\nold: let answer = number;\nnew: let answer = number | 0;\n",
+        "BAD EDIT",
+    ),
     # it calls one that another edit breaks
-    "only_calls": ("file: src/front.rt\nfunction: front::twice\nold: let first = of(number);\nnew: let first = of(of(number));\n", "NOT REFUSED"),
+    "only_calls": (
+        "file: src/front.rt\nfunction: front::twice\nold: let first = of(number);\nnew: let first = of(of(number));\n",
+        "NOT REFUSED",
+    ),
     # the constant breaks another function than the one that it names
-    "untouched": ("file: src/front.rt\nfunction: front::of\nold: const SEVEN: u8 = 7;\nnew: const SEVEN: u8 = 9;\n", "NOT REFUSED"),
+    "untouched": (
+        "file: src/front.rt\nfunction: front::of\nold: const SEVEN: u8 = 7;\nnew: const SEVEN: u8 = 9;\n",
+        "NOT REFUSED",
+    ),
+    # the proof names the local
     "renamed": (
-        "file: src/front.rt\nfunction: front::zeros\nold: let mut count = 0;\nnew: let mut total = 0;\nold: count += 1;\nnew: total += 1;\n"
-        "old:     count\nnew:     total\n",
+        "file: src/front.rt\nfunction: front::zeros\nold: let mut count = 0;\nnew: let mut total = 0;\n"
+        "old: count += 1;\nnew: total += 1;\nold:     count\nnew:     total\n",
         "BAD EDIT",
     ),
     "one_of_two": (
-        "file: src/back.rt\nfunction: back::of\nfunction: back::same\nold:     answer\nnew:     answer / 2\nold:     number\nnew:     let itself = number; itself\n",
+        "file: src/back.rt\nfunction: back::of\nfunction: back::same\nold:     answer\nnew:     answer / 2\n"
+        "old:     number\nnew:     let itself = number; itself\n",
         "NOT REFUSED",
     ),
     "unreadable": ("file: src/back.rt\nfunction: back::same\nold:     number\nnew:     numbers\n", "BAD EDIT"),
-    "no_such_function": ("file: src/front.rt\nfunction: front::eight\nold: const SEVEN: u8 = 7;\nnew: const SEVEN: u8 = 6;\n", "BAD EDIT"),
+    "no_such_function": (
+        "file: src/front.rt\nfunction: front::eight\nold: const SEVEN: u8 = 7;\nnew: const SEVEN: u8 = 6;\n",
+        "BAD EDIT",
+    ),
 }
 
 
@@ -180,7 +198,8 @@ class EditTest(RepositoryCase):
         self.is_bad(f"file: src/back.rt\nfunction: back::same\n{both}", "back::of")
         edit = self.edit(f"file: src/back.rt\nfunction: back::same\nfunction: back::of\n{both}")
         self.assertEqual(edit.functions, {"back::of", "back::same"})
-        self.is_bad("file: src/back.rt\nfunction: back::of\nfunction: front::of\nold: = number;\nnew: = 0;\n", "doesn't change the function front::of")
+        text = "file: src/back.rt\nfunction: back::of\nfunction: front::of\nold: = number;\nnew: = 0;\n"
+        self.is_bad(text, "doesn't change the function front::of")
 
     def test_code_alone_is_changed(self):
         named = "function: front::zeros\n"
@@ -357,10 +376,8 @@ class ProverTest(RepositoryCase):
         return {it: why.partition(":")[0] for it, why in lines.items()}, ran
 
     def test_edits_of_a_library(self):
-        wrong = {it: text for it, text in WRONG.items() if "\n}\n" not in text}
-        wrong["of_is_more"] = "file: src/front.rt\nfunction: front::of\nold:     number\nnew:     number / 2\n"
-        found, ran = self.tried("tiny", {**wrong, **{it: text for it, (text, _) in RIGHT.items()}})
-        wanted = {**dict.fromkeys(wrong, "refused"), **{it: word for it, (_, word) in RIGHT.items()}}
+        found, ran = self.tried("tiny", {**WRONG, **{it: text for it, (text, _) in RIGHT.items()}})
+        wanted = {**dict.fromkeys(WRONG, "refused"), **{it: word for it, (_, word) in RIGHT.items()}}
         self.assertEqual(found, wanted, ran.stdout)
         self.assertEqual(ran.returncode, 1)
         self.assertIn(f"tiny: {len(wanted)} edits planted, {len(RIGHT)} not refused", ran.stdout)

@@ -34,7 +34,8 @@ class ProgramTest(unittest.TestCase):
         if not os.access(cls.program[0], os.X_OK):
             raise unittest.SkipTest(f"there is no program {cls.program[0]}")
         # (what is of other sources, or was changed, isn't run)
-        if cls.program[0] == SHIPPED and subprocess.run([f"{ROOT}/tools/dist.sh", "--sums"], stdout=subprocess.DEVNULL, check=False).returncode:
+        words = [f"{ROOT}/tools/dist.sh", "--sums"]
+        if cls.program[0] == SHIPPED and subprocess.run(words, stdout=subprocess.DEVNULL, check=False).returncode:
             raise unittest.SkipTest("dist/x509_tool isn't of the sources that stand here: tools/dist.sh --sums says why")
 
     def run_on(self, arguments, given=b"", **how):
