@@ -19,12 +19,12 @@ PARTS = {"src", "specs", "proofs", "out", *FOLDERS}
 
 # How many edits the gate tries in these crates together.
 BUDGETS = [
-    (19, ["x509_der"]),
+    (21, ["x509_der"]),
     (20, ["x509_der_parts"]),
     (10, ["x509_prim", "x509_prim_parts"]),
     (17, ["x509_names", "x509_names_parts"]),
     (28, ["x509_keys_parts"]),
-    (15, ["x509_keys"]),
+    (13, ["x509_keys"]),
     (22, ["picky_asn1_x509_parts"]),
     (18, ["picky_asn1_x509"]),
     (18, ["x509_tool_parts", "x509_callers", "refusing"]),

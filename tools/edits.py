@@ -1,42 +1,73 @@
 """Edits that plant a fault in a crate: how they are written, read and applied.
 
 An edit is a file with a line 'file: src/..' and then pairs of lines 'old: TEXT' and 'new: TEXT'. Each old text must stand exactly
-once in its file, as the pairs before it left it. A line 'function: PATH' names a function that the prover must refuse with the
-edit, by its path below the crate, as a check prints it; rt must-fail, which tries the whole crate, doesn't read these lines.
+once in its file, as the pairs before it left it. Lines 'function: PATH' name the functions that the prover must refuse with the
+edit, each by its whole path below the crate, as a check prints it; rt must-fail, which tries the whole crate, doesn't read them.
+
+An edit changes code alone: no contract, definition or proof. One that changes only bodies of functions names just these, and one
+that changes more (a type, a constant) names at least these.
 """
 
 import os
 import re
+
+from functions import Source, contracts_of, homes_of
 
 ROOT = os.path.dirname(os.path.dirname(os.path.abspath(__file__)))
 
 # Edits that rt ci tries, those that tools/plant.py tries in the gate, and those that are tried by hand.
 FOLDERS = ("must-fail", "planted", "more-edits")
 
-FUNCTION = re.compile(r"^( *)(?:pub(?:\([a-z]+\))? )?(?:const )?fn (\w+)")
+# Words of what is stated, and of what code has proved.
+STATES = re.compile(r"\b(?:ghost|requires|ensures|tactic|prove!?|assert\w*!|unreachable!)")
 
 
 class BadEdit(Exception):
-    """Why an edit can't be applied."""
+    """Why an edit can't be applied, or shows nothing."""
 
 
 class Edit:
-    """An edit of a crate, which stands in this folder: its changes and the functions that must be refused."""
+    """An edit of a crate, which stands in this folder: its changes, and the functions that must be refused."""
 
     def __init__(self, path, crate):
         self.path, self.name, self.crate = path, os.path.basename(path), crate
-        self.functions, self.changes = read_edit(path)
-        _, places = self.applied({})
-        # The bodies that its changes stand in, each by its file and its function; None where one stands outside of bodies.
-        self.bodies = {body_of(crate, file, line) for file, line in places}
-        changed = {name for _, name in self.bodies - {None}}
-        others = [it for it in self.functions if it.rsplit("::", 1)[-1] not in changed]
+        self.named, self.changes = read_edit(path)
+        stray = next((it for it, _, _ in self.changes if not re.fullmatch(r"src/[\w/]+\.rt", it)), None)
+        if stray:
+            raise BadEdit(f"{stray} is no source file, and an edit of a definition or a proof shows nothing")
+        adds = next((new for _, old, new in self.changes if STATES.findall(old) != STATES.findall(new)), None)
+        if adds is not None:
+            raise BadEdit(f"it states more or less than the code does: {adds.strip()[:60]}")
+        texts, places = self.applied({})
+        # The functions whose bodies it changes, by their paths; None where a change stands outside of bodies.
+        self.bodies = self.bodies_at(places)
+        self.keeps_contracts(texts)
+        changed = self.bodies - {None}
+        left_out = changed - self.named if self.named else set()
+        if left_out:
+            raise BadEdit(f"it changes the function {min(left_out)}, which it doesn't name")
+        others = self.named - changed
         if others and self.is_local():
-            raise BadEdit(f"it doesn't change the function {others[0]}")
+            raise BadEdit(f"it doesn't change the function {min(others)}")
+        # Those that must be refused.
+        self.functions = self.named or changed
 
     def is_local(self):
         """Whether it changes bodies of functions alone."""
         return None not in self.bodies
+
+    def bodies_at(self, places):
+        """The path of the function around each of these places, each a file and a line."""
+        homes = homes_of(texts_of(self.crate))
+        files = {it for it, _ in places}
+        sources = {it: Source(it, text_of(self.crate, it, {}), homes) for it in files}
+        return {sources[file].path_at(line) for file, line in places}
+
+    def keeps_contracts(self, texts):
+        for file, text in texts.items():
+            was, now = contracts_of(text_of(self.crate, file, {})), contracts_of(text)
+            if was != now:
+                raise BadEdit(f"it changes a contract, a definition or a proof in {file}: {first_difference(was, now)}")
 
     def applied(self, texts):
         """The texts after the edit, and for each change its file and its line."""
@@ -49,6 +80,11 @@ class Edit:
             places.append((file, text.count("\n", 0, text.index(old))))
             texts[file] = text.replace(old, new)
         return texts, places
+
+
+def first_difference(was, now):
+    """The first of two lists' items that stands in one of them alone."""
+    return next((one or other for one, other in zip([*was, ""], [*now, ""]) if one != other), "").split("\n")[0].strip()[:80]
 
 
 def read_edit(path):
@@ -86,29 +122,10 @@ def text_of(crate, file, texts):
     return texts[file]
 
 
-def body_of(crate, file, line):
-    """The file and the name of the function that has a line in its body, if any. The files are in rt fmt's layout."""
-    with open(f"{crate}/{file}", encoding="utf-8") as it:
-        lines = it.read().split("\n")
-    for first in range(line, -1, -1):
-        found = FUNCTION.match(lines[first])
-        if found:
-            return (file, found[2]) if line in body_at(lines, first, found[1]) else None
-    return None
-
-
-def body_at(lines, first, indent):
-    """The lines of the body of a function that begins in this line with this indent. Its clauses aren't among them."""
-    if lines[first].endswith("}"):
-        return range(first, first + 1)
-    for at in range(first, len(lines) - 1):
-        # A method of a trait may have no body.
-        if lines[at].endswith(";") and lines[at + 1].strip() in ("", "}"):
-            break
-        if lines[at].endswith("{") and len(lines[at]) - len(lines[at].lstrip()) == len(indent):
-            last = next((it for it in range(at, len(lines)) if lines[it] == indent + "}"), at)
-            return range(at + 1, last)
-    return range(0)
+def texts_of(crate):
+    """The source files of a crate, by their paths below it."""
+    paths = [f"{at}/{name}" for at, _, names in os.walk(f"{crate}/src") for name in sorted(names) if name.endswith(".rt")]
+    return {os.path.relpath(it, crate): text_of(crate, os.path.relpath(it, crate), {}) for it in paths}
 
 
 def edits_in(folder):

@@ -2,11 +2,6 @@
 //! deviations of each kind stood in it.
 #![tactic(auto)]
 
-#[cfg(test)]
-mod outcome_tests;
-#[cfg(test)]
-mod tests;
-
 use std::alloc::Global;
 use std::process::ExitCode;
 use x509_tool_parts::console::{Shown, outcome, print, show, shown_after};

@@ -1,0 +1,142 @@
+#!/bin/sh
+# Makes dist/ anew, from what the gate has proved and built, or compares it. tools/artifacts.txt says what it holds.
+# usage: tools/dist.sh                  makes each artifact, SHA256SUMS and SOURCES. What isn't built of the sources that
+#                                       stand here is proved and built first
+#        tools/dist.sh --check          compares dist/ with what is built, and says which file differs
+#        tools/dist.sh --sums           compares checksums alone, for which no toolchain is needed
+#        tools/dist.sh --after-ci SUMS  --check right after rt ci, which has built anew the programs in out/, and the
+#                                       libraries that aren't among SUMS (tools/plant.py --before-ci)
+#        tools/dist.sh --build NAME     proves and builds an artifact where that isn't done, and prints its path
+# SOURCES has the toolchain's line, and the checksum of each artifact's sources (tools/sources.sh). What is built has a record
+# beside it, FILE.sources: the checksum of its sources and its own. The last line of a comparison is 'N passed, M failed'.
+set -eu
+export LC_ALL=C
+unset CDPATH
+cd "$(dirname "$0")/.."
+
+sum() { sha256sum <"$1" | cut -d ' ' -f 1; }
+
+# The artifacts, a line each: its name, its crate, and the file that the build leaves.
+artifacts() { sed 's/#.*//; /^ *$/d; s/^\([^ ]*\) \([^ ]*\) /\1 \2 crates\/\2\//' tools/artifacts.txt; }
+
+# The record of a file that is built of the sources of a crate as they stand here.
+record() { printf '%s %s\n' "$(tools/sources.sh "$1")" "$(sum "$2")"; }
+
+is_built() { [ -f "$2" ] && [ -f "$2.sources" ] && [ "$(cat "$2.sources")" = "$(record "$1" "$2")" ]; }
+
+# Proves and builds what a crate makes: a program by its stored run, or a static library.
+make_crate() {
+    if [ -f "crates/$1/src/main.rt" ]; then
+        # shellcheck disable=SC2046
+        (cd "crates/$1" && cat stdin 2>/dev/null | rt run -- $(cat args 2>/dev/null) >&2)
+    else
+        python3 tools/build_library.py "$1" ${stood+--stood "$stood"} >&2
+    fi
+}
+
+# Builds the file of a crate where that isn't done.
+build() {
+    if is_built "$1" "$2"; then return; fi
+    if ! command -v rt >/dev/null; then
+        echo "the toolchain's command rt isn't on the PATH: README says what is needed" >&2
+        return 1
+    fi
+    before=$(tools/sources.sh "$1")
+    if ! make_crate "$1"; then
+        echo "crates/$1 was not proved and built" >&2
+        return 1
+    elif [ "$(tools/sources.sh "$1")" != "$before" ]; then
+        echo "a source of crates/$1 changed while it was built" >&2
+        return 1
+    fi
+    record "$1" "$2" >"$2.sources"
+}
+
+make_dist() {
+    artifacts | while read -r _name crate file; do build "$crate" "$file" </dev/null; done
+    mkdir -p dist
+    rm -f dist/*
+    rt version >dist/SOURCES
+    artifacts | while read -r name crate file; do
+        cp "$file" "dist/$name"
+        printf '%s  %s\n' "$(tools/sources.sh "$crate")" "$name" >>dist/SOURCES
+        (cd dist && sha256sum "$name") >>dist/SHA256SUMS
+    done
+}
+
+# What is wrong with an artifact in dist/, if anything.
+fault_of() {
+    if [ ! -f "dist/$1" ]; then
+        echo "dist/$1 is missing"
+    elif ! grep -qxF "$(sum "dist/$1")  $1" dist/SHA256SUMS; then
+        echo "dist/$1: its checksum isn't the one in dist/SHA256SUMS"
+    elif ! grep -qxF "$(tools/sources.sh "$2")  $1" dist/SOURCES; then
+        echo "dist/SOURCES: $1 was built of other sources than stand here"
+    elif [ "$4" = --sums ]; then
+        return
+    elif ! build "$2" "$3" </dev/null; then
+        echo "$3 can't be built, so dist/$1 wasn't compared with it"
+    elif ! cmp -s "dist/$1" "$3"; then
+        echo "dist/$1 has other bytes than $3, which was built here"
+    fi
+}
+
+# What dist/ holds beside the artifacts, and another toolchain than the one here.
+strays() {
+    for file in dist/*; do
+        name=${file#dist/}
+        case $name in
+        SOURCES | SHA256SUMS) ;;
+        *) artifacts | cut -d ' ' -f 1 | grep -qxF "$name" || echo "$file is no artifact" ;;
+        esac
+    done
+    if [ "$1" != --sums ] && [ "$(rt version)" != "$(head -n 1 dist/SOURCES)" ]; then
+        echo "dist/SOURCES names another toolchain than $(rt version)"
+    fi
+}
+
+compare() {
+    if [ ! -f dist/SOURCES ] || [ ! -f dist/SHA256SUMS ]; then
+        found="dist/SOURCES or dist/SHA256SUMS is missing"
+    else
+        found=$(
+            artifacts | while read -r name crate file; do fault_of "$name" "$crate" "$file" "$1"; done
+            strays "$1"
+        )
+    fi
+    total=$(artifacts | grep -c '')
+    if [ -z "$found" ]; then
+        echo "$total passed, 0 failed"
+        return
+    fi
+    failed=$(printf '%s\n' "$found" | grep -c '')
+    printf '%s\n' "$found" "tools/dist.sh makes dist/ anew"
+    echo "$((total > failed ? total - failed : 0)) passed, $failed failed"
+    return 1
+}
+
+case ${1-} in
+'') make_dist ;;
+--check | --sums) compare "$1" ;;
+--after-ci)
+    stood=$2
+    # (all is built first, so that dist/ can be made of it where it differs)
+    artifacts | while read -r _name crate file; do
+        if [ -f "$file" ]; then record "$crate" "$file" >"$file.sources"; fi
+        build "$crate" "$file" </dev/null || true
+    done
+    compare --check
+    ;;
+--build)
+    artifacts | while read -r name crate file; do
+        if [ "$name" = "$2" ]; then
+            build "$crate" "$file" </dev/null
+            echo "$file"
+        fi
+    done
+    ;;
+*)
+    sed -n '3,9s/^# //p' "$0" >&2
+    exit 2
+    ;;
+esac
