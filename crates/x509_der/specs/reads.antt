@@ -10,6 +10,7 @@ pub use Rattle.x509_der_parts.specs.reads.FirstElement
 pub use Rattle.x509_der_parts.specs.reads.Items
 pub use Rattle.x509_der_parts.specs.reads.Structure
 pub use Rattle.x509_der_parts.specs.reads.Cursor
+pub use Rattle.x509_der_parts.specs.reads.Standing
 pub use Rattle.x509_der_parts.specs.reads.Optional
 pub use Rattle.x509_der_parts.specs.reads.Join
 pub use Rattle.x509_der_parts.specs.reads.View
