@@ -1,10 +1,12 @@
 -- Lemmas about the definitions.
 pub mod AttributeFacts
+pub mod AttributeReadable
 pub mod AttributeSame
 pub mod Constraints
 pub mod ExtensionFacts
 pub mod ExtensionOctets
 pub mod ExtensionListFacts
+pub mod FirstExtensions
 pub mod KeyAuthorityFacts
 pub mod KeyAuthorityLaws
 pub mod KeyUsages
