@@ -1,19 +1,11 @@
--- Extensions of a certificate by their identifiers: the first of each counts.
-use Rattle.std.specs.Prelude.{ℕ, Bool, if◌then◌else◌, List, [], ◌∷◌, Option, Some, None}
+-- What the extensions of a certificate hold.
+use Rattle.std.specs.Prelude.{ℕ, List, Option, Some, None}
+pub use Rattle.picky_asn1_x509_parts.specs.FirstExtensions.{has_identifier, first_of}
 use Rattle.picky_asn1_x509_parts.specs.Constraints.{Constraints}
-use Rattle.picky_asn1_x509_parts.specs.Extensions.{ExtensionFields, is_arcs}
+use Rattle.picky_asn1_x509_parts.specs.Extensions.{ExtensionFields}
 use Rattle.picky_asn1_x509_parts.specs.KeyAuthorities.{KeyAuthority}
 use Rattle.picky_asn1_x509_parts.specs.declared.extension.ExtensionValue.{ExtensionValue}
 use Rattle.picky_asn1_x509_parts.specs.declared.extension.ExtensionValue.TheVariants as value
-
--- the extension has this identifier
-unfoldable pub has_identifier : {A : Type 0} → List ℕ → ExtensionFields A → Bool
-has_identifier arcs e = is_arcs e.extn_id arcs
-
--- the first extension that has it
-abbrev pub first_of : {A : Type 0} → List ℕ → List (ExtensionFields A) → Option (ExtensionFields A)
-first_of arcs [] = None
-first_of arcs (e ∷ es) = if has_identifier arcs e then Some e else first_of arcs es
 
 -- the octets of a subject key identifier (RFC 5280, 4.2.1.2)
 abbrev pub subject_key_in : {A : Type 0} → ExtensionValue A → Option (List ℕ)

@@ -1,4 +1,4 @@
--- The signed part of a certificate in a form without unique identifiers, which stands beside the full one to say what stays.
+-- Certificates in a form without unique identifiers, which stands beside the full one to say what stays.
 use Rattle.std.specs.Prelude.{◌≡◌, Bool, true, List, ◌++◌, Option, None}
 use Rattle.x509_der.specs.Types.{Deviation}
 use Rattle.x509_der.specs.Join.{join}
@@ -9,6 +9,8 @@ use Rattle.x509_der.specs.View.{Meaning, seen}
 use Rattle.x509_names.specs.Types.{Version}
 use Rattle.x509_keys.specs.ReadIf.{read_if}
 use Rattle.picky_asn1_x509_parts.specs.Extensions.{ExtensionFields}
+use Rattle.picky_asn1_x509.specs.Certificates.{SignatureFields, signature_fields}
+use Rattle.picky_asn1_x509.specs.declared.certificate.Certificate.{Certificate}
 use Rattle.picky_asn1_x509.specs.declared.tbs_certificate.TbsCertificate.{TbsCertificate}
 use Rattle.picky_asn1_x509.specs.TbsCertificates.{CoreFields, version_field, core, extensions_field, version_in, written_version, version_kinds, list_in, written_list, list_kinds, extensions_fit, tbs_with}
 
@@ -53,3 +55,14 @@ older_tbs = seen older_meaning older_base
 -- the same with no unique identifiers
 abbrev pub without_ids : {A : Type 0} → OlderTbs A → TbsCertificate A
 without_ids v = tbs_with v.0 v.1.0 None None v.1.1
+
+-- a certificate of this form: what is signed, and the signature behind its algorithm
+abbrev pub OlderCertificate : Type 0 → Type 0
+OlderCertificate A = OlderTbs A × SignatureFields A
+
+abbrev pub older_certificate : {A : Type 0} → Shape (OlderCertificate A)
+older_certificate = tagged 48 (join (λ j. j.0) (λ j. j.1) older_tbs signature_fields)
+
+-- the same with no unique identifiers
+abbrev pub certificate_without_ids : {A : Type 0} → OlderCertificate A → Certificate A
+certificate_without_ids v = record { tbs_certificate = without_ids v.0; signature_algorithm = v.1.0; signature_value = v.1.1 }

@@ -121,7 +121,7 @@ is_nil [] = true
 is_nil (e ∷ es) = false
 
 -- unique identifiers need version 2 or 3 (RFC 5280, 4.1.2.8)
-abbrev pub ids_fit : Version → Option (List Bool) → Option (List Bool) → Bool
+abbrev pub ids_fit : {V W : Type 0} → Version → Option V → Option W → Bool
 ids_fit V1 issuer subject = is_absent issuer && is_absent subject
 ids_fit V2 issuer subject = true
 ids_fit V3 issuer subject = true

@@ -25,3 +25,11 @@ pub use Rattle.x509_keys.specs.Types.sha_variant
 pub use Rattle.x509_names.specs.Types.{Validity}
 pub use Rattle.x509_names.specs.Types.{Version}
 pub use Rattle.x509_names.specs.Types.version
+pub use Rattle.x509_keys.specs.declared.public_key.PublicKey.{PublicKey}
+pub use Rattle.x509_keys.specs.declared.public_key.PublicKey.TheVariants as public_key
+pub use Rattle.x509_names.specs.declared.general_name.GeneralName.{GeneralName}
+pub use Rattle.x509_names.specs.declared.general_name.GeneralName.TheVariants as general_name
+pub use Rattle.x509_names.specs.Types.{Time}
+pub use Rattle.x509_names.specs.Types.time
+pub use Rattle.x509_names.specs.Types.{DirectoryString}
+pub use Rattle.x509_names.specs.Types.directory_string

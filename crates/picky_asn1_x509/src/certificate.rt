@@ -6,7 +6,7 @@ ghost use Rattle.x509_der.specs.FirstField.{FirstPart};
 ghost use Rattle.x509_der.specs.laws.Structure.{structure_lawful, structure_element};
 ghost use Rattle.picky_asn1_x509_parts.specs.Extensions.{subject_key_arcs, authority_key_arcs, constraints_arcs};
 ghost use Rattle.picky_asn1_x509.specs.Certificates.{signature_fields, certificate_parts, certificate_base, certificate, certificate_bytes};
-ghost use Rattle.picky_asn1_x509.specs.LookUps.{has_identifier, first_of, held_by, subject_key_in, authority_key_in, constraints_in};
+ghost use Rattle.picky_asn1_x509.specs.LookUps.{first_of, held_by, subject_key_in, authority_key_in, constraints_in};
 ghost use Rattle.picky_asn1_x509.specs.TbsCertificates.{tbs_certificate};
 ghost use Rattle.picky_asn1_x509.specs.facts.Certificates.{certificate_same, certificate_agrees};
 
@@ -38,35 +38,20 @@ pub struct Certificate<A: Allocator = Global> {
     pub signature_value: BitStringAsn1<A>,
 }
 
-/// Whether an extension has an identifier.
-fn is_identified<A: Allocator>(extension: &Extension<A>, arcs: &[u64]) -> bool
-    ensures { result ≡ has_identifier arcs.now extension.now }
-{
-    extension.extn_id().0.is_arcs(arcs)
-}
-
-/// The first extension with an identifier.
-fn first_extension<'a, A: Allocator>(
-    extensions: &'a [Extension<A>],
-    arcs: &[u64],
-) -> Option<&'a Extension<A>>
-    ensures { MatchOption result (first_of arcs.now extensions.now ≡ None)
-        (λ e. first_of arcs.now extensions.now ≡ Some e.now) }
-{
-    for extension in extensions {
-        if is_identified(extension, arcs) {
-            return Some(extension);
-        }
-    }
-    None
-}
-
 impl<A: Allocator> Certificate<A> {
     /// The extensions, in order; none are an empty slice. Takes no memory.
     pub fn extensions(&self) -> &[Extension<A>]
         ensures { result.now ≡ self.now.tbs_certificate.extensions }
     {
         self.tbs_certificate.extensions.0.as_slice()
+    }
+
+    /// The first extension with the object identifier that has these arcs (RFC 5280, 4.2). Takes no memory.
+    pub fn find_extension(&self, arcs: &[u64]) -> Option<&Extension<A>>
+        ensures { MatchOption result (first_of arcs.now self.now.tbs_certificate.extensions ≡ None)
+            (λ e. first_of arcs.now self.now.tbs_certificate.extensions ≡ Some e.now) }
+    {
+        self.tbs_certificate.extensions.find_extension(arcs)
     }
 
     /// The identifier of the certified key (RFC 5280, 4.2.1.2): what the first extension holds that has the identifier
@@ -77,7 +62,7 @@ impl<A: Allocator> Certificate<A> {
             (λ key. held_by subject_key_in
             (first_of subject_key_arcs self.now.tbs_certificate.extensions) ≡ Some key.now) }
     {
-        let extension = first_extension(self.extensions(), &[2, 5, 29, 14])?;
+        let extension = self.find_extension(&[2, 5, 29, 14])?;
         match extension.extn_value() {
             ExtensionView::SubjectKeyIdentifier(key) => Some(key.0.as_slice()),
             _ => None,
@@ -92,7 +77,7 @@ impl<A: Allocator> Certificate<A> {
             (λ key. held_by authority_key_in
             (first_of authority_key_arcs self.now.tbs_certificate.extensions) ≡ Some key.now) }
     {
-        let extension = first_extension(self.extensions(), &[2, 5, 29, 35])?;
+        let extension = self.find_extension(&[2, 5, 29, 35])?;
         match extension.extn_value() {
             ExtensionView::AuthorityKeyIdentifier(key) => Some(key),
             _ => None,
@@ -107,7 +92,7 @@ impl<A: Allocator> Certificate<A> {
             (λ constraints. held_by constraints_in
             (first_of constraints_arcs self.now.tbs_certificate.extensions) ≡ Some constraints.now) }
     {
-        let extension = first_extension(self.extensions(), &[2, 5, 29, 19])?;
+        let extension = self.find_extension(&[2, 5, 29, 19])?;
         match extension.extn_value() {
             ExtensionView::BasicConstraints(constraints) => Some(constraints),
             _ => None,

@@ -7,7 +7,7 @@ ghost use Rattle.x509_der.specs.Tally.{Tally};
 ghost use Rattle.picky_asn1_x509_parts.specs.ExtensionLists.{extensions};
 ghost use Rattle.picky_asn1_x509.specs.CertificatePlaces.{TbsAt, CertificateAt, InfoAt, RequestAt, AttributesAt};
 ghost use Rattle.picky_asn1_x509.specs.Certificates.{signature_fields, certificate_parts, certificate};
-ghost use Rattle.picky_asn1_x509.specs.OlderCertificates.{OlderTbs, older_tbs, without_ids};
+ghost use Rattle.picky_asn1_x509.specs.OlderCertificates.{OlderTbs, older_tbs, without_ids, OlderCertificate, older_certificate, certificate_without_ids};
 ghost use Rattle.picky_asn1_x509.specs.Requests.{request_attributes, request_info, info_bytes, request_parts, request};
 ghost use Rattle.picky_asn1_x509.specs.TbsCertificates.{core, core_of, is_fitting, tbs_certificate, tbs_bytes};
 
@@ -21,11 +21,12 @@ pub use picky_asn1_x509_parts::laws::{
     attribute_fields, authority_key_identifier_fields, authority_key_identifier_marks,
     basic_constraints_fields, basic_constraints_takes_no_memory, extended_key_usage_fields,
     extension_fields, extension_readable, key_usage_setters, last_field_counts, neighbours_ascend,
+    request_attribute_readable,
 };
 use std::alloc::Allocator;
 pub use x509_der::laws::{
     bool_takes_no_memory, contained_fields, defined_by_fields, equal_spellings,
-    equality_is_sameness, fields, item_fields, joined_fields, lists_owe_their_items,
+    equality_is_sameness, fields, implicit_tags, item_fields, joined_fields, lists_owe_their_items,
     natural_contents, no_proper_front, null_takes_no_memory, number_has_one_content,
     payload_fields, read_write_read, spelled_where_readable, spellings_are_lawful,
     strict_is_written, tagged_fields_are_elements, tagged_lists, u8_takes_no_memory, viewed_fields,
@@ -109,9 +110,12 @@ pub fn request_signed_part<A: Allocator>()
         (slice ≡ info_bytes v.certification_request_info) ↔ (sum inside ≡ 0) }
 {}
 
-/// What is encoded in the form without unique identifiers is encoded in the full form too, with the same value in the
-/// other fields, no unique identifiers, and the same deviations, places and headers.
+/// What is encoded in the form without unique identifiers, the signed part or the whole certificate, is encoded in the
+/// full form too, with the same value in the other fields, no unique identifiers, and the same deviations, places and
+/// headers.
 pub fn older_certificates_stay<A: Allocator>()
-    ensures { (v : OlderTbs A) (string : List ℕ) (y : Tally) → older_tbs.spelled v string y →
+    ensures signed { (v : OlderTbs A) (string : List ℕ) (y : Tally) → older_tbs.spelled v string y →
         tbs_certificate.spelled (without_ids v) string y }
+    ensures whole { (v : OlderCertificate A) (string : List ℕ) (y : Tally) →
+        older_certificate.spelled v string y → certificate.spelled (certificate_without_ids v) string y }
 {}

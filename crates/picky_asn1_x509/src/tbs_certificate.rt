@@ -3,6 +3,7 @@
 ghost use Rattle.std.specs.Prelude.{◌≡◌, ◌∷◌, ◌++◌, refl, IfOk};
 ghost use Rattle.x509_der.specs.Element.{element};
 ghost use Rattle.x509_der.specs.Optional.{optional, optional_strict};
+ghost use Rattle.x509_der.specs.Types.read_error.{OutOfMemory};
 ghost use Rattle.x509_der.specs.View.{if_found, kinds_in};
 ghost use Rattle.x509_der.specs.laws.Meaning.{seen_lawful, seen_element};
 ghost use Rattle.picky_asn1_x509.specs.TbsCertificates.{version_field, issuer_id_field, subject_id_field, extensions_field, tbs_base, version_in, written_version, version_kinds, list_in, written_list, list_kinds, is_absent, is_nil, ids_fit, extensions_fit, is_fitting, tbs_with, tbs_meaning, tbs_refusal, tbs_certificate, core, core_of, core_bytes, id_bytes, list_bytes, end_bytes, tbs_back, tbs_bytes};
@@ -14,10 +15,11 @@ use std::alloc::{AllocError, Allocator, Global};
 use std::marker::Model;
 use x509_der::parts::{
     ContentOf, Explicit0, Explicit3, Field, Found, INTEGER_TAG, Implicit1, Implicit2, Join,
-    Optional, Reader, Refusal, SEQUENCE_TAG, Sequence, Tag, Tagged, View, clone_three, write_bytes,
+    LentBits, Optional, Reader, Refusal, SEQUENCE_TAG, Sequence, Tag, Tagged, View, clone_three,
 };
 use x509_der::{
-    BitString, BitStringAsn1, CloneEq, Deviation, FromDer, IntegerAsn1, ReadError, ToDer, TooLong,
+    Asn1SequenceOf, BitString, BitStringAsn1, CloneEq, Deviation, FromDer, IntegerAsn1, ReadError,
+    ToDer, TooLong,
 };
 use x509_keys::{AlgorithmIdentifier, SubjectPublicKeyInfo};
 use x509_names::{Name, Validity, Version};
@@ -208,7 +210,11 @@ type Inner<A> = Join<SpelledVersion, AfterVersion<A>>;
 type Fields<A> = Tagged<Sequence, Inner<A>>;
 
 /// The fields behind those that every certificate has, borrowed.
-type WrittenEnds<'a, A> = EndNest<BitContent<'a>, BitContent<'a>, &'a Extensions<A>>;
+type WrittenEnds<'a, A> = EndNest<
+    ContentOf<LentBits<'a>>,
+    ContentOf<LentBits<'a>>,
+    &'a Extensions<A>,
+>;
 
 /// The value of these fields.
 fn from_core<A: Allocator>(
@@ -257,27 +263,6 @@ fn clone_core<A: Allocator + Copy>(value: &TbsCertificate<A>) -> Result<Core<A>,
     Ok(Core(Join(serial_number, Join(signature, Join(issuer, rest)))))
 }
 
-/// The content of a BIT STRING, borrowed: how many bits of the last byte are unused, and the bytes.
-#[derive(Drop)]
-struct BitContent<'a> {
-    unused: u8,
-    bytes: &'a [u8],
-}
-
-impl<'a> ToDer for BitContent<'a> {
-    ghost strict = { λ b. b.unused ∷ b.bytes.now };
-
-    fn encoded_len(&self) -> Result<usize, TooLong> {
-        self.bytes.len().checked_add(1).ok_or(TooLong)
-    }
-
-    fn write_back(&self, out: &mut [u8]) -> usize {
-        let start = write_bytes(self.bytes, out) - 1;
-        out[start] = self.unused;
-        start
-    }
-}
-
 /// A version, to be written: none where it is version 1.
 fn lent_version(version: &Version) -> Optional<Tagged<Explicit0, &Version>>
     ensures { optional_strict (λ v. version_field.strict v.now) result ≡ (optional version_field).strict
@@ -292,18 +277,12 @@ fn lent_version(version: &Version) -> Optional<Tagged<Explicit0, &Version>>
 /// A unique identifier under its tag, to be written, where it is there.
 fn lent_bits<N: Tag, A: Allocator>(
     bits: &Option<BitString<A>>,
-) -> Optional<Tagged<N, BitContent<'_>>>
-    ensures { optional_strict (λ b. element N.BYTE (b.unused ∷ b.bytes.now)) result ≡ id_bytes N.BYTE bits.now }
+) -> Optional<Tagged<N, ContentOf<LentBits<'_>>>>
+    ensures { optional_strict (λ b. element N.BYTE b) result ≡ id_bytes N.BYTE bits.now }
 {
     match bits {
         None => Optional(None),
-        Some(bits) => {
-            let content = BitContent {
-                unused: bits.get_num_unused_bits(),
-                bytes: bits.payload_view(),
-            };
-            Optional(Some(Tagged::new(content)))
-        }
+        Some(bits) => Optional(Some(Tagged::new(ContentOf(LentBits::of(bits))))),
     }
 }
 
@@ -395,20 +374,36 @@ fn spelled_version(field: &SpelledVersion) -> Option<Version>
     }
 }
 
+/// Whether a unique identifier is absent.
+fn is_left_out<T>(id: &Option<T>) -> bool
+    ensures { result ≡ is_absent id.now }
+{
+    match id {
+        Some(_) => false,
+        None => true,
+    }
+}
+
+/// Whether the version has the unique identifiers that are there.
+fn has_ids<T, U>(version: Version, issuer: &Option<T>, subject: &Option<U>) -> bool
+    ensures { result ≡ ids_fit version issuer.now subject.now }
+{
+    match version {
+        Version::V1 => is_left_out(issuer) && is_left_out(subject),
+        Version::V2 | Version::V3 => true,
+    }
+}
+
 /// Why fields are refused that don't fit their version.
 fn refusal_of<A: Allocator>(fields: &Inner<A>) -> ReadError
     ensures { result ≡ tbs_refusal fields.now }
 {
     let ends = &fields.1.1;
-    match version_of(spelled_version(&fields.0)) {
-        Version::V1 => {
-            if ends.0.0.is_none() && ends.1.0.0.is_none() {
-                ReadError::ExtensionsNeedV3
-            } else {
-                ReadError::UniqueIdNeedsV2
-            }
-        }
-        Version::V2 | Version::V3 => ReadError::ExtensionsNeedV3,
+    let version = version_of(spelled_version(&fields.0));
+    if has_ids(version, &ends.0.0, &ends.1.0.0) {
+        ReadError::ExtensionsNeedV3
+    } else {
+        ReadError::UniqueIdNeedsV2
     }
 }
 
@@ -455,28 +450,6 @@ fn found_in<A: Allocator>(version: Option<Version>, extensions: &Option<Extensio
     Found::of_two(spelled_first(version), spelled_empty(extensions))
 }
 
-/// Whether a unique identifier is absent.
-fn is_left_out<A: Allocator>(bits: &Option<BitString<A>>) -> bool
-    ensures { result ≡ is_absent bits.now }
-{
-    match bits {
-        Some(_) => false,
-        None => true,
-    }
-}
-
-/// Whether the version has the unique identifiers that are there.
-fn has_ids<A: Allocator>(value: &TbsCertificate<A>) -> bool
-    ensures { result ≡ ids_fit value.now.version value.now.issuer_unique_id value.now.subject_unique_id }
-{
-    match value.version {
-        Version::V1 => {
-            is_left_out(&value.issuer_unique_id) && is_left_out(&value.subject_unique_id)
-        }
-        Version::V2 | Version::V3 => true,
-    }
-}
-
 /// Whether the version has the extensions that are there.
 fn has_extensions<A: Allocator>(value: &TbsCertificate<A>) -> bool
     ensures { result ≡ extensions_fit value.now.version value.now.extensions }
@@ -491,12 +464,18 @@ fn has_extensions<A: Allocator>(value: &TbsCertificate<A>) -> bool
 fn fits<A: Allocator>(value: &TbsCertificate<A>) -> bool
     ensures { result ≡ is_fitting value.now }
 {
-    has_ids(value) && has_extensions(value)
+    let has_ids = has_ids(
+        value.version,
+        &value.issuer_unique_id,
+        &value.subject_unique_id,
+    );
+    has_ids && has_extensions(value)
 }
 
 /// The allocator of the fields that every certificate has.
 fn allocator_of<A: Allocator + Copy>(core: &Core<A>) -> A {
-    *core.0.1.1.0.0.0.allocator()
+    let Core(Join(_, Join(_, Join(Name(Asn1SequenceOf(sets)), _)))) = core;
+    *sets.allocator()
 }
 
 impl<A: Allocator + Copy> View<Fields<A>> for TbsCertificate<A> {
@@ -575,7 +554,10 @@ fn known_extensions<A: Allocator + Copy>(extensions: &Extensions<A>)
 }
 
 impl<A: Allocator + Copy> Refusal<Fields<A>> for TbsCertificate<A> {
-    fn refusal(parts: &Fields<A>) -> ReadError {
+    fn refusal(parts: &Fields<A>) -> ReadError
+        ensures memory { result ≡ OutOfMemory → ⊥ }
+        ensures name { result ≡ tbs_refusal parts.now }
+    {
         refusal_of(parts.inner())
     }
 }

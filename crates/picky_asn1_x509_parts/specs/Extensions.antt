@@ -1,8 +1,7 @@
 -- Extensions: an object identifier, which says what the value is, whether the extension is critical, and the value in an
 -- OCTET STRING (RFC 5280, 4.2).
-use Rattle.std.specs.Prelude.{◌≡◌, ℕ, ◌+◌, length, Bool, true, false, if◌then◌else◌, not, nat_eq, List, [], ◌∷◌, ◌++◌, Option, Some, None}
+use Rattle.std.specs.Prelude.{◌≡◌, ℕ, ◌+◌, length, Bool, true, false, if◌then◌else◌, not, List, [], ◌∷◌, ◌++◌, Option, Some, None}
 use Rattle.std.proofs.Common.{eqb}
-use Rattle.std.specs.Cmp.Lexicographic.{pointwise}
 use Rattle.x509_der.specs.Types.{Deviation}
 use Rattle.x509_der.specs.Types.deviation
 use Rattle.x509_der.specs.BitString.{bit_strings}
@@ -13,7 +12,7 @@ use Rattle.x509_der.specs.Fields.{FieldAt, Stands}
 use Rattle.x509_der.specs.Integer.{integers}
 use Rattle.x509_der.specs.Items.{items}
 use Rattle.x509_der.specs.Join.{join}
-use Rattle.x509_der.specs.ObjectIdentifier.{oids, oid_content}
+use Rattle.x509_der.specs.ObjectIdentifier.{is_arcs, oids, oid_content}
 use Rattle.x509_der.specs.Optional.{optional, optional_strict, OptionalAt}
 use Rattle.x509_der.specs.PrimitiveContent.{octets}
 use Rattle.x509_der.specs.Shape.{Shape}
@@ -62,9 +61,6 @@ crl_number_arcs = 2 ∷ 5 ∷ 29 ∷ 20 ∷ []
 -- anyExtendedKeyUsage (RFC 5280, 4.2.1.12)
 abbrev pub any_usage_arcs : List ℕ
 any_usage_arcs = 2 ∷ 5 ∷ 29 ∷ 37 ∷ 0 ∷ []
-
-abbrev pub is_arcs : List ℕ → List ℕ → Bool
-is_arcs x y = pointwise nat_eq x y
 
 -- the kind that arcs say
 abbrev pub kind_of : List ℕ → ExtensionKind

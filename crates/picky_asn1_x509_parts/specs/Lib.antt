@@ -1,6 +1,7 @@
 pub mod Constraints
 pub mod ExtensionLists
 pub mod Extensions
+pub mod FirstExtensions
 pub mod KeyAuthorities
 pub mod KeyAuthorityLaws
 pub mod KeyPurposes

@@ -6,7 +6,7 @@ use Rattle.x509_der.specs.DefinedBy.{defined_by}
 use Rattle.x509_der.specs.Element.{element, header}
 use Rattle.x509_der.specs.Fields.{FieldAt, Stands}
 use Rattle.x509_der.specs.Items.{items}
-use Rattle.x509_der.specs.ObjectIdentifier.{oids, oid_content}
+use Rattle.x509_der.specs.ObjectIdentifier.{is_arcs, oids, oid_content}
 use Rattle.x509_der.specs.PrimitiveContent.{octets}
 use Rattle.x509_der.specs.RawElement.{raws}
 use Rattle.x509_der.specs.Shape.{Shape}
@@ -16,7 +16,7 @@ use Rattle.x509_der.specs.Tally.{Tally}
 use Rattle.x509_der.specs.Variant.{variant}
 use Rattle.x509_prim.specs.Calendar.{Moment}
 use Rattle.x509_prim.specs.Times.{utc_times}
-use Rattle.picky_asn1_x509_parts.specs.Extensions.{is_arcs, ExtensionFields}
+use Rattle.picky_asn1_x509_parts.specs.Extensions.{ExtensionFields}
 use Rattle.picky_asn1_x509_parts.specs.ExtensionLists.{extensions, extensions_bytes}
 use Rattle.picky_asn1_x509_parts.specs.declared.attribute.AttributeKind.{AttributeKind}
 use Rattle.picky_asn1_x509_parts.specs.declared.attribute.AttributeValues.{AttributeValues}
@@ -97,6 +97,24 @@ IsValue (value.SpcStatementType ls) = statements.valid ls
 IsValue (value.MessageDigest ds) = digests.valid ds
 IsValue (value.SigningTime ts) = times.valid ts
 IsValue (value.Custom r) = raws.valid r
+
+-- what values hold is read back as itself
+abbrev pub AreReadable : {A : Type 0} → AttributeValues A → Type 0
+AreReadable (value.Extensions x) = requests.readable x
+AreReadable (value.ContentType x) = content_types.readable x
+AreReadable (value.SpcStatementType x) = statements.readable x
+AreReadable (value.MessageDigest x) = digests.readable x
+AreReadable (value.SigningTime x) = times.readable x
+AreReadable (value.Custom x) = raws.readable x
+
+-- the kind of values
+abbrev pub kind_in : {A : Type 0} → AttributeValues A → AttributeKind
+kind_in (value.Extensions x) = kinds.Extensions
+kind_in (value.ContentType x) = kinds.ContentType
+kind_in (value.SpcStatementType x) = kinds.SpcStatementType
+kind_in (value.MessageDigest x) = kinds.MessageDigest
+kind_in (value.SigningTime x) = kinds.SigningTime
+kind_in (value.Custom x) = kinds.Custom
 
 -- how the values of a kind are spelled; those that aren't known are any one element
 abbrev pub by_kind : {A : Type 0} → AttributeKind → Shape (AttributeValues A)

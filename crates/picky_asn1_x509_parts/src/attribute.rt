@@ -316,18 +316,6 @@ impl<A: Allocator> SameEq for Attribute<A> {
         (λ x y. Prim.search (rules))) };
 }
 
-/// A set of one item.
-///
-/// # Errors
-/// `AllocError` where memory is refused. The item is then dropped.
-fn set_of<T: Drop, A: Allocator>(alloc: A, item: T) -> Result<Asn1SetOf<T, A>, AllocError>
-    ensures { IfOk result (λ set. set ≡ item ∷ []) }
-{
-    let mut items = Vec::with_capacity(alloc, 1)?;
-    items.push(item)?;
-    Ok(Asn1SetOf(items))
-}
-
 /// An attribute with the identifier of its type, if there was memory for that.
 ///
 /// # Errors
@@ -368,7 +356,7 @@ impl<A: Allocator + Copy> Attribute<A> {
         }) }
     {
         let ty = ObjectIdentifierAsn1(oids::extension_request(alloc)?);
-        let set = set_of(alloc, Extensions::from(extensions))?;
+        let set = Asn1SetOf::of_one(alloc, Extensions::from(extensions))?;
         Ok(Attribute {
             ty,
             value: AttributeValues::Extensions(set),
@@ -388,7 +376,7 @@ impl<A: Allocator + Copy> Attribute<A> {
         }) }
     {
         let data = ObjectIdentifierAsn1(oids::content_info_type_data(alloc)?);
-        let set = set_of(alloc, data)?;
+        let set = Asn1SetOf::of_one(alloc, data)?;
         of_type(oids::content_type(alloc), AttributeValues::ContentType(set))
     }
 
@@ -403,7 +391,7 @@ impl<A: Allocator + Copy> Attribute<A> {
               (signing_time ∷ []);
         }) }
     {
-        let set = set_of(alloc, UtcTimeAsn1(signing_time))?;
+        let set = Asn1SetOf::of_one(alloc, UtcTimeAsn1(signing_time))?;
         of_type(oids::signing_time(alloc), AttributeValues::SigningTime(set))
     }
 
@@ -418,7 +406,7 @@ impl<A: Allocator + Copy> Attribute<A> {
               (digest.items ∷ []);
         }) }
     {
-        let set = set_of(alloc, OctetStringAsn1(digest))?;
+        let set = Asn1SetOf::of_one(alloc, OctetStringAsn1(digest))?;
         of_type(
             oids::message_digest(alloc),
             AttributeValues::MessageDigest(set),

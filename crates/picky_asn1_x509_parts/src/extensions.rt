@@ -1,9 +1,10 @@
 //! Lists of extensions.
 
-ghost use Rattle.std.specs.Prelude.{◌≡◌, IfOk};
+ghost use Rattle.std.specs.Prelude.{◌≡◌, IfOk, MatchOption, None, Some};
 ghost use Rattle.std.specs.List.{flat_map};
 ghost use Rattle.picky_asn1_x509_parts.specs.ExtensionLists.{extensions, extensions_bytes};
 ghost use Rattle.picky_asn1_x509_parts.specs.Extensions.{extension_bytes};
+ghost use Rattle.picky_asn1_x509_parts.specs.FirstExtensions.{has_identifier, first_of};
 
 use crate::basic_constraints::BasicConstraints;
 use crate::extension::Extension;
@@ -99,6 +100,39 @@ impl<A: Allocator> From<Vec<Extension<A>, A>> for Extensions<A> {
 
     fn from(items: Vec<Extension<A>, A>) -> Self {
         Extensions(items)
+    }
+}
+
+/// Whether an extension has an identifier.
+fn is_identified<A: Allocator>(extension: &Extension<A>, arcs: &[u64]) -> bool
+    ensures { result ≡ has_identifier arcs.now extension.now }
+{
+    extension.extn_id().0.is_arcs(arcs)
+}
+
+/// The first extension with an identifier.
+fn first_extension<'a, A: Allocator>(
+    extensions: &'a [Extension<A>],
+    arcs: &[u64],
+) -> Option<&'a Extension<A>>
+    ensures { MatchOption result (first_of arcs.now extensions.now ≡ None)
+        (λ e. first_of arcs.now extensions.now ≡ Some e.now) }
+{
+    for extension in extensions {
+        if is_identified(extension, arcs) {
+            return Some(extension);
+        }
+    }
+    None
+}
+
+impl<A: Allocator> Extensions<A> {
+    /// The first extension with the object identifier that has these arcs (RFC 5280, 4.2). Takes no memory.
+    pub fn find_extension(&self, arcs: &[u64]) -> Option<&Extension<A>>
+        ensures { MatchOption result (first_of arcs.now self.now ≡ None)
+            (λ e. first_of arcs.now self.now ≡ Some e.now) }
+    {
+        first_extension(self.0.as_slice(), arcs)
     }
 }
 

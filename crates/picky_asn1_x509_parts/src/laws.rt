@@ -6,7 +6,7 @@ ghost use Rattle.x509_der.specs.Lasts.{last, ascends, NeighboursAscend};
 ghost use Rattle.x509_der.specs.Tally.{Tally};
 ghost use Rattle.picky_asn1_x509_parts.specs.Constraints.{Constraints, ConstraintsAt, basic_constraints as constraints};
 ghost use Rattle.picky_asn1_x509_parts.specs.Extensions.{kind_of, kind_in, IsReadable, ExtensionFields, extension, ExtensionAt};
-ghost use Rattle.picky_asn1_x509_parts.specs.RequestAttributes.{attribute, AttributeAt};
+ghost use Rattle.picky_asn1_x509_parts.specs.RequestAttributes.{attribute, AttributeAt, AreReadable, kind_in as values_kind, kind_of as type_kind};
 ghost use Rattle.picky_asn1_x509_parts.specs.KeyAuthorities.{KeyAuthority, authority_key_identifier as authorities};
 ghost use Rattle.picky_asn1_x509_parts.specs.KeyAuthorityLaws.{AuthorityAt, AuthorityMarks};
 ghost use Rattle.picky_asn1_x509_parts.specs.KeyPurposes.{PurposesAt, extended_key_usage as purposes};
@@ -90,11 +90,10 @@ pub fn extension_fields<A: Allocator + Copy>()
     fields::<Extension<A>, A>();
 }
 
-/// An extension whose value holds what is read back as itself is so too, since its value is of the kind that its object
-/// identifier says, as `Extension::extn_value` states of each.
+/// An extension is readable exactly where its value is of the kind that its object identifier says, as
+/// `Extension::extn_value` states of each, and what the value holds is readable.
 pub fn extension_readable<A: Allocator>()
-    ensures { (v : ExtensionFields A) → kind_in v.extn_value ≡ kind_of v.extn_id → IsReadable v.extn_value →
-        extension.readable v }
+    ensures { (v : ExtensionFields A) → extension.readable v ↔ ((kind_in v.extn_value ≡ kind_of v.extn_id) × IsReadable v.extn_value) }
 {}
 
 /// The law of fields of `Attribute`: the type, and behind it the values, in the shape of the kind that the type says.
@@ -104,3 +103,9 @@ pub fn attribute_fields<A: Allocator + Copy>()
 {
     fields::<Attribute<A>, A>();
 }
+
+/// An attribute of a request is readable exactly where its values are of the kind that its type says, and what they hold
+/// is readable.
+pub fn request_attribute_readable<A: Allocator>()
+    ensures { (v : Attribute A) → attribute.readable v ↔ ((values_kind v.value ≡ type_kind v.ty) × AreReadable v.value) }
+{}

@@ -13,13 +13,14 @@ use Rattle.x509_keys.specs.ReadIf.{read_if}
 use Rattle.x509_keys.specs.facts.ReadIf.{was_read}
 use Rattle.picky_asn1_x509_parts.specs.Extensions.{ExtensionFields}
 use Rattle.picky_asn1_x509.specs.TbsCertificates.{TbsFields, issuer_id_field, subject_id_field, extensions_field, ends, tbs_inner, version_in, version_kinds, list_in, list_kinds, ids_fit, extensions_fit, tbs_of, tbs_means, tbs_certificate}
-use Rattle.picky_asn1_x509.specs.OlderCertificates.{OlderFields, OlderTbs, older_inner, older_of, is_older, older_means, older_tbs, without_ids}
+use Rattle.picky_asn1_x509.specs.OlderCertificates.{OlderFields, OlderTbs, older_inner, older_of, is_older, older_means, older_tbs, without_ids, OlderCertificate, older_certificate, certificate_without_ids}
+use Rattle.picky_asn1_x509.specs.Certificates.{certificate}
 
 -- nothing in front
 none_before : {V W : Type 0} (a : Shape V) (b : Shape W) (w : W) (p : List ℕ) (y : Tally) → b.spelled w p y → Joined ((optional a).spelled None) (b.spelled w) p y
 none_before a b w p y h = record { front = []; back = p; first = none; second = y; fore = (refl, refl); aft = h; bytes = refl; tally = sym (none_joined y) }
 
-no_ids : (n : Version) → ids_fit n None None ≡ true
+no_ids : (n : Version) → ids_fit {V = List Bool} {W = List Bool} n None None ≡ true
 no_ids V1 = refl
 no_ids V2 = refl
 no_ids V3 = refl
@@ -79,5 +80,16 @@ older_is_spelled v string y a =
       part = a.part;
       spelled = record { content = s.content; part = s.part; spelled = wider_inner a.base s.content s.part s.spelled; bytes = s.bytes; tally = s.tally };
       means = wider_means a.base v a.kinds a.means;
+      tally = a.tally;
+    }
+
+pub older_whole_is_spelled : {A : Type 0} (v : OlderCertificate A) (string : List ℕ) (y : Tally) → older_certificate.spelled v string y → certificate.spelled (certificate_without_ids v) string y
+older_whole_is_spelled v string y a =
+    let j = a.spelled in
+    record {
+      content = a.content;
+      part = a.part;
+      spelled = record { front = j.front; back = j.back; first = j.first; second = j.second; fore = older_is_spelled v.0 j.front j.first j.fore; aft = j.aft; bytes = j.bytes; tally = j.tally };
+      bytes = a.bytes;
       tally = a.tally;
     }

@@ -1,5 +1,5 @@
 -- The kinds of extensions keep the laws, and so does what the fields of an extension mean.
-use Rattle.std.proofs.Common.{◌≡◌, refl, ap, sym, ◌∙◌, ℕ, ◌≤◌, Bool, true, false, ◌||◌, ◌++◌, eqb, List, [], length, Option, Some, None, arith}
+use Rattle.std.proofs.Common.{◌≡◌, refl, ap, sym, subst, ◌∙◌, ℕ, ◌≤◌, Bool, true, false, ◌||◌, ◌++◌, eqb, List, [], length, Option, Some, None, arith}
 use Rattle.x509_der.specs.Types.{Deviation}
 use Rattle.x509_der.specs.Boolean.{booleans}
 use Rattle.x509_der.specs.DefinedBy.{IsFamily}
@@ -272,3 +272,18 @@ extension_one b v ks e = omega (arith, few_critical b.0.1, ap length (means_one 
 -- an extension whose parts are read back as themselves is read back as itself
 pub fitting_reads : {A : Type 0} (v : ExtensionFields A) → IsFitting v → IsReadable v.extn_value → extension.readable v
 fitting_reads v e h = ((tt, readable_critical v.critical), reads_as (kind_of v.extn_id) v.extn_value e h)
+
+kind_reads : {A : Type 0} (k : ExtensionKind) (v : ExtensionValue A) → (by_kind k).readable v → (kind_in v ≡ k) × IsReadable v
+kind_reads kinds.AuthorityKeyIdentifier v r = (ap kind_in r.is, subst IsReadable (sym r.is) r.readable)
+kind_reads kinds.SubjectKeyIdentifier v r = (ap kind_in r.is, subst IsReadable (sym r.is) r.readable)
+kind_reads kinds.KeyUsage v r = (ap kind_in r.is, subst IsReadable (sym r.is) r.readable)
+kind_reads kinds.SubjectAltName v r = (ap kind_in r.is, subst IsReadable (sym r.is) r.readable)
+kind_reads kinds.IssuerAltName v r = (ap kind_in r.is, subst IsReadable (sym r.is) r.readable)
+kind_reads kinds.BasicConstraints v r = (ap kind_in r.is, subst IsReadable (sym r.is) r.readable)
+kind_reads kinds.ExtendedKeyUsage v r = (ap kind_in r.is, subst IsReadable (sym r.is) r.readable)
+kind_reads kinds.Generic v r = (ap kind_in r.is, subst IsReadable (sym r.is) r.readable)
+kind_reads kinds.CrlNumber v r = (ap kind_in r.is, subst IsReadable (sym r.is) r.readable)
+
+-- and no other is
+pub reads_fitting : {A : Type 0} (v : ExtensionFields A) → extension.readable v → IsFitting v × IsReadable v.extn_value
+reads_fitting v r = kind_reads (kind_of v.extn_id) v.extn_value r.1

@@ -1,6 +1,6 @@
 use Rattle.std.proofs.Common.{sym, ◌∙◌}
-use Rattle.picky_asn1_x509.specs.facts.LookUps.{found_here, found_later, found_nowhere}
-use Rattle.picky_asn1_x509.proofs.certificate.first_extension.Goals as goal
+use Rattle.picky_asn1_x509_parts.specs.facts.FirstExtensions.{found_here, found_later, found_nowhere}
+use Rattle.picky_asn1_x509_parts.proofs.extensions.first_extension.Goals as goal
 
 pub returns-then-is_identified : goal.returns-then-is_identified
 returns-then-is_identified g c =

@@ -1,9 +1,9 @@
 use Rattle.std.proofs.Common.{◌≡◌, ◌∙◌, ap}
 use Rattle.std.specs.Cmp.Lexicographic.{bytes_decides}
 use Rattle.std.proofs.lemmas.Bool.Decides.{same_from_decides}
-use Rattle.picky_asn1_x509_parts.specs.Extensions.{is_arcs}
-use Rattle.picky_asn1_x509.specs.LookUps.{has_identifier}
-use Rattle.picky_asn1_x509.proofs.certificate.is_identified.Goals as goal
+use Rattle.x509_der.specs.ObjectIdentifier.{is_arcs}
+use Rattle.picky_asn1_x509_parts.specs.FirstExtensions.{has_identifier}
+use Rattle.picky_asn1_x509_parts.proofs.extensions.is_identified.Goals as goal
 
 pub returns : goal.returns
 unfolding has_identifier

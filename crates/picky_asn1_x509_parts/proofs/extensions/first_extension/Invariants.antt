@@ -1,6 +1,6 @@
 use Rattle.std.proofs.Common.{◌≡◌, drop}
-use Rattle.picky_asn1_x509.specs.LookUps.{first_of}
-use Rattle.x509_callers.proofs.inspector.first_extension.Given as goal
+use Rattle.picky_asn1_x509_parts.specs.FirstExtensions.{first_of}
+use Rattle.picky_asn1_x509_parts.proofs.extensions.first_extension.Given as goal
 
 -- the rest has the same first extension with the identifier
 abbrev pub invariant-loop-extension : goal.invariant-loop-extension
