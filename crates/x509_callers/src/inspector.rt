@@ -6,13 +6,13 @@ ghost use Rattle.picky_asn1_x509.specs.Calls.{Located, NoWhole};
 ghost use Rattle.picky_asn1_x509.specs.Certificates.{certificate};
 ghost use Rattle.picky_asn1_x509.specs.CommonNames.{first_common_name};
 ghost use Rattle.picky_asn1_x509.specs.Extensions.{subject_name_arcs};
-ghost use Rattle.picky_asn1_x509.specs.LookUps.{has_identifier, first_of, held_by};
+ghost use Rattle.picky_asn1_x509.specs.LookUps.{first_of, held_by};
 ghost use Rattle.x509_callers.specs.AlternativeNames.{names_in};
 ghost use Rattle.x509_callers.specs.Reports.{place_line, place_lines};
 
 use picky_asn1_x509::{
-    Certificate, DirectoryString, Extension, ExtensionView, GeneralName, GeneralNames, Place,
-    ReadError, Time, Validity, read_located,
+    Certificate, DirectoryString, ExtensionView, GeneralName, GeneralNames, Place, ReadError, Time,
+    Validity, read_located,
 };
 use std::alloc::Allocator;
 use std::fmt::{self, Write};
@@ -47,29 +47,6 @@ pub fn validity<A: Allocator>(certificate: &Certificate<A>) -> &Validity
     &certificate.tbs_certificate.validity
 }
 
-/// Whether an extension has an identifier. Takes no memory.
-fn is_identified<A: Allocator>(extension: &Extension<A>, arcs: &[u64]) -> bool
-    ensures { result ≡ has_identifier arcs.now extension.now }
-{
-    extension.extn_id().0.is_arcs(arcs)
-}
-
-/// The first extension with an identifier. Takes no memory.
-fn first_extension<'a, A: Allocator>(
-    extensions: &'a [Extension<A>],
-    arcs: &[u64],
-) -> Option<&'a Extension<A>>
-    ensures { MatchOption result (first_of arcs.now extensions.now ≡ None)
-        (λ extension. first_of arcs.now extensions.now ≡ Some extension.now) }
-{
-    for extension in extensions {
-        if is_identified(extension, arcs) {
-            return Some(extension);
-        }
-    }
-    None
-}
-
 /// The alternative names of the subject (RFC 5280, 4.2.1.6): what the first extension holds that has the identifier
 /// 2.5.29.17. Takes no memory.
 pub fn alternative_names<A: Allocator>(certificate: &Certificate<A>) -> Option<&GeneralNames<A>>
@@ -78,7 +55,7 @@ pub fn alternative_names<A: Allocator>(certificate: &Certificate<A>) -> Option<&
         (λ names. held_by names_in
         (first_of subject_name_arcs certificate.now.tbs_certificate.extensions) ≡ Some names.now) }
 {
-    let extension = first_extension(certificate.extensions(), &[2, 5, 29, 17])?;
+    let extension = certificate.find_extension(&[2, 5, 29, 17])?;
     match extension.extn_value() {
         ExtensionView::SubjectAltName(names) => Some(names),
         _ => None,

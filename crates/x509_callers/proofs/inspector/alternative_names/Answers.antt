@@ -1,13 +1,11 @@
 use Rattle.std.proofs.Common.{ap, sym, ◌∙◌}
-use Rattle.picky_asn1_x509.specs.Extensions.{subject_name_arcs}
-use Rattle.picky_asn1_x509.specs.LookUps.{first_of, held_by}
+use Rattle.picky_asn1_x509.specs.LookUps.{held_by}
 use Rattle.x509_callers.specs.AlternativeNames.{names_in}
 use Rattle.x509_callers.specs.facts.AlternativeNames.{no_names}
 use Rattle.x509_callers.proofs.inspector.alternative_names.Goals as goal
 
 pub returns-in_default : goal.returns-in_default
 returns-in_default g c =
-    ap (λ es. held_by names_in (first_of subject_name_arcs es)) (sym c.extensions.ensures)
-    ∙ ap (held_by names_in) c.in_ok-extension.ensures
+    ap (held_by names_in) c.in_ok-extension.ensures
     ∙ ap names_in (sym c.extn_value.ensures.value)
     ∙ no_names c.extn_value.result c.in_default.not-SubjectAltName

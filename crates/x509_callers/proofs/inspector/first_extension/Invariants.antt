@@ -1,7 +1,0 @@
-use Rattle.std.proofs.Common.{◌≡◌, drop}
-use Rattle.picky_asn1_x509.specs.LookUps.{first_of}
-use Rattle.x509_callers.proofs.inspector.first_extension.Given as goal
-
--- the rest has the same first extension with the identifier
-abbrev pub invariant-loop-extension : goal.invariant-loop-extension
-invariant-loop-extension g l = first_of l.arcs (drop l.extension-index l.extensions) ≡ first_of l.arcs l.extensions
