@@ -90,7 +90,11 @@ strays() {
         *) artifacts | cut -d ' ' -f 1 | grep -qxF "$name" || echo "$file is no artifact" ;;
         esac
     done
-    if [ "$1" != --sums ] && [ "$(rt version)" != "$(head -n 1 dist/SOURCES)" ]; then
+    if [ "$1" = --sums ]; then
+        return
+    elif ! command -v rt >/dev/null; then
+        echo "dist/ wasn't compared with a build: the toolchain's command rt isn't on the PATH"
+    elif [ "$(rt version)" != "$(head -n 1 dist/SOURCES)" ]; then
         echo "dist/SOURCES names another toolchain than $(rt version)"
     fi
 }
