@@ -28,6 +28,7 @@ BUDGETS = [
     (22, ["picky_asn1_x509_parts"]),
     (18, ["picky_asn1_x509"]),
     (18, ["x509_tool_parts", "x509_callers", "refusing"]),
+    (7, ["x509_fields"]),
     (2, ["x509_oids_algorithms", "x509_oids_objects"]),
 ]
 

@@ -4,5 +4,6 @@
 
 pub mod checker;
 pub mod inspector;
+pub mod places;
 pub mod requester;
 pub mod signer;

@@ -20,6 +20,7 @@ mod names;
 mod no_memory;
 mod numbers;
 mod octets_and_bits;
+mod places;
 mod raw_algorithms;
 mod refusals;
 mod rows;

@@ -1,0 +1,9 @@
+-- What the calls promise that tell where fields stand.
+pub mod Slices
+pub mod Walks
+pub mod Spans
+pub mod Certificates
+pub mod Requests
+pub mod Keys
+pub mod Extensions
+pub mod facts

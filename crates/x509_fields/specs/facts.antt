@@ -1,0 +1,8 @@
+-- Lemmas about the walk over elements, and about each type.
+pub mod Slices
+pub mod Steps
+pub mod Fields
+pub mod Certificates
+pub mod Extensions
+pub mod Keys
+pub mod Requests

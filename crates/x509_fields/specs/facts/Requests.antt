@@ -1,0 +1,88 @@
+-- A walk over what is signed of a request.
+use Rattle.std.proofs.Common.{◌≡◌, ℕ, ◌+◌, ◌<◌, true, List, [], ◌++◌, length, refl, sym, ap, ◌∙◌, subst, append-nil, lit<}
+use Rattle.x509_der.specs.BitString.{bit_strings}
+use Rattle.x509_der.specs.Element.{element, header}
+use Rattle.x509_der.specs.Fields.{Stands}
+use Rattle.x509_der.specs.Items.{items}
+use Rattle.x509_der.specs.Shape.{IsElement}
+use Rattle.x509_der.specs.SmallInteger.{small_integers}
+use Rattle.x509_der.specs.Tagged.{tagged}
+use Rattle.x509_der.specs.Tally.{Tally}
+use Rattle.x509_der.specs.laws.Tagged.{tagged_element}
+use Rattle.x509_names.specs.Names.{name}
+use Rattle.x509_keys.specs.AlgorithmIdentifier.{algorithm_identifier}
+use Rattle.x509_keys.specs.SubjectPublicKeyInfos.{subject_public_key_info}
+use Rattle.picky_asn1_x509.specs.RequestAttributes.{attribute}
+use Rattle.picky_asn1_x509.specs.Requests.{InfoFields, info_inner, info_parts, request_attributes, request_info}
+use Rattle.picky_asn1_x509.specs.CertificatePlaces.{RequestAt}
+use Rattle.picky_asn1_x509.specs.declared.certification_request.CertificationRequest.{CertificationRequest}
+use Rattle.x509_fields.specs.Requests.{InfoFieldsIn, RequestIn}
+use Rattle.x509_fields.specs.Walks.{Walk, Steps, Inside}
+use Rattle.x509_fields.specs.declared.request.CertificationRequestInfoFields.{CertificationRequestInfoFields}
+use Rattle.x509_fields.specs.declared.request.CertificationRequestFields.{CertificationRequestFields}
+use Rattle.x509_fields.specs.facts.Fields.{Before, at_front, at_back, field_step, element_raw, whole_content}
+
+-- the walk before the first step, and behind each of the four, with what each found
+pub record InfoWalk (at : CertificationRequestInfoFields) : Type 0 where
+  pub w : Walk
+  pub w1 : Walk
+  pub w2 : Walk
+  pub w3 : Walk
+  pub w4 : Walk
+  pub t1 : Steps w w1 at.version
+  pub t2 : Steps w1 w2 at.subject
+  pub t3 : Steps w2 w3 at.subject_public_key_info
+  pub t4 : Steps w3 w4 at.attributes
+
+pub walked_info : {A : Type 0} → IsElement (name {A = A}) → IsElement (subject_public_key_info {A = A}) → (at : CertificationRequestInfoFields) (k : InfoWalk at) (f : InfoFields A) (string : List ℕ) (y : Tally) → Stands info_inner f k.w.at k.w.rest string y → InfoFieldsIn f at string y
+walked_info names keys at k f string y st =
+    let j0 = st.parts in
+    let j1 = j0.second.parts in
+    let j2 = j1.second.parts in
+    let b0 : Before k.w k.w.at k.w.rest [] = record { rest = sym (append-nil k.w.rest); at = refl } in
+    let r1 = field_step (tagged 2 small_integers) (tagged_element 2 small_integers refl (lit< tt)) f.0 k.w.at j0.front (j0.back ++ []) string y k.w k.w1 at.version j0.first.field (at_front k.w k.w.at k.w.rest j0.front j0.back [] j0.bytes b0) k.t1 in
+    let m1 = k.w.at + length j0.front in
+    let r2 = field_step name names f.1.0 m1 j1.front (j1.back ++ []) string y k.w1 k.w2 at.subject j1.first.field (at_front k.w1 m1 j0.back j1.front j1.back [] j1.bytes (at_back k.w1 k.w.at j0.front j0.back [] r1.behind)) k.t2 in
+    let m2 = m1 + length j1.front in
+    let r3 = field_step subject_public_key_info keys f.1.1.0 m2 j2.front (j2.back ++ []) string y k.w2 k.w3 at.subject_public_key_info j2.first.field (at_front k.w2 m2 j1.back j2.front j2.back [] j2.bytes (at_back k.w2 m1 j1.front j1.back [] r2.behind)) k.t3 in
+    let m3 = m2 + length j2.front in
+    let r4 = field_step request_attributes (tagged_element 160 (items attribute) refl (lit< tt)) f.1.1.1 m3 j2.back [] string y k.w3 k.w4 at.attributes j2.second.field (at_back k.w3 m2 j2.front j2.back [] r3.behind) k.t4 in
+    record { version = r1.field; subject = r2.field; subject_public_key_info = r3.field; attributes = r4.field }
+
+-- the walk over a request, which begins inside of its element, and the one inside of what is signed
+pub record RequestWalk (at : CertificationRequestFields) (outer : Walk) : Type 0 where
+  pub w : Walk
+  pub inner : Walk
+  pub w1 : Walk
+  pub w2 : Walk
+  pub w3 : Walk
+  pub inside : Inside outer w
+  pub within : Inside w inner
+  pub t1 : Steps w w1 at.certification_request_info
+  pub t2 : Steps w1 w2 at.signature_algorithm
+  pub t3 : Steps w2 w3 at.signature
+
+pub walked_request : {A : Type 0} → IsElement (request_info {A = A}) → IsElement (algorithm_identifier {A = A}) → (at : CertificationRequestFields) (outer : Walk) (k : RequestWalk at outer) (v : CertificationRequest A) (string : List ℕ) (y : Tally) → RequestAt v string y → outer.rest ≡ string → outer.at ≡ 0 → ((f : InfoFields A) (s : List ℕ) (z : Tally) → Stands info_inner f k.inner.at k.inner.rest s z → InfoFieldsIn f at.fields s z) → RequestIn v at string y
+walked_request {A} parts algorithms at outer k v string y a rest start fields =
+    let i = whole_content 48 a.content string outer k.w refl (lit< tt) a.bytes rest start k.inside in
+    let m = header a.content in
+    let b0 : Before k.w m a.content [] = record { rest = i.0 ∙ sym (append-nil a.content); at = i.1 } in
+    let f1 = at_front k.w m a.content a.signed a.signatures [] a.fields b0 in
+    let r1 = field_step request_info parts v.certification_request_info m a.signed (a.signatures ++ []) string y k.w k.w1 at.certification_request_info a.signed_at.field f1 k.t1 in
+    let j = a.signature_at.parts in
+    let m1 = m + length a.signed in
+    let f2 = at_front k.w1 m1 a.signatures j.front j.back [] j.bytes (at_back k.w1 m a.signed a.signatures [] r1.behind) in
+    let r2 = field_step algorithm_identifier algorithms v.signature_algorithm m1 j.front (j.back ++ []) string y k.w1 k.w2 at.signature_algorithm j.first.field f2 k.t2 in
+    let m2 = m1 + length j.front in
+    let r3 = field_step (tagged 3 bit_strings) (tagged_element 3 bit_strings refl (lit< tt)) v.signature m2 j.back [] string y k.w2 k.w3 at.signature j.second.field (at_back k.w2 m1 j.front j.back [] r2.behind) k.t3 in
+    let s = a.signed_at.parts in
+    let n = k.within.content 48 s.content (a.signatures ++ []) (element_raw 48 s.content (element 48 s.content) refl (lit< tt) refl) (f1.rest ∙ ap (λ x. x ++ (a.signatures ++ [])) s.bytes) in
+    let place : k.inner.at ≡ m + header s.content = n.1 ∙ ap (λ x. x + header s.content) i.1 in
+    let St : ℕ → List ℕ → Type 0 = λ x p. Stands info_inner (info_parts v.certification_request_info) x p string y in
+    let st = subst (λ x. St x k.inner.rest) (sym place) (subst (St (m + header s.content)) (sym n.0) s.inner) in
+    record {
+      certification_request_info = r1.field;
+      fields = fields (info_parts v.certification_request_info) string y st;
+      signature_algorithm = r2.field;
+      signature = r3.field;
+    }

@@ -1,0 +1,105 @@
+-- What a walk does where elements stand.
+use Rattle.std.proofs.Common.{◌≡◌, ℕ, ◌+◌, ◌≤◌, ◌==◌, true, List, [], ◌∷◌, ◌++◌, length, take, drop, get_or, refl, sym, ap, ◌∙◌, arith, length-append, eqb-true, eq-eqb, false, ◌<◌}
+use Rattle.std.proofs.Math.Seq.{drop-append_seam, take-append_seam}
+use Rattle.x509_der.specs.Types.{Element}
+use Rattle.x509_der.specs.Element.{IsRaw, digits, element, header, is_tag}
+use Rattle.x509_der.specs.facts.Element.{element_one, element_length}
+use Rattle.x509_der.specs.FirstElement.{FoundAt}
+use Rattle.x509_der.specs.Reading.{NoFirst}
+use Rattle.x509_der.specs.Shape.{Follows}
+use Rattle.x509_fields.specs.Walks.{Walk, Goes, Steps, Inside}
+use Rattle.x509_fields.specs.declared.span.Span.{Span}
+
+pub found_end : (string : List ℕ) (e : Element) → FoundAt string e → e.end ≤ length string
+found_end string e f = omega (arith, f.end, ap length f.first.bytes, length-append (element e.tag f.content) f.after, element_length e.tag f.content)
+
+found_behind : (string : List ℕ) (e : Element) → (f : FoundAt string e) → drop e.end string ≡ f.after
+found_behind string e f =
+    let size : e.end ≡ length (element e.tag f.content) = omega (arith, f.end, element_length e.tag f.content) in
+    ap (λ n. drop n string) size ∙ ap (drop (length (element e.tag f.content))) f.first.bytes ∙ drop-append_seam (element e.tag f.content) f.after
+
+pub steps : (old new : Walk) (e : Element) (span : Span) → FoundAt old.rest e → new.rest ≡ drop e.end old.rest → new.at ≡ old.at + e.end → span.start ≡ old.at → span.end ≡ new.at → Steps old new span
+steps old new e span f rest at start end =
+    let after : new.rest ≡ f.after = rest ∙ found_behind old.rest e f in
+    record {
+      start = start;
+      end = end;
+      goes = record {
+        forward = omega (arith, at);
+        ends = omega (arith, at, f.end, ap length after, ap length f.first.bytes, length-append (element e.tag f.content) f.after, element_length e.tag f.content);
+      };
+      past = λ p q h g.
+          let k = element_one h.tag e.tag h.content f.content q f.after (ap (λ x. x ++ q) (sym h.bytes) ∙ sym g ∙ f.first.bytes) in
+          (after ∙ sym k.rest, omega (arith, at, f.end, ap length h.bytes, element_length h.tag h.content, ap header k.content, ap length k.content));
+    }
+
+pub stays : (old : Walk) (span : Span) → NoFirst old.rest → span.start ≡ old.at → span.end ≡ old.at → Steps old old span
+stays old span n start end = record {
+  start = start;
+  end = end;
+  goes = record { forward = omega arith; ends = refl };
+  past = λ p q h g. absurd (n h.tag h.content q h.fits (g ∙ ap (λ x. x ++ q) h.bytes));
+}
+
+content_from : (t : ℕ) (c : List ℕ) → drop (header c) (element t c) ≡ c
+unfolding element digits header
+content_from t c = let e : length (digits (length c)) + 1 ≡ length (t ∷ digits (length c)) = omega arith in rw e (drop-append_seam (t ∷ digits (length c)) c)
+
+-- the content of an element that was found
+pub inside_found : (outer inner : Walk) (e : Element) → FoundAt outer.rest e → inner.rest ≡ drop e.start (take e.end outer.rest) → inner.at ≡ outer.at + e.start → Inside outer inner
+inside_found outer inner e f rest at =
+    let size : e.end ≡ length (element e.tag f.content) = omega (arith, f.end, element_length e.tag f.content) in
+    let whole : take e.end outer.rest ≡ element e.tag f.content = ap (λ n. take n outer.rest) size ∙ ap (take (length (element e.tag f.content))) f.first.bytes ∙ take-append_seam (element e.tag f.content) f.after in
+    let content : inner.rest ≡ f.content = rest ∙ ap (drop e.start) whole ∙ ap (λ n. drop n (element e.tag f.content)) f.start ∙ content_from e.tag f.content in
+    record {
+      after = omega (arith, at);
+      within = omega (arith, at, f.start, f.end, ap length content, found_end outer.rest e f);
+      content = λ t c q h g.
+          let k = element_one t e.tag c f.content q f.after (sym g ∙ f.first.bytes) in
+          (content ∙ sym k.content, at ∙ ap (λ n. outer.at + n) f.start ∙ ap (λ x. outer.at + header x) (sym k.content));
+    }
+
+tag_of : (t : ℕ) (c : List ℕ) → IsRaw (element t c) → is_tag t ≡ true
+tag_of t c h =
+    let k = element_one h.tag t h.content c [] [] (ap (λ x. x ++ []) (sym h.bytes)) in
+    ap is_tag (sym k.tag) ∙ h.fits
+
+pub inside_none : (outer inner : Walk) → NoFirst outer.rest → inner.rest ≡ [] → inner.at ≡ outer.at → Inside outer inner
+inside_none outer inner n rest at = record {
+  after = omega (arith, at);
+  within = omega (arith, at, ap length rest);
+  content = λ t c q h g. absurd (n t c q (tag_of t c h) g);
+}
+
+-- an element begins with its tag
+begins_with : (t : ℕ) (c q : List ℕ) (first : ℕ) (r : List ℕ) → first ∷ r ≡ element t c ++ q → first ≡ t
+unfolding element
+begins_with t c q first r e = cc
+
+header_positive : (c : List ℕ) → 1 ≤ header c
+unfolding header
+header_positive c = omega arith
+
+pub no_element : (t : ℕ) (rest : List ℕ) → length rest < 1 → (q c : List ℕ) → rest ≡ element t c ++ q → ⊥
+no_element t rest n q c e = omega (arith, n, ap length e, length-append (element t c) q, element_length t c, header_positive c)
+
+pub other_element : (t : ℕ) (rest : List ℕ) → 1 ≤ length rest → (get_or rest 0 0 ≡ t → ⊥) → (q c : List ℕ) → rest ≡ element t c ++ q → ⊥
+other_element t [] l n q c e = omega (arith, l)
+other_element t (b ∷ r) l n q c e = n (begins_with t c q b r e)
+
+pub begun : (t : ℕ) (rest : List ℕ) → 1 ≤ length rest → get_or rest 0 0 ≡ t → Follows (λ b. b == t) rest → ⊥
+begun t [] l e f = omega (arith, l)
+begun t (b ∷ r) l e f = let h : (b == t) ≡ true = eq-eqb b t e in cc
+
+pub not_empty : (rest : List ℕ) → 1 ≤ length rest → rest ≡ [] → ⊥
+not_empty rest l e = omega (arith, l, ap length e)
+
+pub no_elements : (tag : ℕ) (rest : List ℕ) → length rest < 1 → (q : List ℕ) (t : ℕ) (c : List ℕ) → (t == tag) ≡ false → rest ≡ element t c ++ q → ⊥
+no_elements tag rest n q t c other e = no_element t rest n q c e
+
+-- what begins with the tag begins with no other
+pub same_element : (tag : ℕ) (rest : List ℕ) → 1 ≤ length rest → get_or rest 0 0 ≡ tag → (q : List ℕ) (t : ℕ) (c : List ℕ) → (t == tag) ≡ false → rest ≡ element t c ++ q → ⊥
+same_element tag [] l h q t c n e = omega (arith, l)
+same_element tag (b ∷ r) l h q t c n e =
+    let k : (t == tag) ≡ true = eq-eqb t tag (sym (begins_with t c q b r e) ∙ h) in
+    cc
