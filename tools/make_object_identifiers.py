@@ -1,7 +1,7 @@
 #!/usr/bin/env python3
-"""Writes the two tables of object identifiers from object_identifiers.tsv.
+"""Writes the two tables of object identifiers from object_identifiers.tsv, and the names of these and of further_names.tsv.
 
-A further identifier is one more line there; then run this script and `rt fmt` in the two crates, and commit what they write.
+A further identifier is one more line there; then run this script and `rt fmt` in the three crates, and commit what they write.
 The gate reads what is committed, and doesn't run this script.
 """
 import csv
@@ -43,10 +43,51 @@ pub fn {function}<A: Allocator>(alloc: A) -> Result<ObjectIdentifier<A>, AllocEr
 }}
 """
 
+NAMES_HEAD = """//! The names of object identifiers, as the standards spell them.
+//!
+//! This file is written by `tools/make_object_identifiers.py` from `tools/object_identifiers.tsv` and
+//! `tools/further_names.tsv`.
+#![tactic(auto)]
+
+/// The name of an object identifier, if it has one here.
+pub fn name_of(arcs: &[u64]) -> Option<&'static str> {
+    let (last, front) = arcs.split_last()?;
+    match front {
+"""
+
+
+def rows_of(name):
+    with open(HERE / name, newline="", encoding="utf-8") as file:
+        return list(csv.DictReader(file, delimiter="\t"))
+
+
+def write(crate, text):
+    target = HERE.parent / "crates" / crate / "src" / "lib.rt"
+    target.parent.mkdir(parents=True, exist_ok=True)
+    target.write_text(text, encoding="utf-8")
+
+
+def names_text(rows):
+    """The crate of names: a function for the identifiers under each front, since one for all takes long to prove."""
+    fronts = {}
+    for row in rows:
+        *front, last = row["arcs"].split(".")
+        fronts.setdefault(tuple(map(int, front)), []).append((int(last), row["name"]))
+    text = NAMES_HEAD
+    for front in sorted(fronts):
+        text += f"        [{', '.join(map(str, front))}] => under_{'_'.join(map(str, front))}(*last),\n"
+    text += "        _ => None,\n    }\n}\n"
+    for front, named in sorted(fronts.items()):
+        text += f"\n/// The names under {'.'.join(map(str, front))}.\n"
+        text += f"fn under_{'_'.join(map(str, front))}(last: u64) -> Option<&'static str> {{\n    match last {{\n"
+        for last, name in sorted(named):
+            text += f'        {last} => Some("{name}"),\n'
+        text += "        _ => None,\n    }\n}\n"
+    return text
+
 
 def main():
-    with open(HERE / "object_identifiers.tsv", newline="", encoding="utf-8") as file:
-        rows = list(csv.DictReader(file, delimiter="\t"))
+    rows = rows_of("object_identifiers.tsv")
     for crate, title in TITLES.items():
         text = HEAD.format(title=title)
         for row in rows:
@@ -55,9 +96,8 @@ def main():
                 text += ENTRY.format(
                     **row, listed=" ∷ ".join(arcs + ["[]"]), array=", ".join(arcs)
                 )
-        target = HERE.parent / "crates" / crate / "src" / "lib.rt"
-        target.parent.mkdir(parents=True, exist_ok=True)
-        target.write_text(text, encoding="utf-8")
+        write(crate, text)
+    write("x509_oid_names", names_text(rows + rows_of("further_names.tsv")))
 
 
 if __name__ == "__main__":
