@@ -51,6 +51,7 @@ pub struct Block<A: Allocator = Global> {
     text: Vec<u8, A>,
     bytes: Vec<u8, A>,
     is_open: bool,
+    is_new: bool,
     limit: usize,
     ghost fits: { length text.items ≤ limit },
 }
@@ -68,6 +69,7 @@ impl<A: Allocator + Copy> Block<A> {
             text: Vec::new(alloc),
             bytes: Vec::new(alloc),
             is_open: false,
+            is_new: false,
             limit,
         }
     }
@@ -97,6 +99,11 @@ impl<A: Allocator> Block<A> {
         self.is_open
     }
 
+    /// Whether the last line began a block.
+    pub(crate) fn is_new(&self) -> bool {
+        self.is_new
+    }
+
     /// Gives up a block whose end never came.
     pub(crate) fn give_up(&mut self)
         ensures { (state_of self.new).is_open ≡ false }
@@ -120,6 +127,7 @@ impl<A: Allocator> Block<A> {
             return Err(Fault::OutOfMemory);
         }
         self.is_open = true;
+        self.is_new = true;
         Ok(())
     }
 
@@ -215,6 +223,7 @@ impl<A: Allocator> Block<A> {
         ensures { IfOk result (λ ends. Trimmed line.now (λ r. Goes ends r (state_of self.old) (state_of self.new))) }
     {
         let line = trimmed(line);
+        self.is_new = false;
         if self.is_open {
             self.take_inner(line)
         } else {

@@ -23,11 +23,17 @@ enum Step {
     InputEnd,
 }
 
+/// The line that began the last block: the one that was read last, if it began one, and else as before.
+fn first_line(is_new: bool, before: u64, last: u64) -> u64 {
+    if is_new { last } else { before }
+}
+
 /// A reader of blocks, which holds one block at a time.
 #[derive(Drop)]
 pub struct PemReader<R: BufRead + Drop, A: Allocator = Global> {
     lines: Lines<R, A>,
     block: Block<A>,
+    begun: u64,
 }
 
 impl<R: BufRead + Drop, A: Allocator + Copy> PemReader<R, A> {
@@ -42,6 +48,7 @@ impl<R: BufRead + Drop, A: Allocator + Copy> PemReader<R, A> {
         PemReader {
             lines: Lines::new(alloc, input, limit.saturating_add(LINE_ROOM)),
             block: Block::new(alloc, limit),
+            begun: 0,
         }
     }
 }
@@ -59,8 +66,13 @@ impl<R: BufRead + Drop, A: Allocator> PemReader<R, A> {
         &self.block
     }
 
-    /// The number of the line that was read last, from 1: of a block that was read, its last line.
-    pub fn line(&self) -> u64 {
+    /// The number of the line that began the block, from 1.
+    pub fn first_line(&self) -> u64 {
+        self.begun
+    }
+
+    /// The number of the line that was read last, from 1: of a block that was read, the line that ended it.
+    pub fn last_line(&self) -> u64 {
         self.lines.count()
     }
 
@@ -81,7 +93,9 @@ impl<R: BufRead + Drop, A: Allocator> PemReader<R, A> {
             × Goes ends line (state_of self.old.block) (state_of self.new.block)) }
         ensures input { self.new.lines.input ≡ self.old.lines.input }
     {
-        match self.block.take_line(self.lines.held()) {
+        let taken = self.block.take_line(self.lines.held());
+        self.begun = first_line(self.block.is_new(), self.begun, self.lines.count());
+        match taken {
             Ok(ends) => Ok(ends),
             Err(fault) => Err(self.fault_there(fault)),
         }

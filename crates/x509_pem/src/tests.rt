@@ -13,12 +13,12 @@ fn has_block<R: BufRead + Drop>(
     reader: &mut PemReader<R>,
     label: &[u8],
     bytes: &[u8],
-    line: u64,
+    lines: (u64, u64),
 ) {
     assert!(rt; matches!(reader.next_block(), Ok(true)));
     assert!(rt; reader.block().label() == label);
     assert!(rt; reader.block().bytes() == bytes);
-    assert!(rt; reader.line() == line);
+    assert!(rt; reader.first_line() == lines.0 && reader.last_line() == lines.1);
 }
 
 #[test]
@@ -29,9 +29,9 @@ fn two_blocks(rt: HostRuntime) -> Result<(), Fail> {
         &mut reader,
         b"A B".as_slice(),
         b"\x01\x02\x03\x04".as_slice(),
-        5,
+        (2, 5),
     );
-    has_block(&rt, &mut reader, b"C".as_slice(), b"".as_slice(), 8);
+    has_block(&rt, &mut reader, b"C".as_slice(), b"".as_slice(), (7, 8));
     assert!(rt; matches!(reader.next_block(), Ok(false)));
     Ok(())
 }
