@@ -1,5 +1,9 @@
 //! Where elements stand: a cursor over bytes that were read before.
 
+ghost use Rattle.std.specs.Prelude.{◌≡◌, ◌≤◌, ◌<◌, ◌+◌, ◌^◌, length, IfSome, MatchOption};
+
+use x509_der::parts::first_element;
+
 /// The bytes of an input from `start` up to `end`.
 #[derive(Clone, Copy, Debug, PartialEq, Eq)]
 pub struct Span {
@@ -19,14 +23,17 @@ impl Span {
 /// Elements one behind another, and where the first of them stands.
 #[derive(Clone, Copy, Drop)]
 pub struct Cursor<'a> {
-    rest: &'a [u8],
-    at: usize,
+    /// The bytes of the elements that are left.
+    pub rest: &'a [u8],
+    /// How many bytes of the input stand before them.
+    pub at: usize,
+    ghost fits: { at + length rest.now < 2 ^ 64 },
 }
 
 /// An element: its tag, where it stands, and a cursor over its content.
 #[derive(Clone, Copy, Drop)]
 pub struct Element<'a> {
-    /// The first byte of the tag; 0 where there is no element.
+    /// The tag; 0 where there is no element.
     pub tag: u8,
     /// Where it stands, with its header.
     pub span: Span,
@@ -34,65 +41,61 @@ pub struct Element<'a> {
     pub inside: Cursor<'a>,
 }
 
-/// How many bytes the header of the first element has, and how many its content, where there are as many.
-fn sizes(bytes: &[u8]) -> Option<(usize, usize)> {
-    let first = *bytes.get(1)?;
-    if first < 128 {
-        return Some((2, usize::from(first)));
-    }
-    let count = usize::from(first - 128);
-    let mut size: usize = 0;
-    for digit in bytes.get(2..2 + count)? {
-        size = size.wrapping_mul(256).wrapping_add(usize::from(*digit));
-    }
-    Some((2 + count, size))
-}
-
-/// The content of the first element, what comes behind it, and how many bytes its header has.
-fn split(bytes: &[u8]) -> Option<(&[u8], &[u8], usize)> {
-    let (header, size) = sizes(bytes)?;
-    let behind = bytes.get(header..)?;
-    Some((behind.get(..size)?, behind.get(size..)?, header))
-}
-
 impl<'a> Cursor<'a> {
+    ghost use Rattle.x509_report_parts.specs.Cursors.{IsNext, IsNone, Next};
+
     /// At the start of an input.
-    pub fn new(bytes: &'a [u8]) -> Self {
+    pub fn new(bytes: &'a [u8]) -> Self
+        ensures rest { result.rest.now ≡ bytes.now }
+        ensures at { result.at ≡ 0 }
+    {
         Cursor { rest: bytes, at: 0 }
     }
 
-    /// The next element, which it goes past; an empty one where there is none.
-    pub fn next(&mut self) -> Element<'a> {
+    /// The next element, which it goes past; `None` where the bytes begin with none, and it stays where it is.
+    pub fn take(&mut self) -> Option<Element<'a>>
+        ensures { MatchOption result (IsNone self.old self.new) (λ e. IsNext self.old e self.new) }
+    {
         let start = self.at;
-        let tag = self.tag().unwrap_or(0);
-        match split(self.rest) {
-            Some((content, rest, header)) => {
-                let at = start.saturating_add(header);
-                let end = at.saturating_add(content.len());
-                *self = Cursor { rest, at: end };
-                Element {
-                    tag,
-                    span: Span { start, end },
-                    inside: Cursor { rest: content, at },
-                }
-            }
+        let found = first_element(self.rest)?;
+        let (whole, rest) = self.rest.split_at(found.end);
+        let (_header, content) = whole.split_at(found.start);
+        let end = start + found.end;
+        let at = start + found.start;
+        *self = Cursor { rest, at: end };
+        Some(Element {
+            tag: found.tag,
+            span: Span { start, end },
+            inside: Cursor { rest: content, at },
+        })
+    }
+
+    /// The next element, which it goes past; an empty place where there is none.
+    pub fn next(&mut self) -> Element<'a>
+        ensures { Next self.old result self.new }
+    {
+        let at = self.at;
+        match self.take() {
+            Some(element) => element,
             None => Element {
-                tag,
-                span: Span { start, end: start },
-                inside: Cursor {
-                    rest: &[],
-                    at: start,
-                },
+                tag: 0,
+                span: Span { start: at, end: at },
+                inside: Cursor { rest: &[], at },
             },
         }
     }
 
     /// The next element, which it goes past, if its tag is this one.
-    pub fn next_if(&mut self, tag: u8) -> Option<Element<'a>> {
-        if self.tag() == Some(tag) {
-            Some(self.next())
-        } else {
-            None
+    pub fn next_if(&mut self, tag: u8) -> Option<Element<'a>>
+        ensures { IfSome result (λ e. (e.tag ≡ tag) × IsNext self.old e self.new) }
+    {
+        let mut ahead = *self;
+        match ahead.take() {
+            Some(element) if element.tag == tag => {
+                *self = ahead;
+                Some(element)
+            }
+            _ => None,
         }
     }
 
@@ -101,17 +104,13 @@ impl<'a> Cursor<'a> {
         let mut cursor = *self;
         let mut found = None;
         for _ in 0..self.rest.len() {
-            let element = cursor.next();
-            if element.tag == tag {
-                found = Some(element);
+            match cursor.take() {
+                Some(element) if element.tag == tag => found = Some(element),
+                Some(_) => {}
+                None => break,
             }
         }
         found
-    }
-
-    /// The bytes that are left.
-    pub fn bytes(&self) -> &'a [u8] {
-        self.rest
     }
 
     /// The tag of the next element.
@@ -119,16 +118,18 @@ impl<'a> Cursor<'a> {
         self.rest.first().copied()
     }
 
-    /// Where it stands.
-    pub fn at(&self) -> usize {
-        self.at
-    }
-
-    /// The same behind a number of bytes, as of a BIT STRING behind the count of unused bits.
+    /// The same behind a number of bytes, as of a BIT STRING behind the count of unused bits; at the end where there are
+    /// fewer.
     pub fn behind(&self, count: usize) -> Self {
+        if count > self.rest.len() {
+            return Cursor {
+                rest: &[],
+                at: self.at,
+            };
+        }
         Cursor {
-            rest: self.rest.get(count..).unwrap_or(&[]),
-            at: self.at.saturating_add(count),
+            rest: &self.rest[count..],
+            at: self.at + count,
         }
     }
 }

@@ -17,10 +17,10 @@ pub enum Identifiers {
 }
 
 /// In which column values begin.
-const VALUES: usize = 28;
+const VALUES: usize = 34;
 
 /// In which column the starts of places end.
-const PLACES: usize = 80;
+const PLACES: usize = 84;
 
 /// A writer that counts the characters which it passes on.
 #[derive(Drop)]
@@ -61,8 +61,8 @@ pub struct TextSink<'w, W: Write> {
     depth: usize,
     /// Whether the node that is open has no line of its own, in the lowest bit; in the others, those around it.
     only: u64,
-    /// The place of the node whose fields stand on one line, while they do, and how many of them stand there.
-    line: Option<(Span, usize)>,
+    /// The place of the node whose fields stand on one line, while they do, and whether a value stands there.
+    line: Option<(Span, bool)>,
 }
 
 /// An object identifier by its name, or with dots where it has none here, or both.
@@ -102,6 +102,22 @@ fn write_octets<W: Write>(out: &mut W, bytes: &[u8]) -> fmt::Result {
     write!(out, "{}", ShortHex(bytes))
 }
 
+/// Writes a number of a key: in decimal where it has at most 64 bits, and else its size in bits, and its bytes.
+fn write_number<W: Write>(out: &mut W, count: u64, bytes: &[u8]) -> fmt::Result {
+    let digits = match bytes {
+        [0, digits @ ..] => digits,
+        digits => digits,
+    };
+    if count > 64 {
+        return write_bits(out, count, digits);
+    }
+    let mut number: u64 = 0;
+    for digit in digits {
+        number = number.wrapping_mul(256) | u64::from(*digit);
+    }
+    write!(out, "{number}")
+}
+
 /// Writes a number of bits, and bytes.
 fn write_bits<W: Write>(out: &mut W, count: u64, bytes: &[u8]) -> fmt::Result {
     write!(out, "{count} bits, {}", ShortHex(bytes))
@@ -122,7 +138,8 @@ fn write_value<W: Write>(out: &mut W, value: Value<'_>, identifiers: Identifiers
         Value::Identifier(arcs) => write!(out, "{}", Named(arcs, identifiers)),
         Value::Number(number) => write!(out, "{number}"),
         Value::Integer(bytes) => write!(out, "{}", Hex(bytes)),
-        Value::Sized(count, bytes) | Value::Bits(count, bytes) => write_bits(out, count, bytes),
+        Value::Sized(count, bytes) => write_number(out, count, bytes),
+        Value::Bits(count, bytes) => write_bits(out, count, bytes),
         Value::Octets(bytes) | Value::Raw(bytes) => write_octets(out, bytes),
         Value::Flag(flag) => write!(out, "{flag}"),
         Value::Time(moment) => write!(out, "{}", Stamp(moment)),
@@ -149,13 +166,35 @@ impl<'w, W: Write> TextSink<'w, W> {
         }
     }
 
-    /// Writes what a line begins with.
-    fn start(&mut self, label: Label<'_>) -> fmt::Result {
+    /// Writes what a line begins with: the label, and where it is a critical extension's, that it is. Answers whether a
+    /// value has begun.
+    fn start(&mut self, label: Label<'_>) -> Result<bool, fmt::Error> {
         self.out.count = 0;
         for _ in 0..self.depth {
             self.out.write_str("  ")?;
         }
-        self.label(label)
+        self.label(label)?;
+        let is_critical = matches!(
+            label,
+            Label::Extension {
+                is_critical: true,
+                ..
+            }
+        );
+        if is_critical {
+            self.out.pad(VALUES, 2)?;
+            self.out.write_str("critical")?;
+        }
+        Ok(is_critical)
+    }
+
+    /// Writes what stands between a label, or a value before it, and a value.
+    fn separate(&mut self, has_begun: bool) -> fmt::Result {
+        if has_begun {
+            self.out.write_str(", ")
+        } else {
+            self.out.pad(VALUES, 2)
+        }
     }
 
     /// Writes a label.
@@ -164,13 +203,7 @@ impl<'w, W: Write> TextSink<'w, W> {
         match label {
             Label::Field(name) => self.out.write_str(name),
             Label::Identifier(arcs) => write!(self.out, "{}", Named(arcs, identifiers)),
-            Label::Extension { arcs, is_critical } => {
-                write!(self.out, "{}", Named(arcs, identifiers))?;
-                if is_critical {
-                    self.out.write_str(", critical")?;
-                }
-                Ok(())
-            }
+            Label::Extension { arcs, .. } => write!(self.out, "{}", Named(arcs, identifiers)),
         }
     }
 
@@ -190,13 +223,9 @@ impl<'w, W: Write> TextSink<'w, W> {
         writeln!(self.out, "{start}..{end}")
     }
 
-    /// Writes a field on the line of several, of which some stand there.
-    fn add(&mut self, count: usize, label: Label<'_>, value: Value<'_>) -> fmt::Result {
-        if count == 0 {
-            self.out.pad(VALUES, 2)?;
-        } else {
-            self.out.write_str(", ")?;
-        }
+    /// Writes a field on the line of several.
+    fn add(&mut self, has_begun: bool, label: Label<'_>, value: Value<'_>) -> fmt::Result {
+        self.separate(has_begun)?;
         if !is_plain(value) {
             self.label(label)?;
             self.out.write_str(" ")?;
@@ -213,11 +242,11 @@ impl<W: Write> Sink for TextSink<'_, W> {
         match shape {
             Shape::Only => return Ok(()),
             Shape::Line => {
-                self.start(label)?;
-                self.line = Some((span, 0));
+                let has_begun = self.start(label)?;
+                self.line = Some((span, has_begun));
             }
             Shape::Fields | Shape::Items => {
-                self.start(label)?;
+                let _ = self.start(label)?;
                 self.finish(span)?;
             }
         }
@@ -226,15 +255,15 @@ impl<W: Write> Sink for TextSink<'_, W> {
     }
 
     fn field(&mut self, label: Label<'_>, span: Span, value: Value<'_>) -> fmt::Result {
-        if let Some((around, count)) = self.line {
+        if let Some((around, has_begun)) = self.line {
             if matches!(value, Value::Null) {
                 return Ok(());
             }
-            self.line = Some((around, count.saturating_add(1)));
-            return self.add(count, label, value);
+            self.line = Some((around, true));
+            return self.add(has_begun, label, value);
         }
-        self.start(label)?;
-        self.out.pad(VALUES, 2)?;
+        let has_begun = self.start(label)?;
+        self.separate(has_begun)?;
         write_value(&mut self.out, value, self.identifiers)?;
         self.finish(span)
     }

@@ -1,4 +1,4 @@
-use Rattle.std.proofs.Common.{ℕ, length}
+use Rattle.std.proofs.Common.{length}
 use Rattle.x509_report_parts.proofs.values.Utf16Display.fmt.Given as goal
 
 abbrev pub decreases-loop-rest : goal.decreases-loop-rest
