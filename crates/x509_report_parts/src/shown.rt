@@ -1,11 +1,17 @@
 //! How text of the input is shown, so that it can't do anything to a terminal.
 
+ghost use Rattle.std.specs.Prelude.{◌≡◌, true, false};
+ghost use Rattle.x509_report_parts.specs.Seen.{IsControl, TurnsText};
+
 use std::fmt::{self, Display, Write};
 use std::str;
 
 /// Whether a character has no glyph of its own: controls, marks that turn the direction of text, and characters without
 /// a width (general categories Cc, Cf, Zl and Zp, and the other characters that Unicode calls ignorable by default).
-fn is_unseen(c: char) -> bool {
+fn is_unseen(c: char) -> bool
+    ensures control { IsControl c → result ≡ true }
+    ensures direction { TurnsText c → result ≡ true }
+{
     match c {
         '\u{0}'..='\u{1f}' | '\u{7f}'..='\u{9f}' | '\u{ad}' | '\u{34f}' => true,
         '\u{600}'..='\u{605}' | '\u{61c}' | '\u{6dd}' | '\u{70f}' | '\u{890}'..='\u{891}' => true,
@@ -29,7 +35,10 @@ fn is_far_unseen(c: char) -> bool {
 }
 
 /// Whether a character is shown as it is. The code points from U+E000 up to U+F8FF, for private use, aren't.
-pub fn is_plain(c: char) -> bool {
+pub fn is_plain(c: char) -> bool
+    ensures control { IsControl c → result ≡ false }
+    ensures direction { TurnsText c → result ≡ false }
+{
     match c {
         ' '..='~' => true,
         '\u{e000}'..='\u{f8ff}' => false,

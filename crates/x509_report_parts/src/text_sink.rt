@@ -96,6 +96,9 @@ fn write_words<W: Write>(out: &mut W, words: &[&str]) -> fmt::Result {
 /// Writes bytes, behind their number where they are too many for a line.
 fn write_octets<W: Write>(out: &mut W, bytes: &[u8]) -> fmt::Result {
     let count = bytes.len();
+    if count == 0 {
+        return out.write_str("0 bytes");
+    }
     if count > 32 {
         write!(out, "{count} bytes, ")?;
     }
@@ -120,7 +123,11 @@ fn write_number<W: Write>(out: &mut W, count: u64, bytes: &[u8]) -> fmt::Result 
 
 /// Writes a number of bits, and bytes.
 fn write_bits<W: Write>(out: &mut W, count: u64, bytes: &[u8]) -> fmt::Result {
-    write!(out, "{count} bits, {}", ShortHex(bytes))
+    write!(out, "{count} bits")?;
+    if bytes.is_empty() {
+        return Ok(());
+    }
+    write!(out, ", {}", ShortHex(bytes))
 }
 
 /// Writes text between quotation marks.
@@ -276,8 +283,12 @@ impl<W: Write> Sink for TextSink<'_, W> {
         }
         self.depth = self.depth.saturating_sub(1);
         match self.line {
-            Some((span, _)) => {
+            Some((span, has_begun)) => {
                 self.line = None;
+                if !has_begun {
+                    self.out.pad(VALUES, 2)?;
+                    self.out.write_str("empty")?;
+                }
                 self.finish(span)
             }
             None => Ok(()),
