@@ -1,7 +1,7 @@
 #!/usr/bin/env python3
 """Writes the two tables of object identifiers from object_identifiers.tsv, and the names of these and of further_names.tsv.
 
-A further identifier is one more line there; then run this script and `rt fmt` in the three crates, and commit what they write.
+A further identifier is one more line there; then run this script and `rt fmt` in the four crates, and commit what they write.
 The gate reads what is committed, and doesn't run this script.
 """
 import csv
@@ -86,6 +86,34 @@ def names_text(rows):
     return text
 
 
+TESTS_HEAD = """//! The identifiers of the two tables, each with its name. This file is written by `tools/make_object_identifiers.py`.
+
+use super::are_named;
+use std::alloc::Global;
+use std::process::Abort;
+use x509_oids_algorithms as algorithms;
+use x509_oids_objects as objects;
+"""
+
+# How many lines of a table a function has: a longer one takes long to prove.
+LINES = 16
+
+
+def tests_text(rows):
+    """The tables of names that a test compares with what the crate of names answers."""
+    text = TESTS_HEAD
+    parts = [rows[at : at + LINES] for at in range(0, len(rows), LINES)]
+    for number, part in enumerate(parts, 1):
+        text += f"\nconst NAMES_{number}: &'static [(&'static str, &'static str)] = &[\n"
+        for row in part:
+            text += f'    ({row["crate"].removeprefix("x509_oids_")}::{row["constant"]}, "{row["name"]}"),\n'
+        text += f"];\n\nfn names_{number}(rt: &impl Abort, alloc: Global) {{\n    are_named(rt, alloc, NAMES_{number});\n}}\n"
+    text += "\n/// Asks that each identifier has its name.\npub(super) fn all_named(rt: &impl Abort, alloc: Global) {\n"
+    for number in range(1, len(parts) + 1):
+        text += f"    names_{number}(rt, alloc);\n"
+    return text + "}\n"
+
+
 def main():
     rows = rows_of("object_identifiers.tsv")
     for crate, title in TITLES.items():
@@ -98,6 +126,7 @@ def main():
                 )
         write(crate, text)
     write("x509_oid_names", names_text(rows + rows_of("further_names.tsv")))
+    (HERE.parent / "crates/x509_report_tests/src/tests/names.rt").write_text(tests_text(rows), encoding="utf-8")
 
 
 if __name__ == "__main__":
