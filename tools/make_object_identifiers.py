@@ -107,7 +107,8 @@ def tests_text(rows):
         text += f"\nconst NAMES_{number}: &'static [(&'static str, &'static str)] = &[\n"
         for row in part:
             text += f'    ({row["crate"].removeprefix("x509_oids_")}::{row["constant"]}, "{row["name"]}"),\n'
-        text += f"];\n\nfn names_{number}(rt: &impl Abort, alloc: Global) {{\n    are_named(rt, alloc, NAMES_{number});\n}}\n"
+        text += f"];\n\nfn names_{number}(rt: &impl Abort, alloc: Global) {{\n"
+        text += f"    are_named(rt, alloc, NAMES_{number});\n}}\n"
     text += "\n/// Asks that each identifier has its name.\npub(super) fn all_named(rt: &impl Abort, alloc: Global) {\n"
     for number in range(1, len(parts) + 1):
         text += f"    names_{number}(rt, alloc);\n"

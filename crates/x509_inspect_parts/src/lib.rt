@@ -1,21 +1,16 @@
-//! What is told of bytes as a type: as text, as JSON, and where they are refused; and the elements of anything.
-//!
-//! No other crate but `x509_inspect` lists this one, which chooses the type when it runs.
+//! What is told of bytes that are read as a type: the types' names and labels, where a read was refused, and the elements of
+//! anything.
 #![tactic(auto)]
 
 mod field_path;
-mod json_report;
+pub mod json_line;
 mod kind;
 mod options;
 mod refusal;
-mod task;
-mod text_report;
 mod tree;
 
-pub use crate::json_report::{Extent, Head, Source, WriteJson, Written, push_note};
+pub use crate::json_line::{Extent, Head, Source, push_note};
 pub use crate::kind::Kind;
 pub use crate::options::Options;
 pub use crate::refusal::RefusalLine;
-pub use crate::task::{Checking, Encoding, Task, read_told};
-pub use crate::text_report::{TextReport, WriteText};
 pub use crate::tree::{TreeError, write_tree};

@@ -5,7 +5,7 @@
 pub mod cursor;
 pub mod field_sink;
 pub mod json_sink;
-pub mod reported;
+mod secrets;
 pub mod shown;
 pub mod sink;
 pub mod text_sink;
@@ -14,6 +14,6 @@ pub mod values;
 pub use crate::cursor::{Cursor, Element, Span};
 pub use crate::field_sink::FieldSink;
 pub use crate::json_sink::{JsonSink, shielded};
-pub use crate::reported::{Reported, Secrets};
+pub use crate::secrets::Secrets;
 pub use crate::sink::{Label, Moment, Shape, Sink, Value};
 pub use crate::text_sink::{Identifiers, TextSink};
