@@ -1,7 +1,7 @@
 #!/usr/bin/env python3
-"""Writes the two tables of object identifiers from object_identifiers.tsv.
+"""Writes the two tables of object identifiers from object_identifiers.tsv, and the names of these and of further_names.tsv.
 
-A further identifier is one more line there; then run this script and `rt fmt` in the two crates, and commit what they write.
+A further identifier is one more line there; then run this script and `rt fmt` in the four crates, and commit what they write.
 The gate reads what is committed, and doesn't run this script.
 """
 import csv
@@ -43,10 +43,80 @@ pub fn {function}<A: Allocator>(alloc: A) -> Result<ObjectIdentifier<A>, AllocEr
 }}
 """
 
+NAMES_HEAD = """//! The names of object identifiers, as the standards spell them.
+//!
+//! This file is written by `tools/make_object_identifiers.py` from `tools/object_identifiers.tsv` and
+//! `tools/further_names.tsv`.
+#![tactic(auto)]
+
+/// The name of an object identifier, if it has one here.
+pub fn name_of(arcs: &[u64]) -> Option<&'static str> {
+    let (last, front) = arcs.split_last()?;
+    match front {
+"""
+
+
+def rows_of(name):
+    with open(HERE / name, newline="", encoding="utf-8") as file:
+        return list(csv.DictReader(file, delimiter="\t"))
+
+
+def write(crate, text):
+    target = HERE.parent / "crates" / crate / "src" / "lib.rt"
+    target.parent.mkdir(parents=True, exist_ok=True)
+    target.write_text(text, encoding="utf-8")
+
+
+def names_text(rows):
+    """The crate of names: a function for the identifiers under each front, since one for all takes long to prove."""
+    fronts = {}
+    for row in rows:
+        *front, last = row["arcs"].split(".")
+        fronts.setdefault(tuple(map(int, front)), []).append((int(last), row["name"]))
+    text = NAMES_HEAD
+    for front in sorted(fronts):
+        text += f"        [{', '.join(map(str, front))}] => under_{'_'.join(map(str, front))}(*last),\n"
+    text += "        _ => None,\n    }\n}\n"
+    for front, named in sorted(fronts.items()):
+        text += f"\n/// The names under {'.'.join(map(str, front))}.\n"
+        text += f"fn under_{'_'.join(map(str, front))}(last: u64) -> Option<&'static str> {{\n    match last {{\n"
+        for last, name in sorted(named):
+            text += f'        {last} => Some("{name}"),\n'
+        text += "        _ => None,\n    }\n}\n"
+    return text
+
+
+TESTS_HEAD = """//! The identifiers of the two tables, each with its name. This file is written by `tools/make_object_identifiers.py`.
+
+use super::are_named;
+use std::alloc::Global;
+use std::process::Abort;
+use x509_oids_algorithms as algorithms;
+use x509_oids_objects as objects;
+"""
+
+# How many lines of a table a function has: a longer one takes long to prove.
+LINES = 16
+
+
+def tests_text(rows):
+    """The tables of names that a test compares with what the crate of names answers."""
+    text = TESTS_HEAD
+    parts = [rows[at : at + LINES] for at in range(0, len(rows), LINES)]
+    for number, part in enumerate(parts, 1):
+        text += f"\nconst NAMES_{number}: &'static [(&'static str, &'static str)] = &[\n"
+        for row in part:
+            text += f'    ({row["crate"].removeprefix("x509_oids_")}::{row["constant"]}, "{row["name"]}"),\n'
+        text += f"];\n\nfn names_{number}(rt: &impl Abort, alloc: Global) {{\n"
+        text += f"    are_named(rt, alloc, NAMES_{number});\n}}\n"
+    text += "\n/// Asks that each identifier has its name.\npub(super) fn all_named(rt: &impl Abort, alloc: Global) {\n"
+    for number in range(1, len(parts) + 1):
+        text += f"    names_{number}(rt, alloc);\n"
+    return text + "}\n"
+
 
 def main():
-    with open(HERE / "object_identifiers.tsv", newline="", encoding="utf-8") as file:
-        rows = list(csv.DictReader(file, delimiter="\t"))
+    rows = rows_of("object_identifiers.tsv")
     for crate, title in TITLES.items():
         text = HEAD.format(title=title)
         for row in rows:
@@ -55,9 +125,9 @@ def main():
                 text += ENTRY.format(
                     **row, listed=" ∷ ".join(arcs + ["[]"]), array=", ".join(arcs)
                 )
-        target = HERE.parent / "crates" / crate / "src" / "lib.rt"
-        target.parent.mkdir(parents=True, exist_ok=True)
-        target.write_text(text, encoding="utf-8")
+        write(crate, text)
+    write("x509_oid_names", names_text(rows + rows_of("further_names.tsv")))
+    (HERE.parent / "crates/x509_report_tests/src/tests/names.rt").write_text(tests_text(rows), encoding="utf-8")
 
 
 if __name__ == "__main__":

@@ -1,0 +1,16 @@
+//! What is told of bytes that are read as a type: the types' names and labels, where a read was refused, and the elements of
+//! anything.
+#![tactic(auto)]
+
+mod field_path;
+pub mod json_line;
+mod kind;
+mod options;
+mod refusal;
+mod tree;
+
+pub use crate::json_line::{Extent, Head, Source, push_note};
+pub use crate::kind::Kind;
+pub use crate::options::Options;
+pub use crate::refusal::RefusalLine;
+pub use crate::tree::{TreeError, write_tree};

@@ -1,0 +1,13 @@
+//! Textual encodings of RFC 7468, PEM by their common name, read from a stream a block at a time.
+#![tactic(auto)]
+
+mod block;
+mod fault;
+mod lines;
+mod reader;
+#[cfg(test)]
+mod tests;
+
+pub use crate::block::Block;
+pub use crate::fault::{Fault, PemError};
+pub use crate::reader::PemReader;

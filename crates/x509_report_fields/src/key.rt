@@ -1,0 +1,204 @@
+//! Public keys.
+
+use crate::algorithm::algorithm;
+use picky_asn1_x509::{
+    AlgorithmIdentifier, AlgorithmIdentifierParameters, BitString, EcParameters, IntegerAsn1,
+    PublicKey, RsaPublicKey, SubjectPublicKeyInfo,
+};
+use std::alloc::Allocator;
+use std::fmt::{self, Display, Write};
+use x509_report_parts::text_sink::Named;
+use x509_report_parts::{Element, Identifiers, Label, Shape, Sink, Value};
+
+/// A count, and the greatest that is told for a larger one.
+fn count_of(count: u128) -> u64 {
+    u64::try_from(count).unwrap_or(u64::MAX)
+}
+
+/// The value of a string of bits.
+pub fn bits<A: Allocator>(bits: &BitString<A>) -> Value<'_> {
+    Value::Bits(count_of(bits.get_num_bits()), bits.payload_view())
+}
+
+/// How many bits a number has that isn't negative.
+pub fn size<A: Allocator>(number: &IntegerAsn1<A>) -> u64 {
+    match number.as_unsigned_bytes_be() {
+        [first, rest @ ..] => {
+            let rest = rest.len() as u128 * 8;
+            count_of(rest + u128::from(8 - first.leading_zeros().min(8)))
+        }
+        [] => 0,
+    }
+}
+
+/// The value of a number of a key.
+pub fn sized<A: Allocator>(number: &IntegerAsn1<A>) -> Value<'_> {
+    Value::Sized(size(number), number.as_bytes())
+}
+
+/// Tells the fields of an RSA public key.
+pub fn rsa<A: Allocator, S: Sink>(
+    sink: &mut S,
+    field: &'static str,
+    at: Element<'_>,
+    value: &RsaPublicKey<A>,
+) -> Result<(), S::Error> {
+    let mut fields = at.inside;
+    sink.begin(Label::Field(field), at.span, Shape::Fields)?;
+    let modulus = sized(&value.modulus);
+    sink.field(Label::Field("modulus"), fields.next().span, modulus)?;
+    let exponent = sized(&value.public_exponent);
+    sink.field(Label::Field("publicExponent"), fields.next().span, exponent)?;
+    sink.end()
+}
+
+/// Tells a key in its BIT STRING.
+fn key<A: Allocator, S: Sink>(
+    sink: &mut S,
+    at: Element<'_>,
+    value: &PublicKey<A>,
+) -> Result<(), S::Error> {
+    match value {
+        PublicKey::Rsa(key) => {
+            let mut content = at.inside.behind(1);
+            let inside = content.next().inside;
+            let at = Element { inside, ..at };
+            rsa(sink, "subjectPublicKey", at, &key.0)
+        }
+        PublicKey::Ec(point) | PublicKey::Ed(point) => {
+            sink.field(Label::Field("subjectPublicKey"), at.span, bits(&point.0))
+        }
+        PublicKey::Mldsa(key) => sink.field(
+            Label::Field("subjectPublicKey"),
+            at.span,
+            bits(&key.0),
+        ),
+    }
+}
+
+/// Tells a public key with its algorithm.
+pub fn public_key<A: Allocator, S: Sink>(
+    sink: &mut S,
+    field: &'static str,
+    at: Element<'_>,
+    value: &SubjectPublicKeyInfo<A>,
+) -> Result<(), S::Error> {
+    let mut fields = at.inside;
+    sink.begin(Label::Field(field), at.span, Shape::Fields)?;
+    algorithm(sink, "algorithm", fields.next(), &value.algorithm)?;
+    key(sink, fields.next(), &value.subject_public_key)?;
+    sink.end()
+}
+
+/// What is said of a key on one line: its algorithm, its size, its curve.
+#[derive(Clone, Copy, Drop)]
+pub struct KeyLine<'a> {
+    /// The object identifier of the algorithm.
+    pub algorithm: &'a [u64],
+    /// The object identifier of the curve, where the parameters name one.
+    pub curve: Option<&'a [u64]>,
+    /// The size in bits, where it is known.
+    pub bits: Option<u64>,
+}
+
+/// The size in bits of the keys of a curve, where it is known (RFC 5480, 2.1.1.1; RFC 7748, RFC 8032).
+fn curve_bits(arcs: &[u64]) -> Option<u64> {
+    match arcs {
+        [1, 2, 840, 10045, 3, 1, 1] => Some(192),
+        [1, 2, 840, 10045, 3, 1, 7] => Some(256),
+        [1, 3, 132, 0, last] => secg_bits(*last),
+        [1, 3, 101, 110] | [1, 3, 101, 112] => Some(256),
+        [1, 3, 101, 111] => Some(448),
+        [1, 3, 101, 113] => Some(456),
+        _ => None,
+    }
+}
+
+/// The same, of the curves under 1.3.132.0.
+fn secg_bits(last: u64) -> Option<u64> {
+    match last {
+        1 | 15 => Some(163),
+        26 | 27 => Some(233),
+        16 | 17 => Some(283),
+        33 => Some(224),
+        10 => Some(256),
+        34 => Some(384),
+        35 => Some(521),
+        36 | 37 => Some(409),
+        38 | 39 => Some(571),
+        _ => None,
+    }
+}
+
+/// What an algorithm identifier says of its keys.
+pub fn line_of<A: Allocator>(value: &AlgorithmIdentifier<A>) -> KeyLine<'_> {
+    let algorithm = value.oid().arcs();
+    match value.parameters() {
+        AlgorithmIdentifierParameters::Ec(EcParameters::NamedCurve(curve)) => KeyLine {
+            algorithm,
+            curve: Some(curve.0.arcs()),
+            bits: curve_bits(curve.0.arcs()),
+        },
+        _ => KeyLine {
+            algorithm,
+            curve: None,
+            bits: curve_bits(algorithm),
+        },
+    }
+}
+
+/// What is said of an elliptic curve key on a curve.
+pub fn ec_line(curve: Option<&[u64]>) -> KeyLine<'_> {
+    KeyLine {
+        algorithm: &[1, 2, 840, 10045, 2, 1],
+        curve,
+        bits: match curve {
+            Some(arcs) => curve_bits(arcs),
+            None => None,
+        },
+    }
+}
+
+/// What is said of a public key.
+pub fn public_line<A: Allocator>(value: &SubjectPublicKeyInfo<A>) -> KeyLine<'_> {
+    let line = line_of(&value.algorithm);
+    match &value.subject_public_key {
+        PublicKey::Rsa(key) => KeyLine {
+            bits: Some(size(&key.0.modulus)),
+            ..line
+        },
+        _ => line,
+    }
+}
+
+/// The common name of a key's algorithm, where it is another than its identifier's.
+fn common_word(arcs: &[u64]) -> Option<&'static str> {
+    match arcs {
+        [1, 2, 840, 113549, 1, 1, 1] => Some("RSA"),
+        [1, 2, 840, 10045, 2, 1] => Some("EC"),
+        [1, 3, 101, 110] => Some("X25519"),
+        [1, 3, 101, 111] => Some("X448"),
+        [1, 3, 101, 112] => Some("Ed25519"),
+        [1, 3, 101, 113] => Some("Ed448"),
+        [2, 16, 840, 1, 101, 3, 4, 3, 17] => Some("ML-DSA-44"),
+        [2, 16, 840, 1, 101, 3, 4, 3, 18] => Some("ML-DSA-65"),
+        [2, 16, 840, 1, 101, 3, 4, 3, 19] => Some("ML-DSA-87"),
+        _ => None,
+    }
+}
+
+impl Display for KeyLine<'_> {
+    fn fmt<W: Write>(&self, f: &mut fmt::Formatter<W>) -> fmt::Result {
+        match common_word(self.algorithm) {
+            Some(word) => f.write_str(word)?,
+            None => write!(f, "{}", Named(self.algorithm, Identifiers::Named))?,
+        }
+        if let Some(arcs) = self.curve {
+            write!(f, ", {}", Named(arcs, Identifiers::Named))?;
+        }
+        if let Some(bits) = self.bits {
+            write!(f, ", {bits} bits")?;
+        }
+        Ok(())
+    }
+}

@@ -1,0 +1,6 @@
+//! How names, algorithm identifiers and public keys are told to a sink, and what is said of them on one line.
+#![tactic(auto)]
+
+pub mod algorithm;
+pub mod key;
+pub mod name;

@@ -1,0 +1,330 @@
+//! Names.
+
+use picky_asn1_x509::{
+    AttributeTypeAndValue, AttributeTypeAndValueParameters, DirectoryString, EdiPartyName,
+    GeneralName, GeneralNames, Name, OtherName, RelativeDistinguishedName,
+};
+use std::alloc::Allocator;
+use std::fmt::{self, Display, Write};
+use x509_report_parts::shown::{Frame, Shown};
+use x509_report_parts::text_sink::Named;
+use x509_report_parts::values::{Address, Dotted, Hex, Utf16};
+use x509_report_parts::{Cursor, Element, Identifiers, Label, Shape, Sink, Value};
+
+/// Tells a name.
+pub fn name<A: Allocator, S: Sink>(
+    sink: &mut S,
+    field: &'static str,
+    at: Element<'_>,
+    value: &Name<A>,
+) -> Result<(), S::Error> {
+    let mut sets = at.inside;
+    sink.begin(Label::Field(field), at.span, Shape::Items)?;
+    for set in &value.0.0 {
+        attributes(sink, sets.next(), set)?;
+    }
+    sink.end()
+}
+
+/// Tells the attributes of a set.
+fn attributes<A: Allocator, S: Sink>(
+    sink: &mut S,
+    at: Element<'_>,
+    set: &RelativeDistinguishedName<A>,
+) -> Result<(), S::Error> {
+    let mut items = at.inside;
+    let shape = if set.0.len() == 1 {
+        Shape::Only
+    } else {
+        Shape::Items
+    };
+    sink.begin(Label::Field("RelativeDistinguishedName"), at.span, shape)?;
+    for item in &set.0 {
+        let span = items.next().span;
+        sink.field(Label::Identifier(item.ty.0.arcs()), span, held(&item.value))?;
+    }
+    sink.end()
+}
+
+/// The value of a directory string.
+pub fn text<A: Allocator>(text: &DirectoryString<A>) -> Value<'_> {
+    match text {
+        DirectoryString::PrintableString(text) => Value::Text(text.as_str()),
+        DirectoryString::Utf8String(text) => Value::Text(text.as_str()),
+        DirectoryString::BmpString(text) => Value::Utf16(text.as_bytes()),
+    }
+}
+
+/// The value of an attribute.
+fn held<A: Allocator>(value: &AttributeTypeAndValueParameters<A>) -> Value<'_> {
+    match value {
+        AttributeTypeAndValueParameters::CommonName(held)
+        | AttributeTypeAndValueParameters::Surname(held)
+        | AttributeTypeAndValueParameters::SerialNumber(held)
+        | AttributeTypeAndValueParameters::CountryName(held)
+        | AttributeTypeAndValueParameters::LocalityName(held)
+        | AttributeTypeAndValueParameters::StateOrProvinceName(held)
+        | AttributeTypeAndValueParameters::StreetName(held)
+        | AttributeTypeAndValueParameters::OrganizationName(held)
+        | AttributeTypeAndValueParameters::OrganizationalUnitName(held)
+        | AttributeTypeAndValueParameters::GivenName(held)
+        | AttributeTypeAndValueParameters::Phone(held) => text(held),
+        AttributeTypeAndValueParameters::EmailAddress(address) => Value::Text(address.as_str()),
+        AttributeTypeAndValueParameters::Custom(element) => raw(element.as_bytes()),
+    }
+}
+
+/// The value of an element that isn't looked into: its text, if it is a string of ASCII or UTF-8 (X.690, 8.23), and else
+/// its bytes.
+fn raw(bytes: &[u8]) -> Value<'_> {
+    let mut cursor = Cursor::new(bytes);
+    let element = cursor.next();
+    if !matches!(element.tag, 0x0c | 0x12 | 0x13 | 0x16 | 0x1a) {
+        return Value::Raw(bytes);
+    }
+    match std::str::from_utf8(element.inside.rest) {
+        Ok(text) => Value::Text(text),
+        Err(_) => Value::Raw(bytes),
+    }
+}
+
+/// Tells general names as the items of a node that has begun.
+pub fn general_names<A: Allocator, S: Sink>(
+    sink: &mut S,
+    at: Element<'_>,
+    names: &GeneralNames<A>,
+) -> Result<(), S::Error> {
+    let mut items = at.inside;
+    for name in &names.0 {
+        general_name(sink, items.next(), name)?;
+    }
+    Ok(())
+}
+
+/// Tells a general name.
+pub fn general_name<A: Allocator, S: Sink>(
+    sink: &mut S,
+    at: Element<'_>,
+    value: &GeneralName<A>,
+) -> Result<(), S::Error> {
+    match value {
+        GeneralName::OtherName(other) => return other_name(sink, at, other),
+        GeneralName::EdiPartyName(party) => return edi_party_name(sink, at, party),
+        GeneralName::DirectoryName(value) => return directory_name(sink, at, value),
+        _ => {}
+    }
+    let (field, value) = simple_name(value);
+    sink.field(Label::Field(field), at.span, value)
+}
+
+/// The field and the value of a general name that has no fields in it.
+fn simple_name<A: Allocator>(value: &GeneralName<A>) -> (&'static str, Value<'_>) {
+    match value {
+        GeneralName::Rfc822Name(text) => ("rfc822Name", Value::Text(text.as_str())),
+        GeneralName::DnsName(text) => ("dNSName", Value::Text(text.as_str())),
+        GeneralName::Uri(text) => ("uniformResourceIdentifier", Value::Text(text.as_str())),
+        GeneralName::IpAddress(address) => ("iPAddress", Value::Address(address.0.as_slice())),
+        GeneralName::RegisteredId(identifier) => {
+            ("registeredID", Value::Identifier(identifier.0.arcs()))
+        }
+        _ => ("", Value::Null),
+    }
+}
+
+/// Tells a name of the directory: a `Name` under its tag, or the content of one, which is a deviation.
+fn directory_name<A: Allocator, S: Sink>(
+    sink: &mut S,
+    at: Element<'_>,
+    value: &Name<A>,
+) -> Result<(), S::Error> {
+    let mut inside = at.inside;
+    match inside.next_if(0x30) {
+        Some(sequence) => name(
+            sink,
+            "directoryName",
+            Element {
+                tag: at.tag,
+                span: at.span,
+                inside: sequence.inside,
+            },
+            value,
+        ),
+        None => name(sink, "directoryName", at, value),
+    }
+}
+
+/// Tells a name of a form of its own.
+fn other_name<A: Allocator, S: Sink>(
+    sink: &mut S,
+    at: Element<'_>,
+    value: &OtherName<A>,
+) -> Result<(), S::Error> {
+    let mut fields = at.inside;
+    sink.begin(Label::Field("otherName"), at.span, Shape::Fields)?;
+    let form = Value::Identifier(value.type_id.0.arcs());
+    sink.field(Label::Field("type-id"), fields.next().span, form)?;
+    let span = fields.next().span;
+    sink.field(Label::Field("value"), span, raw(value.value.as_bytes()))?;
+    sink.end()
+}
+
+/// Tells a party to electronic data interchange.
+fn edi_party_name<A: Allocator, S: Sink>(
+    sink: &mut S,
+    at: Element<'_>,
+    value: &EdiPartyName<A>,
+) -> Result<(), S::Error> {
+    let mut fields = at.inside;
+    sink.begin(Label::Field("ediPartyName"), at.span, Shape::Fields)?;
+    if let Some(assigner) = &value.name_assigner {
+        sink.field(
+            Label::Field("nameAssigner"),
+            fields.next().span,
+            text(assigner),
+        )?;
+    }
+    let party = text(&value.party_name);
+    sink.field(Label::Field("partyName"), fields.next().span, party)?;
+    sink.end()
+}
+
+/// The short name of an attribute's type, as names are written with it (RFC 4514, 3; OpenSSL), if it has one.
+fn short_name(arcs: &[u64]) -> Option<&'static str> {
+    match arcs {
+        [2, 5, 4, 3] => Some("CN"),
+        [2, 5, 4, 4] => Some("SN"),
+        [2, 5, 4, 6] => Some("C"),
+        [2, 5, 4, 7] => Some("L"),
+        [2, 5, 4, 8] => Some("ST"),
+        [2, 5, 4, 9] => Some("street"),
+        [2, 5, 4, 10] => Some("O"),
+        [2, 5, 4, 11] => Some("OU"),
+        [2, 5, 4, 42] => Some("GN"),
+        [0, 9, 2342, 19200300, 100, 1, 1] => Some("UID"),
+        [0, 9, 2342, 19200300, 100, 1, 25] => Some("DC"),
+        _ => None,
+    }
+}
+
+/// A value as it stands in a name on one line.
+#[derive(Clone, Copy, Drop)]
+pub struct InLine<'a>(pub Value<'a>);
+
+impl Display for InLine<'_> {
+    fn fmt<W: Write>(&self, f: &mut fmt::Formatter<W>) -> fmt::Result {
+        match self.0 {
+            Value::Text(text) => write!(f, "{}", Shown(&text, Frame::Name)),
+            Value::Utf16(bytes) => write!(f, "{}", Shown(&Utf16(bytes), Frame::Name)),
+            Value::Raw(bytes) | Value::Octets(bytes) => write!(f, "#{}", Hex(bytes)),
+            Value::Address(bytes) => write!(f, "{}", Address(bytes)),
+            Value::Identifier(arcs) => write!(f, "{}", Dotted(arcs)),
+            _ => Ok(()),
+        }
+    }
+}
+
+/// An attribute as it stands in a name on one line.
+#[derive(Drop)]
+struct AttributeLine<'a, A: Allocator>(&'a AttributeTypeAndValue<A>);
+
+impl<A: Allocator> Display for AttributeLine<'_, A> {
+    fn fmt<W: Write>(&self, f: &mut fmt::Formatter<W>) -> fmt::Result {
+        let attribute = self.0;
+        let arcs = attribute.ty.0.arcs();
+        match short_name(arcs) {
+            Some(short) => f.write_str(short)?,
+            None => write!(f, "{}", Named(arcs, Identifiers::Named))?,
+        }
+        let value = InLine(held(&attribute.value));
+        write!(f, "={value}")
+    }
+}
+
+/// A name on one line, as in `C=DE, O=Example, CN=example.org`: in the order of the input, with plus signs between the
+/// attributes of a set.
+#[derive(Drop)]
+pub struct NameLine<'a, A: Allocator>(pub &'a Name<A>);
+
+/// Writes a set of attributes.
+fn write_set<A: Allocator, W: Write>(
+    f: &mut fmt::Formatter<W>,
+    set: &RelativeDistinguishedName<A>,
+) -> fmt::Result {
+    let mut is_first = true;
+    for attribute in &set.0 {
+        if !is_first {
+            f.write_str(" + ")?;
+        }
+        is_first = false;
+        write!(f, "{}", AttributeLine(attribute))?;
+    }
+    Ok(())
+}
+
+impl<A: Allocator> Display for NameLine<'_, A> {
+    fn fmt<W: Write>(&self, f: &mut fmt::Formatter<W>) -> fmt::Result {
+        let name = self.0;
+        if name.0.0.is_empty() {
+            return f.write_str("(empty)");
+        }
+        let mut is_first = true;
+        for set in &name.0.0 {
+            if !is_first {
+                f.write_str(", ")?;
+            }
+            is_first = false;
+            write_set(f, set)?;
+        }
+        Ok(())
+    }
+}
+
+/// The word for a general name's form.
+fn form_word<A: Allocator>(name: &GeneralName<A>) -> &'static str {
+    match name {
+        GeneralName::OtherName(_) => "other",
+        GeneralName::Rfc822Name(_) => "email",
+        GeneralName::DnsName(_) => "DNS",
+        GeneralName::DirectoryName(_) => "directory",
+        GeneralName::EdiPartyName(_) => "EDI party",
+        GeneralName::Uri(_) => "URI",
+        GeneralName::IpAddress(_) => "IP",
+        GeneralName::RegisteredId(_) => "registered",
+    }
+}
+
+/// Writes a general name's form and value.
+fn write_general_name<A: Allocator, W: Write>(
+    f: &mut fmt::Formatter<W>,
+    name: &GeneralName<A>,
+) -> fmt::Result {
+    write!(f, "{} ", form_word(name))?;
+    match name {
+        GeneralName::OtherName(other) => {
+            let form = Named(other.type_id.0.arcs(), Identifiers::Named);
+            write!(f, "{form} {}", InLine(raw(other.value.as_bytes())))
+        }
+        GeneralName::EdiPartyName(party) => write!(f, "{}", InLine(text(&party.party_name))),
+        GeneralName::DirectoryName(value) => write!(f, "({})", NameLine(value)),
+        _ => write!(f, "{}", InLine(simple_name(name).1)),
+    }
+}
+
+/// General names on one line, as in `DNS example.org, IP 192.0.2.7`.
+#[derive(Drop)]
+pub struct NamesLine<'a, A: Allocator>(pub &'a GeneralNames<A>);
+
+impl<A: Allocator> Display for NamesLine<'_, A> {
+    fn fmt<W: Write>(&self, f: &mut fmt::Formatter<W>) -> fmt::Result {
+        let names = self.0;
+        let mut is_first = true;
+        for name in &names.0 {
+            if !is_first {
+                f.write_str(", ")?;
+            }
+            is_first = false;
+            write_general_name(f, name)?;
+        }
+        Ok(())
+    }
+}

@@ -1,0 +1,244 @@
+//! A report as JSON.
+
+use crate::cursor::Span;
+use crate::shown::is_plain;
+use crate::sink::{Label, Shape, Sink, Value};
+use crate::values::{Address, Dotted, Hex, Stamp, Utf16};
+use json::Writer;
+use std::alloc::{AllocError, Allocator, Global};
+use std::fmt::Display;
+use std::str;
+use x509_oid_names::name_of;
+
+/// An object for each node, with its place under `at`. A node of fields has a member for each, a node of items has them
+/// under `items`, and a field without nodes in it has its value under `value`.
+#[derive(Drop)]
+pub struct JsonSink<A: Allocator = Global> {
+    writer: Writer<A>,
+    scratch: String<A>,
+    /// Whether the node that is open has items, in the lowest bit; in the others, those around it.
+    lists: u64,
+}
+
+impl<A: Allocator + Copy> JsonSink<A> {
+    /// It writes behind what stands in a vector.
+    pub fn new(alloc: A, out: Vec<u8, A>) -> Self {
+        JsonSink {
+            writer: Writer::new(out),
+            scratch: String::new(alloc),
+            lists: 0,
+        }
+    }
+
+    /// What was written.
+    pub fn into_inner(self) -> Vec<u8, A> {
+        let JsonSink {
+            writer,
+            scratch,
+            ..
+        } = self;
+        drop(scratch);
+        writer.into_inner()
+    }
+
+    /// What writes around the nodes.
+    pub fn writer(&mut self) -> &mut Writer<A> {
+        &mut self.writer
+    }
+
+    /// Writes what a value prints as a string.
+    ///
+    /// # Errors
+    /// `AllocError` where memory is refused.
+    pub fn printed<T: Display>(&mut self, value: &T) -> Result<(), AllocError> {
+        self.scratch.clear();
+        write!(self.scratch, "{value}")?;
+        self.writer.string(self.scratch.as_str())
+    }
+
+    /// Writes a member that is a string.
+    ///
+    /// # Errors
+    /// `AllocError` where memory is refused.
+    pub fn member(&mut self, name: &str, text: &str) -> Result<(), AllocError> {
+        self.writer.key(name)?;
+        self.writer.string(text)
+    }
+
+    /// Writes a member that is a number.
+    ///
+    /// # Errors
+    /// `AllocError` where memory is refused.
+    pub fn count(&mut self, name: &str, count: u64) -> Result<(), AllocError> {
+        self.writer.key(name)?;
+        self.writer.u64(count)
+    }
+
+    /// Writes a place as a member: where it starts and where it ends.
+    ///
+    /// # Errors
+    /// `AllocError` where memory is refused.
+    pub fn place(&mut self, name: &str, span: Span) -> Result<(), AllocError> {
+        self.writer.key(name)?;
+        self.writer.begin_array()?;
+        self.writer.u64(span.start as u64)?;
+        self.writer.u64(span.end as u64)?;
+        self.writer.end_array()
+    }
+
+    /// Writes an object identifier's members: `id`, with dots, and `name`, if it has one here.
+    fn identifier(&mut self, arcs: &[u64]) -> Result<(), AllocError> {
+        self.writer.key("id")?;
+        self.printed(&Dotted(arcs))?;
+        match name_of(arcs) {
+            Some(name) => self.member("name", name),
+            None => Ok(()),
+        }
+    }
+
+    /// Begins an object, with its place.
+    fn object(&mut self, span: Span) -> Result<(), AllocError> {
+        self.writer.begin_object()?;
+        self.place("at", span)
+    }
+
+    /// Begins the object of a field: as a member among fields, and by its name among items.
+    fn named(&mut self, name: &'static str, span: Span) -> Result<(), AllocError> {
+        if self.lists % 2 == 0 {
+            self.writer.key(name)?;
+            return self.object(span);
+        }
+        self.object(span)?;
+        self.member("field", name)
+    }
+
+    /// Begins an object under a label.
+    fn open(&mut self, label: Label<'_>, span: Span) -> Result<(), AllocError> {
+        match label {
+            Label::Field(name) => self.named(name, span),
+            Label::Identifier(arcs) => {
+                self.object(span)?;
+                self.identifier(arcs)
+            }
+            Label::Extension { arcs, is_critical } => {
+                self.object(span)?;
+                self.identifier(arcs)?;
+                self.writer.key("critical")?;
+                self.writer.boolean(is_critical)
+            }
+        }
+    }
+
+    /// Writes words as an array.
+    fn words(&mut self, words: &[&'static str]) -> Result<(), AllocError> {
+        self.writer.begin_array()?;
+        for word in words {
+            self.writer.string(word)?;
+        }
+        self.writer.end_array()
+    }
+
+    /// Writes an object identifier as an object.
+    fn identified(&mut self, arcs: &[u64]) -> Result<(), AllocError> {
+        self.writer.begin_object()?;
+        self.identifier(arcs)?;
+        self.writer.end_object()
+    }
+
+    /// Writes a number of bits, and `value` with the bytes.
+    fn bits(&mut self, count: u64, bytes: &[u8]) -> Result<(), AllocError> {
+        self.count("bits", count)?;
+        self.writer.key("value")?;
+        self.printed(&Hex(bytes))
+    }
+
+    /// Writes a value.
+    fn value(&mut self, value: Value<'_>) -> Result<(), AllocError> {
+        match value {
+            Value::Text(text) => self.writer.string(text),
+            Value::Utf16(bytes) => self.printed(&Utf16(bytes)),
+            Value::Word(word) => self.writer.string(word),
+            Value::Words(words) => self.words(words),
+            Value::Identifier(arcs) => self.identified(arcs),
+            Value::Number(number) => self.writer.u64(number),
+            Value::Integer(bytes) | Value::Octets(bytes) | Value::Raw(bytes) => {
+                self.printed(&Hex(bytes))
+            }
+            Value::Sized(_, bytes) | Value::Bits(_, bytes) => self.printed(&Hex(bytes)),
+            Value::Flag(flag) => self.writer.boolean(flag),
+            Value::Time(moment) => self.printed(&Stamp(moment)),
+            Value::Address(bytes) => self.printed(&Address(bytes)),
+            Value::Null | Value::Hidden(_) => self.writer.null(),
+        }
+    }
+
+    /// Writes the members that tell a value.
+    fn told(&mut self, value: Value<'_>) -> Result<(), AllocError> {
+        match value {
+            Value::Sized(count, bytes) | Value::Bits(count, bytes) => self.bits(count, bytes),
+            Value::Hidden(count) => self.count("hidden", count),
+            _ => {
+                self.writer.key("value")?;
+                self.value(value)
+            }
+        }
+    }
+}
+
+impl<A: Allocator + Copy> Sink for JsonSink<A> {
+    type Error = AllocError;
+
+    fn begin(&mut self, label: Label<'_>, span: Span, shape: Shape) -> Result<(), AllocError> {
+        self.open(label, span)?;
+        let is_list = matches!(shape, Shape::Items | Shape::Only);
+        self.lists = self.lists.wrapping_mul(2) | u64::from(is_list);
+        if is_list {
+            self.writer.key("items")?;
+            self.writer.begin_array()?;
+        }
+        Ok(())
+    }
+
+    fn field(&mut self, label: Label<'_>, span: Span, value: Value<'_>) -> Result<(), AllocError> {
+        self.open(label, span)?;
+        self.told(value)?;
+        self.writer.end_object()
+    }
+
+    fn end(&mut self) -> Result<(), AllocError> {
+        if self.lists % 2 == 1 {
+            self.writer.end_array()?;
+        }
+        self.lists /= 2;
+        self.writer.end_object()
+    }
+}
+
+/// Writes a character of JSON, by its units of UTF-16 if it isn't one to be shown. Such a one stands in a string.
+fn put<A: Allocator>(out: &mut String<A>, c: char) -> Result<(), AllocError> {
+    if is_plain(c) {
+        return out.push(c);
+    }
+    let mut units = [0; 2];
+    for unit in c.encode_utf16(&mut units).iter() {
+        write!(out, "\\u{unit:04x}")?;
+    }
+    Ok(())
+}
+
+/// The same JSON, in which each character without a glyph stands as an escape.
+///
+/// # Errors
+/// `AllocError` where memory is refused.
+pub fn shielded<A: Allocator + Copy>(alloc: A, text: Vec<u8, A>) -> Result<Vec<u8, A>, AllocError> {
+    if text.is_ascii() && !text.contains(&0x7f) {
+        return Ok(text);
+    }
+    let mut out = String::new(alloc);
+    if let Ok(text) = str::from_utf8(&text) {
+        for c in text.chars() {
+            put(&mut out, c)?;
+        }
+    }
+    Ok(out.into_bytes())
+}

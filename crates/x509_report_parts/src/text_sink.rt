@@ -1,0 +1,297 @@
+//! A report as text, a line for each node.
+
+use crate::cursor::Span;
+use crate::shown::{Frame, Shown};
+use crate::sink::{Label, Shape, Sink, Value};
+use crate::values::{Address, Dotted, Hex, ShortHex, Stamp, Utf16};
+use std::fmt::{self, Display, Write};
+use x509_oid_names::name_of;
+
+/// Whether object identifiers that have names stand with their dots too.
+#[derive(Clone, Copy, Debug, PartialEq, Eq)]
+pub enum Identifiers {
+    /// By their names alone.
+    Named,
+    /// By their names and with dots.
+    Dotted,
+}
+
+/// In which column values begin.
+const VALUES: usize = 34;
+
+/// In which column the starts of places end.
+const PLACES: usize = 84;
+
+/// A writer that counts the characters which it passes on.
+#[derive(Drop)]
+struct Counted<'w, W: Write> {
+    out: &'w mut W,
+    count: usize,
+}
+
+impl<W: Write> Write for Counted<'_, W> {
+    fn write_str(&mut self, text: &str) -> fmt::Result {
+        let count = if text.is_ascii() {
+            text.len()
+        } else {
+            text.chars().count()
+        };
+        self.count = self.count.saturating_add(count);
+        self.out.write_str(text)
+    }
+}
+
+impl<W: Write> Counted<'_, W> {
+    /// Writes spaces up to a column, and at least some.
+    fn pad(&mut self, column: usize, least: usize) -> fmt::Result {
+        let missing = column.saturating_sub(self.count).max(least);
+        for _ in 0..missing {
+            self.write_str(" ")?;
+        }
+        Ok(())
+    }
+}
+
+/// A line for each node, two spaces deeper for each node around it: the label, the value, and in a column on the right the
+/// bytes that it covers, as in `13..35`. Nothing of the input is written as it is but characters that have a glyph.
+#[derive(Drop)]
+pub struct TextSink<'w, W: Write> {
+    out: Counted<'w, W>,
+    identifiers: Identifiers,
+    depth: usize,
+    /// Whether the node that is open has no line of its own, in the lowest bit; in the others, those around it.
+    only: u64,
+    /// The place of the node whose fields stand on one line, while they do, and whether a value stands there.
+    line: Option<(Span, bool)>,
+}
+
+/// An object identifier by its name, or with dots where it has none here, or both.
+#[derive(Clone, Copy, Drop)]
+pub struct Named<'a>(pub &'a [u64], pub Identifiers);
+
+impl Display for Named<'_> {
+    fn fmt<W: Write>(&self, f: &mut fmt::Formatter<W>) -> fmt::Result {
+        let dotted = Dotted(self.0);
+        match (name_of(self.0), self.1) {
+            (Some(name), Identifiers::Named) => f.write_str(name),
+            (Some(name), Identifiers::Dotted) => write!(f, "{name} ({dotted})"),
+            (None, _) => write!(f, "{dotted}"),
+        }
+    }
+}
+
+/// Writes words with commas between them.
+fn write_words<W: Write>(out: &mut W, words: &[&str]) -> fmt::Result {
+    let mut is_first = true;
+    for word in words {
+        if !is_first {
+            out.write_str(", ")?;
+        }
+        is_first = false;
+        out.write_str(word)?;
+    }
+    Ok(())
+}
+
+/// Writes bytes, behind their number where they are too many for a line.
+fn write_octets<W: Write>(out: &mut W, bytes: &[u8]) -> fmt::Result {
+    let count = bytes.len();
+    if count == 0 {
+        return out.write_str("0 bytes");
+    }
+    if count > 32 {
+        write!(out, "{count} bytes, ")?;
+    }
+    write!(out, "{}", ShortHex(bytes))
+}
+
+/// Writes a number of a key: in decimal where it has at most 64 bits, and else its size in bits, and its bytes.
+fn write_number<W: Write>(out: &mut W, count: u64, bytes: &[u8]) -> fmt::Result {
+    let digits = match bytes {
+        [0, digits @ ..] => digits,
+        digits => digits,
+    };
+    if count > 64 {
+        return write_bits(out, count, digits);
+    }
+    let mut number: u64 = 0;
+    for digit in digits {
+        number = number.wrapping_mul(256) | u64::from(*digit);
+    }
+    write!(out, "{number}")
+}
+
+/// Writes a number of bits, and bytes.
+fn write_bits<W: Write>(out: &mut W, count: u64, bytes: &[u8]) -> fmt::Result {
+    write!(out, "{count} bits")?;
+    if bytes.is_empty() {
+        return Ok(());
+    }
+    write!(out, ", {}", ShortHex(bytes))
+}
+
+/// Writes text between quotation marks.
+fn write_text<W: Write, T: Display>(out: &mut W, text: &T) -> fmt::Result {
+    write!(out, "\"{}\"", Shown(text, Frame::Quotes))
+}
+
+/// Writes a value.
+fn write_value<W: Write>(out: &mut W, value: Value<'_>, identifiers: Identifiers) -> fmt::Result {
+    match value {
+        Value::Text(text) => write_text(out, &text),
+        Value::Utf16(bytes) => write_text(out, &Utf16(bytes)),
+        Value::Word(word) => out.write_str(word),
+        Value::Words(words) => write_words(out, words),
+        Value::Identifier(arcs) => write!(out, "{}", Named(arcs, identifiers)),
+        Value::Number(number) => write!(out, "{number}"),
+        Value::Integer(bytes) => write!(out, "{}", Hex(bytes)),
+        Value::Sized(count, bytes) => write_number(out, count, bytes),
+        Value::Bits(count, bytes) => write_bits(out, count, bytes),
+        Value::Octets(bytes) | Value::Raw(bytes) => write_octets(out, bytes),
+        Value::Flag(flag) => write!(out, "{flag}"),
+        Value::Time(moment) => write!(out, "{}", Stamp(moment)),
+        Value::Address(bytes) => write!(out, "{}", Address(bytes)),
+        Value::Null => out.write_str("NULL"),
+        Value::Hidden(count) => write!(out, "{count} bytes, not shown"),
+    }
+}
+
+/// Whether a value tells by itself what it is, in a line of several.
+fn is_plain(value: Value<'_>) -> bool {
+    matches!(value, Value::Identifier(_) | Value::Word(_))
+}
+
+impl<'w, W: Write> TextSink<'w, W> {
+    /// Nothing is written yet.
+    pub fn new(out: &'w mut W, identifiers: Identifiers) -> Self {
+        TextSink {
+            out: Counted { out, count: 0 },
+            identifiers,
+            depth: 0,
+            only: 0,
+            line: None,
+        }
+    }
+
+    /// Writes what a line begins with: the label, and where it is a critical extension's, that it is. Answers whether a
+    /// value has begun.
+    fn start(&mut self, label: Label<'_>) -> Result<bool, fmt::Error> {
+        self.out.count = 0;
+        for _ in 0..self.depth {
+            self.out.write_str("  ")?;
+        }
+        self.label(label)?;
+        let is_critical = matches!(
+            label,
+            Label::Extension {
+                is_critical: true,
+                ..
+            }
+        );
+        if is_critical {
+            self.out.pad(VALUES, 2)?;
+            self.out.write_str("critical")?;
+        }
+        Ok(is_critical)
+    }
+
+    /// Writes what stands between a label, or a value before it, and a value.
+    fn separate(&mut self, has_begun: bool) -> fmt::Result {
+        if has_begun {
+            self.out.write_str(", ")
+        } else {
+            self.out.pad(VALUES, 2)
+        }
+    }
+
+    /// Writes a label.
+    fn label(&mut self, label: Label<'_>) -> fmt::Result {
+        let identifiers = self.identifiers;
+        match label {
+            Label::Field(name) => self.out.write_str(name),
+            Label::Identifier(arcs) => write!(self.out, "{}", Named(arcs, identifiers)),
+            Label::Extension { arcs, .. } => write!(self.out, "{}", Named(arcs, identifiers)),
+        }
+    }
+
+    /// Writes what a line ends with: a place.
+    fn finish(&mut self, span: Span) -> fmt::Result {
+        let Span { start, end } = span;
+        let width = match start {
+            0..=9 => 1,
+            10..=99 => 2,
+            100..=999 => 3,
+            1000..=9999 => 4,
+            10000..=99999 => 5,
+            100000..=999999 => 6,
+            _ => 7,
+        };
+        self.out.pad(PLACES - width, 2)?;
+        writeln!(self.out, "{start}..{end}")
+    }
+
+    /// Writes a field on the line of several.
+    fn add(&mut self, has_begun: bool, label: Label<'_>, value: Value<'_>) -> fmt::Result {
+        self.separate(has_begun)?;
+        if !is_plain(value) {
+            self.label(label)?;
+            self.out.write_str(" ")?;
+        }
+        write_value(&mut self.out, value, self.identifiers)
+    }
+}
+
+impl<W: Write> Sink for TextSink<'_, W> {
+    type Error = fmt::Error;
+
+    fn begin(&mut self, label: Label<'_>, span: Span, shape: Shape) -> fmt::Result {
+        self.only = self.only.wrapping_mul(2) | u64::from(shape == Shape::Only);
+        match shape {
+            Shape::Only => return Ok(()),
+            Shape::Line => {
+                let has_begun = self.start(label)?;
+                self.line = Some((span, has_begun));
+            }
+            Shape::Fields | Shape::Items => {
+                let _ = self.start(label)?;
+                self.finish(span)?;
+            }
+        }
+        self.depth = self.depth.saturating_add(1);
+        Ok(())
+    }
+
+    fn field(&mut self, label: Label<'_>, span: Span, value: Value<'_>) -> fmt::Result {
+        if let Some((around, has_begun)) = self.line {
+            if matches!(value, Value::Null) {
+                return Ok(());
+            }
+            self.line = Some((around, true));
+            return self.add(has_begun, label, value);
+        }
+        let has_begun = self.start(label)?;
+        self.separate(has_begun)?;
+        write_value(&mut self.out, value, self.identifiers)?;
+        self.finish(span)
+    }
+
+    fn end(&mut self) -> fmt::Result {
+        let is_only = self.only % 2 == 1;
+        self.only /= 2;
+        if is_only {
+            return Ok(());
+        }
+        self.depth = self.depth.saturating_sub(1);
+        match self.line {
+            Some((span, has_begun)) => {
+                self.line = None;
+                if !has_begun {
+                    self.out.pad(VALUES, 2)?;
+                    self.out.write_str("empty")?;
+                }
+                self.finish(span)
+            }
+            None => Ok(()),
+        }
+    }
+}

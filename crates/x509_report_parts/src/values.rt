@@ -1,0 +1,182 @@
+//! How values print: bytes, times, object identifiers, addresses, and text in UTF-16.
+
+ghost use Rattle.std.specs.Prelude.{◌≤◌, ◌<◌, length};
+
+use crate::sink::Moment;
+use std::fmt::{self, Display, Write};
+
+/// Bytes in lower-case hexadecimal with colons between them, as in `0a:ff`.
+#[derive(Clone, Copy, Drop)]
+pub struct Hex<'a>(pub &'a [u8]);
+
+impl Display for Hex<'_> {
+    fn fmt<W: Write>(&self, f: &mut fmt::Formatter<W>) -> fmt::Result {
+        let mut is_first = true;
+        for byte in self.0 {
+            if !is_first {
+                f.write_str(":")?;
+            }
+            is_first = false;
+            write!(f, "{byte:02x}")?;
+        }
+        Ok(())
+    }
+}
+
+/// How many bytes are shown of those that are too many for a line.
+const SHOWN: usize = 16;
+
+/// How many bytes are shown whole.
+const WHOLE: usize = 32;
+
+/// Bytes as `Hex`, of which the first sixteen stand for more than 32.
+#[derive(Clone, Copy, Drop)]
+pub struct ShortHex<'a>(pub &'a [u8]);
+
+impl Display for ShortHex<'_> {
+    fn fmt<W: Write>(&self, f: &mut fmt::Formatter<W>) -> fmt::Result {
+        if self.0.len() <= WHOLE {
+            return write!(f, "{}", Hex(self.0));
+        }
+        let front = self.0.get(..SHOWN).unwrap_or(&[]);
+        write!(f, "{}:..", Hex(front))
+    }
+}
+
+/// A time as RFC 3339 writes it, as in `2019-10-17T17:41:28Z`.
+#[derive(Clone, Copy, Drop)]
+pub struct Stamp(pub Moment);
+
+impl Display for Stamp {
+    fn fmt<W: Write>(&self, f: &mut fmt::Formatter<W>) -> fmt::Result {
+        let (year, month, day) = self.0.date;
+        let (hour, minute, second) = self.0.time;
+        write!(f, "{year:04}-{month:02}-{day:02}")?;
+        write!(f, "T{hour:02}:{minute:02}:{second:02}Z")
+    }
+}
+
+/// An object identifier with dots, as in `2.5.4.3`.
+#[derive(Clone, Copy, Drop)]
+pub struct Dotted<'a>(pub &'a [u64]);
+
+impl Display for Dotted<'_> {
+    fn fmt<W: Write>(&self, f: &mut fmt::Formatter<W>) -> fmt::Result {
+        let mut is_first = true;
+        for arc in self.0 {
+            if !is_first {
+                f.write_str(".")?;
+            }
+            is_first = false;
+            write!(f, "{arc}")?;
+        }
+        Ok(())
+    }
+}
+
+/// An address of the internet protocol: of four bytes with dots, of sixteen as RFC 5952 writes it, and of any other length
+/// in hexadecimal.
+#[derive(Clone, Copy, Drop)]
+pub struct Address<'a>(pub &'a [u8]);
+
+/// The eight groups of an address of sixteen bytes.
+fn groups_of(bytes: &[u8]) -> [u16; 8] {
+    let mut groups = [0; 8];
+    for (group, pair) in groups.iter_mut().zip(bytes.chunks(2)) {
+        if let [high, low] = pair {
+            *group = u16::from(*high) * 256 + u16::from(*low);
+        }
+    }
+    groups
+}
+
+/// Where the first of the longest runs of at least two zero groups begins, and how long it is (RFC 5952, 4.2).
+fn longest_zeros(groups: &[u16; 8]) -> (usize, usize) {
+    let mut best = (8, 1);
+    let mut run: usize = 0;
+    for (index, group) in groups.iter().enumerate() {
+        run = if *group == 0 {
+            run.saturating_add(1)
+        } else {
+            0
+        };
+        if run > best.1 {
+            best = (index.saturating_add(1).saturating_sub(run), run);
+        }
+    }
+    best
+}
+
+/// Writes an address of sixteen bytes.
+fn write_groups<W: Write>(f: &mut fmt::Formatter<W>, bytes: &[u8]) -> fmt::Result {
+    let groups = groups_of(bytes);
+    let (from, count) = longest_zeros(&groups);
+    let behind = from.saturating_add(count);
+    for (index, group) in groups.iter().enumerate() {
+        if index == from && count > 1 {
+            f.write_str("::")?;
+        }
+        if index < from || index >= behind {
+            if index != 0 && index != behind {
+                f.write_str(":")?;
+            }
+            write!(f, "{group:x}")?;
+        }
+    }
+    Ok(())
+}
+
+impl Display for Address<'_> {
+    fn fmt<W: Write>(&self, f: &mut fmt::Formatter<W>) -> fmt::Result {
+        match self.0 {
+            [first, second, third, fourth] => write!(f, "{first}.{second}.{third}.{fourth}"),
+            bytes if bytes.len() == 16 => write_groups(f, bytes),
+            bytes => write!(f, "{}", Hex(bytes)),
+        }
+    }
+}
+
+/// The characters of text in UTF-16, high bytes first; U+FFFD for a surrogate without a partner.
+#[derive(Clone, Copy, Drop)]
+pub struct Utf16<'a>(pub &'a [u8]);
+
+/// The unit at the start; 0 where there is none.
+fn unit(bytes: &[u8]) -> u32 {
+    match bytes {
+        [high, low, ..] => u32::from(*high) * 256 + u32::from(*low),
+        _ => 0,
+    }
+}
+
+/// The character of a unit and the one behind it, if they are a pair of surrogates.
+fn pair(high: u32, low: u32) -> Option<char> {
+    if high & 0xfc00 != 0xd800 || low & 0xfc00 != 0xdc00 {
+        return None;
+    }
+    char::from_u32(0x1_0000 + (high & 0x3ff) * 0x400 + (low & 0x3ff))
+}
+
+/// The character at the start, and what comes behind it.
+fn next_char(bytes: &[u8]) -> (char, &[u8])
+    requires { 2 ≤ length bytes.now }
+    ensures shorter { length result.1.now < length bytes.entry.now }
+{
+    let high = unit(bytes);
+    let rest = &bytes[2..];
+    match pair(high, unit(rest)) {
+        Some(character) if rest.len() >= 2 => (character, &rest[2..]),
+        _ => (char::from_u32(high).unwrap_or('\u{fffd}'), rest),
+    }
+}
+
+impl Display for Utf16<'_> {
+    fn fmt<W: Write>(&self, f: &mut fmt::Formatter<W>) -> fmt::Result {
+        let mut rest = self.0;
+        while rest.len() >= 2 {
+            let (character, behind) = next_char(rest);
+            f.write_char(character)?;
+            rest = behind;
+        }
+        Ok(())
+    }
+}
