@@ -4,7 +4,7 @@ ghost use Rattle.std.specs.Prelude.{◌≡◌, false, None, Err, IfOk, OnOk, IfE
 ghost use Rattle.std.specs.Io.KnownBytes.{IsAtEnd};
 ghost use Rattle.std.specs.String.{string_bytes};
 ghost use Rattle.x509_tool_parts.specs.Input.{Grows, IsGivenUp, only_of, told_of};
-ghost use Rattle.x509_tool_parts.specs.Outcomes.{OutcomeOver};
+ghost use Rattle.x509_tool_parts.specs.Outcomes.{Outcome, OutcomeOver};
 ghost use Rattle.x509_tool_parts.specs.Output.{listed_answer};
 ghost use Rattle.x509_tool_parts.specs.Stops.{status_of_stop, line_of_stop, output_of, line_of_outcome, status_of_outcome};
 
@@ -224,18 +224,19 @@ pub fn shown_after<A: Allocator>(answer: Shown<A>, printed: Result<(), Stop>) ->
     }
 }
 
-/// Reads the input, and answers it as a value of the type of a name.
+/// The answer to an input that was read, as a value of the type of a name.
 ///
 /// # Errors
-/// Those of `read_input`, and then those of `run_text`.
-fn answer_read<A: Allocator + Copy, R: Read + Drop>(
+/// Why the input wasn't read, where it wasn't; else those of `run_text`.
+fn answer_to<A: Allocator + Copy>(
     alloc: A,
     type_name: &str,
-    reader: R,
+    read: Result<Vec<u8, A>, Stop>,
 ) -> Result<Vec<u8, A>, Stop>
-    ensures { OutcomeOver A (R.remaining reader) type_name.now (listed_answer (λ v. v.items) result) }
+    ensures ok { IfOk read (λ input. Outcome A type_name.now input.items (listed_answer (λ v. v.items) result)) }
+    ensures err { IfErr read (λ stop. result ≡ Err stop) }
 {
-    let input = read_input(alloc, reader)?;
+    let input = read?;
     Ok(run_text(alloc, type_name, &input)?)
 }
 
@@ -254,7 +255,7 @@ pub fn outcome_of<A: Allocator + Copy, R: Read + Drop>(
     ensures err { IfErr argument (λ stop. result ≡ Err stop) }
 {
     match argument {
-        Ok(name) => answer_read(alloc, name.as_str(), reader),
+        Ok(name) => answer_to(alloc, name.as_str(), read_input(alloc, reader)),
         Err(stop) => Err(stop),
     }
 }
