@@ -1,0 +1,120 @@
+//! Attributes of requests.
+
+use crate::extension::extensions;
+use picky_asn1_x509::{
+    Asn1SequenceOf, Attribute, AttributeValues, Attributes, ObjectIdentifierAsn1,
+};
+use std::alloc::Allocator;
+use x509_report_parts::{Cursor, Element, Label, Moment, Shape, Sink, Span, Value};
+
+/// Tells attributes.
+pub(crate) fn attributes<A: Allocator, S: Sink>(
+    sink: &mut S,
+    at: Element<'_>,
+    value: &Attributes<A>,
+) -> Result<(), S::Error> {
+    let mut items = at.inside;
+    sink.begin(Label::Field("attributes"), at.span, Shape::Items)?;
+    for item in &value.0 {
+        attribute(sink, items.next(), item)?;
+    }
+    sink.end()
+}
+
+/// Tells an attribute: its values as the items of a node.
+fn attribute<A: Allocator, S: Sink>(
+    sink: &mut S,
+    at: Element<'_>,
+    value: &Attribute<A>,
+) -> Result<(), S::Error> {
+    let mut fields = at.inside;
+    let _type = fields.next();
+    let values = fields.next();
+    let label = Label::Identifier(value.ty.0.arcs());
+    if let AttributeValues::Custom(element) = &value.value {
+        return sink.field(label, at.span, Value::Raw(element.as_bytes()));
+    }
+    sink.begin(label, at.span, Shape::Items)?;
+    items_of(sink, values.inside, &value.value)?;
+    sink.end()
+}
+
+/// Tells the values of an attribute.
+fn items_of<A: Allocator, S: Sink>(
+    sink: &mut S,
+    mut items: Cursor<'_>,
+    value: &AttributeValues<A>,
+) -> Result<(), S::Error> {
+    match value {
+        AttributeValues::Extensions(lists) => {
+            for list in &lists.0 {
+                extensions(sink, "Extensions", items.next(), list)?;
+            }
+            Ok(())
+        }
+        AttributeValues::SpcStatementType(lists) => {
+            for list in &lists.0 {
+                statement_types(sink, items.next(), list)?;
+            }
+            Ok(())
+        }
+        _ => plain_items(sink, items, value),
+    }
+}
+
+/// Tells the values of an attribute that have no fields in them.
+fn plain_items<A: Allocator, S: Sink>(
+    sink: &mut S,
+    items: Cursor<'_>,
+    value: &AttributeValues<A>,
+) -> Result<(), S::Error> {
+    match value {
+        AttributeValues::ContentType(types) => identifiers(sink, items, "ContentType", &types.0),
+        AttributeValues::MessageDigest(digests) => {
+            let mut items = items;
+            for digest in &digests.0 {
+                let value = Value::Octets(digest.0.as_slice());
+                sink.field(Label::Field("MessageDigest"), items.next().span, value)?;
+            }
+            Ok(())
+        }
+        AttributeValues::SigningTime(times) => {
+            let mut items = items;
+            for time in &times.0 {
+                let moment = Moment {
+                    date: (time.0.year(), time.0.month(), time.0.day()),
+                    time: (time.0.hour(), time.0.minute(), time.0.second()),
+                };
+                let span: Span = items.next().span;
+                sink.field(Label::Field("SigningTime"), span, Value::Time(moment))?;
+            }
+            Ok(())
+        }
+        _ => Ok(()),
+    }
+}
+
+/// Tells object identifiers.
+fn identifiers<A: Allocator, S: Sink>(
+    sink: &mut S,
+    mut items: Cursor<'_>,
+    field: &'static str,
+    values: &[ObjectIdentifierAsn1<A>],
+) -> Result<(), S::Error> {
+    for value in values {
+        let identifier = Value::Identifier(value.0.arcs());
+        sink.field(Label::Field(field), items.next().span, identifier)?;
+    }
+    Ok(())
+}
+
+/// Tells a list of statement types.
+fn statement_types<A: Allocator, S: Sink>(
+    sink: &mut S,
+    at: Element<'_>,
+    value: &Asn1SequenceOf<ObjectIdentifierAsn1<A>, A>,
+) -> Result<(), S::Error> {
+    sink.begin(Label::Field("SpcStatementType"), at.span, Shape::Items)?;
+    identifiers(sink, at.inside, "statementType", &value.0)?;
+    sink.end()
+}

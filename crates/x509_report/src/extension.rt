@@ -1,0 +1,102 @@
+//! Extensions.
+
+use crate::extension_values::{authority, basic_constraints, key_usage, purposes};
+use crate::reported::Reported;
+use picky_asn1_x509::{Extension, ExtensionView, Extensions, GeneralNames};
+use std::alloc::Allocator;
+use std::fmt::{self, Write};
+use x509_report_fields::name::{NamesLine, general_names};
+use x509_report_parts::{Cursor, Element, Label, Secrets, Shape, Sink, Span, Value};
+
+/// Tells extensions.
+pub(crate) fn extensions<A: Allocator, S: Sink>(
+    sink: &mut S,
+    field: &'static str,
+    at: Element<'_>,
+    value: &Extensions<A>,
+) -> Result<(), S::Error> {
+    let mut items = at.inside;
+    sink.begin(Label::Field(field), at.span, Shape::Items)?;
+    for item in &value.0 {
+        extension(sink, items.next(), item)?;
+    }
+    sink.end()
+}
+
+/// Tells an extension.
+fn extension<A: Allocator, S: Sink>(
+    sink: &mut S,
+    at: Element<'_>,
+    value: &Extension<A>,
+) -> Result<(), S::Error> {
+    let mut fields = at.inside;
+    // extnID and critical come first
+    let _extn_id = fields.next();
+    let _critical = fields.next_if(1);
+    let mut string = fields.next().inside;
+    let label = Label::Extension {
+        arcs: value.extn_id().0.arcs(),
+        is_critical: value.critical(),
+    };
+    held(sink, label, at.span, string.next(), value.extn_value())
+}
+
+/// Tells what an extension holds.
+fn held<A: Allocator, S: Sink>(
+    sink: &mut S,
+    label: Label<'_>,
+    span: Span,
+    inside: Element<'_>,
+    value: ExtensionView<'_, A>,
+) -> Result<(), S::Error> {
+    match value {
+        ExtensionView::AuthorityKeyIdentifier(key) => authority(sink, label, span, inside, key),
+        ExtensionView::SubjectKeyIdentifier(key) => {
+            sink.field(label, span, Value::Octets(key.0.as_slice()))
+        }
+        ExtensionView::KeyUsage(usage) => key_usage(sink, label, span, usage),
+        ExtensionView::SubjectAltName(names) => alternative(sink, label, span, inside, names),
+        ExtensionView::IssuerAltName(names) => alternative(sink, label, span, inside, names),
+        ExtensionView::BasicConstraints(constraints) => {
+            basic_constraints(sink, label, span, inside, constraints)
+        }
+        ExtensionView::ExtendedKeyUsage(usage) => purposes(sink, label, span, inside, usage),
+        ExtensionView::Generic(octets) => {
+            sink.field(label, span, Value::Octets(octets.0.as_slice()))
+        }
+        ExtensionView::CrlNumber(number) => {
+            sink.field(label, span, Value::Integer(number.0.as_bytes()))
+        }
+    }
+}
+
+/// Tells alternative names.
+fn alternative<A: Allocator, S: Sink>(
+    sink: &mut S,
+    label: Label<'_>,
+    span: Span,
+    inside: Element<'_>,
+    names: &GeneralNames<A>,
+) -> Result<(), S::Error> {
+    sink.begin(label, span, Shape::Items)?;
+    general_names(sink, inside, names)?;
+    sink.end()
+}
+
+impl<A: Allocator> Reported for Extensions<A> {
+    const TITLE: &'static str = "Extensions";
+
+    fn tell<S: Sink>(&self, sink: &mut S, bytes: &[u8], _secrets: Secrets) -> Result<(), S::Error> {
+        extensions(sink, "Extensions", Cursor::new(bytes).next(), self)
+    }
+
+    fn summary<W: Write>(&self, out: &mut W) -> fmt::Result {
+        writeln!(out, "  extensions  {}", self.0.len())?;
+        for extension in &self.0 {
+            if let ExtensionView::SubjectAltName(names) = extension.extn_value() {
+                writeln!(out, "  names       {}", NamesLine(names))?;
+            }
+        }
+        Ok(())
+    }
+}

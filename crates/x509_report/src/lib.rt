@@ -1,0 +1,20 @@
+//! Reports of X.509 structures: what stands in them and where, for people as text and for programs as JSON.
+//!
+//! One walk over a value beside the bytes that it was read from tells each field to a sink. It passes on what a caller
+//! names of the crates below.
+#![tactic(auto)]
+
+mod attribute;
+mod certificate;
+mod extension;
+mod extension_values;
+mod private_key;
+mod reported;
+mod request;
+mod small;
+
+pub use crate::reported::Reported;
+pub use x509_report_parts::{
+    Cursor, Element, FieldSink, Identifiers, JsonSink, Label, Moment, Secrets, Shape, Sink, Span,
+    TextSink, Value,
+};

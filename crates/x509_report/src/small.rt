@@ -1,0 +1,98 @@
+//! Names, algorithm identifiers and public keys by themselves.
+
+use crate::reported::Reported;
+use picky_asn1_x509::{
+    AlgorithmIdentifier, Name, RawAlgorithmIdentifier, RsaPublicKey, SubjectPublicKeyInfo,
+};
+use std::alloc::Allocator;
+use std::fmt::{self, Write};
+use x509_report_fields::algorithm::algorithm;
+use x509_report_fields::key::{public_key, public_line, rsa, size};
+use x509_report_fields::name::{NameLine, name};
+use x509_report_parts::text_sink::Named;
+use x509_report_parts::{Cursor, Identifiers, Label, Secrets, Shape, Sink, Value};
+
+impl<A: Allocator> Reported for Name<A> {
+    const TITLE: &'static str = "Name";
+
+    fn tell<S: Sink>(&self, sink: &mut S, bytes: &[u8], _secrets: Secrets) -> Result<(), S::Error> {
+        name(sink, "Name", Cursor::new(bytes).next(), self)
+    }
+
+    fn summary<W: Write>(&self, out: &mut W) -> fmt::Result {
+        writeln!(out, "  name        {}", NameLine(self))
+    }
+}
+
+impl<A: Allocator> Reported for AlgorithmIdentifier<A> {
+    const TITLE: &'static str = "Algorithm identifier";
+
+    fn tell<S: Sink>(&self, sink: &mut S, bytes: &[u8], _secrets: Secrets) -> Result<(), S::Error> {
+        algorithm(sink, "AlgorithmIdentifier", Cursor::new(bytes).next(), self)
+    }
+
+    fn summary<W: Write>(&self, out: &mut W) -> fmt::Result {
+        writeln!(
+            out,
+            "  algorithm   {}",
+            Named(self.oid().arcs(), Identifiers::Dotted)
+        )
+    }
+}
+
+impl<A: Allocator> Reported for RawAlgorithmIdentifier<A> {
+    const TITLE: &'static str = "Algorithm identifier with any parameters";
+
+    fn tell<S: Sink>(&self, sink: &mut S, bytes: &[u8], _secrets: Secrets) -> Result<(), S::Error> {
+        let at = Cursor::new(bytes).next();
+        let mut fields = at.inside;
+        sink.begin(Label::Field("AlgorithmIdentifier"), at.span, Shape::Line)?;
+        let identifier = Value::Identifier(self.algorithm().arcs());
+        sink.field(Label::Field("algorithm"), fields.next().span, identifier)?;
+        if fields.tag().is_some() {
+            let value = match self.parameters() {
+                Some(element) => Value::Raw(element.as_bytes()),
+                None => Value::Null,
+            };
+            sink.field(Label::Field("parameters"), fields.next().span, value)?;
+        }
+        sink.end()
+    }
+
+    fn summary<W: Write>(&self, out: &mut W) -> fmt::Result {
+        writeln!(
+            out,
+            "  algorithm   {}",
+            Named(self.algorithm().arcs(), Identifiers::Dotted)
+        )
+    }
+}
+
+impl<A: Allocator> Reported for SubjectPublicKeyInfo<A> {
+    const TITLE: &'static str = "Public key";
+
+    fn tell<S: Sink>(&self, sink: &mut S, bytes: &[u8], _secrets: Secrets) -> Result<(), S::Error> {
+        public_key(
+            sink,
+            "SubjectPublicKeyInfo",
+            Cursor::new(bytes).next(),
+            self,
+        )
+    }
+
+    fn summary<W: Write>(&self, out: &mut W) -> fmt::Result {
+        writeln!(out, "  key         {}", public_line(self))
+    }
+}
+
+impl<A: Allocator> Reported for RsaPublicKey<A> {
+    const TITLE: &'static str = "RSA public key";
+
+    fn tell<S: Sink>(&self, sink: &mut S, bytes: &[u8], _secrets: Secrets) -> Result<(), S::Error> {
+        rsa(sink, "RSAPublicKey", Cursor::new(bytes).next(), self)
+    }
+
+    fn summary<W: Write>(&self, out: &mut W) -> fmt::Result {
+        writeln!(out, "  key         RSA, {} bits", size(&self.modulus))
+    }
+}
