@@ -1,0 +1,159 @@
+//! A report as text.
+
+use crate::told::{Task, read_told};
+use std::alloc::Allocator;
+use std::fmt::{self, Display, Write};
+use x509_der::{FromDer, Place, Refused};
+use x509_inspect_parts::{Kind, Options};
+use x509_report::{Cursor, FieldSink, Reported, Secrets, Span, TextSink};
+
+/// Of how many deviations the field is told: to find one takes a walk over the whole.
+pub(crate) const NAMED: usize = 16;
+
+/// A value with the bytes that it was read from and the deviations in them, which prints its report.
+#[derive(Drop)]
+pub struct TextReport<'a, T: Reported> {
+    /// The type.
+    pub kind: Kind,
+    /// The value.
+    pub value: &'a T,
+    /// The bytes.
+    pub bytes: &'a [u8],
+    /// The deviations.
+    pub places: &'a [Place],
+    /// What is told.
+    pub options: Options,
+}
+
+/// The field that stands over a place: it prints the names of the nodes around it.
+#[derive(Drop)]
+pub(crate) struct FieldOf<'a, T: Reported> {
+    pub(crate) value: &'a T,
+    pub(crate) bytes: &'a [u8],
+    pub(crate) place: Span,
+    pub(crate) separator: &'static str,
+}
+
+impl<T: Reported> Display for FieldOf<'_, T> {
+    fn fmt<W: Write>(&self, f: &mut fmt::Formatter<W>) -> fmt::Result {
+        let mut sink = FieldSink::new(f, self.place, self.separator);
+        self.value.tell(&mut sink, self.bytes, Secrets::Hidden)
+    }
+}
+
+/// How many deviations, in words.
+fn write_count<W: Write>(out: &mut W, count: usize) -> fmt::Result {
+    match count {
+        0 => out.write_str("DER"),
+        1 => out.write_str("not DER: 1 deviation"),
+        _ => write!(out, "not DER: {count} deviations"),
+    }
+}
+
+/// The first inner element: what the signature of a signed structure covers.
+pub(crate) fn signed_span(bytes: &[u8]) -> Span {
+    let mut whole = Cursor::new(bytes);
+    let mut fields = whole.next().inside;
+    fields.next().span
+}
+
+impl<T: Reported> TextReport<'_, T> {
+    /// Writes the line of a deviation.
+    fn write_deviation<W: Write>(&self, out: &mut W, place: &Place) -> fmt::Result {
+        let Place { kind, start, end } = *place;
+        let field = FieldOf {
+            value: self.value,
+            bytes: self.bytes,
+            place: Span { start, end },
+            separator: ", ",
+        };
+        writeln!(out, "  deviation   {kind}, at {start}..{end} ({field})")
+    }
+
+    /// Writes the lines of the deviations.
+    fn write_deviations<W: Write>(&self, out: &mut W) -> fmt::Result {
+        for place in self.places.iter().take(NAMED) {
+            self.write_deviation(out, place)?;
+        }
+        let others = self.places.len().saturating_sub(NAMED);
+        if others > 0 {
+            writeln!(out, "  deviation   {others} more")?;
+        }
+        Ok(())
+    }
+
+    /// Writes the lines that stand before the fields.
+    fn write_head<W: Write>(&self, out: &mut W) -> fmt::Result {
+        let len = self.bytes.len();
+        write!(out, "{}, {len} bytes, ", T::TITLE)?;
+        write_count(out, self.places.len())?;
+        out.write_str("\n")?;
+        self.value.summary(out)?;
+        if self.kind.is_signed() {
+            let Span { start, end } = signed_span(self.bytes);
+            writeln!(out, "  signed      {start}..{end}")?;
+        }
+        self.write_deviations(out)
+    }
+}
+
+impl<T: Reported> Display for TextReport<'_, T> {
+    fn fmt<W: Write>(&self, f: &mut fmt::Formatter<W>) -> fmt::Result {
+        self.write_head(f)?;
+        f.write_str("\n")?;
+        let mut sink = TextSink::new(f, self.options.identifiers);
+        self.value.tell(&mut sink, self.bytes, self.options.secrets)
+    }
+}
+
+/// The writing of a report.
+#[derive(Drop)]
+pub(crate) struct WriteText<'a, 'w, A, W: Write> {
+    /// Where memory is asked for.
+    pub(crate) alloc: A,
+    /// As which type the bytes are read.
+    pub(crate) kind: Kind,
+    /// The bytes.
+    pub(crate) bytes: &'a [u8],
+    /// What is told.
+    pub(crate) options: Options,
+    /// What is written to.
+    pub(crate) out: &'w mut W,
+}
+
+/// Writes the report of a value.
+fn write_report<T: Reported, W: Write>(
+    out: &mut W,
+    kind: Kind,
+    value: &T,
+    bytes: &[u8],
+    places: &[Place],
+    options: Options,
+) -> fmt::Result {
+    let report = TextReport {
+        kind,
+        value,
+        bytes,
+        places,
+        options,
+    };
+    write!(out, "{report}")
+}
+
+impl<A: Allocator + Copy, W: Write> Task<A> for WriteText<'_, '_, A, W> {
+    type Answer = Result<Result<usize, fmt::Error>, Refused>;
+
+    fn run<T: FromDer<A> + Reported>(self) -> Result<Result<usize, fmt::Error>, Refused> {
+        let WriteText {
+            alloc,
+            kind,
+            bytes,
+            options,
+            out,
+        } = self;
+        let (value, places) = read_told::<T, A>(alloc, bytes)?;
+        let written = write_report(out, kind, &value, bytes, places.as_slice(), options);
+        drop(value);
+        Ok(written.map(|()| places.len()))
+    }
+}
