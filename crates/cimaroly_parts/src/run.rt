@@ -1,0 +1,132 @@
+//! The work on one input.
+
+use crate::progress::Progress;
+use cimaroly_work::input::{FRONT, Form, LONGEST, decoded, form_of, read_front, read_rest};
+use cimaroly_work::{NOTHING, Session, Stop};
+use std::io::{BufRead, Read, Write};
+use std::time::Clock;
+use x509_inspect::Source;
+use x509_pem::{Block, Fault, PemError, PemReader};
+
+/// Works on a PEM block that was read.
+fn block<W: Write>(
+    session: &mut Session<'_, W>,
+    path: &str,
+    block: &Block,
+    line: u64,
+) -> Result<(), Stop> {
+    let label = block.label();
+    let source = Source {
+        file: path,
+        block: Some((line, label)),
+    };
+    session.block(source, label, block.bytes())
+}
+
+/// Tells what is wrong with a PEM block.
+fn fault<W: Write>(
+    session: &mut Session<'_, W>,
+    path: &str,
+    block: &Block,
+    line: u64,
+    fault: Fault,
+) -> Result<(), Stop> {
+    if fault == Fault::OutOfMemory {
+        return Err(Stop::memory());
+    }
+    let reason = fault.to_string(session.alloc)?;
+    let source = Source {
+        file: path,
+        block: Some((line, block.label())),
+    };
+    session.refuse(source, reason.as_str())
+}
+
+/// Works on the next PEM block. Answers whether there may be more.
+fn next_block<R: BufRead + Drop, W: Write>(
+    session: &mut Session<'_, W>,
+    path: &str,
+    reader: &mut PemReader<R>,
+) -> Result<bool, Stop> {
+    match reader.next_block() {
+        Ok(true) => {
+            block(session, path, reader.block(), reader.first_line())?;
+            Ok(true)
+        }
+        Ok(false) => Ok(false),
+        Err(PemError::Input(error)) => Err(Stop::from(error)),
+        Err(PemError::Fault { fault: met, line }) => {
+            fault(session, path, reader.block(), line, met)?;
+            Ok(true)
+        }
+    }
+}
+
+/// Works on all PEM blocks of an input.
+fn blocks<R: BufRead + Drop, W: Write, T: Clock + Eprint>(
+    rt: &T,
+    session: &mut Session<'_, W>,
+    path: &str,
+    input: R,
+    progress: &mut Progress,
+) -> Result<(), Stop> {
+    let mut reader = PemReader::new(session.alloc, input, LONGEST);
+    let before = session.tally.structures();
+    for _ in 0..u64::MAX {
+        if !next_block(session, path, &mut reader)? {
+            break;
+        }
+        progress.tick(rt, &session.tally)?;
+    }
+    if session.tally.structures() > before {
+        return Ok(());
+    }
+    let source = Source {
+        file: path,
+        block: None,
+    };
+    session.refuse(source, NOTHING)
+}
+
+/// Works on the bytes that hexadecimal digits stand for.
+fn hexadecimal<W: Write>(
+    session: &mut Session<'_, W>,
+    source: Source<'_>,
+    text: &[u8],
+) -> Result<(), Stop> {
+    match decoded(session.alloc, text)? {
+        Some(bytes) => session.bare(source, bytes.as_slice()),
+        None => session.refuse(source, NOTHING),
+    }
+}
+
+/// Works on all that an input has.
+///
+/// # Errors
+/// Input or output failed, memory is refused, or the program was called in a wrong way.
+pub(crate) fn input<R: BufRead + Drop, W: Write, T: Clock + Eprint>(
+    rt: &T,
+    session: &mut Session<'_, W>,
+    path: &str,
+    mut input: R,
+    progress: &mut Progress,
+) -> Result<(), Stop> {
+    let mut front = read_front(session.alloc, &mut input)?;
+    let is_whole = front.len() < FRONT;
+    let form = form_of(front.as_slice(), is_whole);
+    if form == Form::Pem {
+        let whole = front.as_slice().chain(input);
+        return blocks(rt, session, path, whole, progress);
+    }
+    read_rest(&mut front, &mut input)?;
+    let source = Source {
+        file: path,
+        block: None,
+    };
+    match form {
+        Form::Hexadecimal => hexadecimal(session, source, front.as_slice())?,
+        _ => session.bare(source, front.as_slice())?,
+    }
+    progress.tick(rt, &session.tally)?;
+    Ok(())
+}

@@ -1,0 +1,84 @@
+//! The lines that say what a structure comes to.
+
+use std::alloc::AllocError;
+use std::fmt::{self, Display, Write};
+use x509_der::Place;
+use x509_inspect::{Kind, RefusalLine, Source};
+use x509_report_parts::shown::ShownBytes;
+
+/// How many deviations a line tells.
+const TOLD: usize = 16;
+
+/// Writes where a structure comes from, up to the colon behind it.
+pub(crate) fn write_source(out: &mut String, source: Source<'_>) -> Result<(), AllocError> {
+    write!(out, "{}", ShownBytes(source.file.as_bytes()))?;
+    match source.block {
+        Some((line, label)) => write!(out, ":{line}: {}: ", ShownBytes(label)),
+        None => write!(out, ": "),
+    }
+}
+
+/// Writes where a structure comes from and as what it is read, up to the colon behind it.
+pub(crate) fn write_structure(
+    out: &mut String,
+    source: Source<'_>,
+    kind: Kind,
+) -> Result<(), AllocError> {
+    write!(out, "{}", ShownBytes(source.file.as_bytes()))?;
+    if let Some((line, _)) = source.block {
+        write!(out, ":{line}")?;
+    }
+    write!(out, ": {}: ", kind.name())
+}
+
+/// The deviations on one line, as in `1 deviation: RSA parameters absent at 37..48`.
+#[derive(Clone, Copy, Drop)]
+pub(crate) struct Deviations<'a>(pub(crate) &'a [Place]);
+
+/// Writes the deviations' names and places.
+fn write_places<W: Write>(f: &mut fmt::Formatter<W>, places: &[Place]) -> fmt::Result {
+    let mut is_first = true;
+    for place in places.iter().take(TOLD) {
+        f.write_str(if is_first { ": " } else { ", " })?;
+        is_first = false;
+        let Place { kind, start, end } = *place;
+        write!(f, "{kind} at {start}..{end}")?;
+    }
+    let others = places.len().saturating_sub(TOLD);
+    if others > 0 {
+        write!(f, ", and {others} more")?;
+    }
+    Ok(())
+}
+
+impl Display for Deviations<'_> {
+    fn fmt<W: Write>(&self, f: &mut fmt::Formatter<W>) -> fmt::Result {
+        match self.0.len() {
+            0 => return f.write_str("ok"),
+            1 => f.write_str("1 deviation")?,
+            count => write!(f, "{count} deviations")?,
+        }
+        write_places(f, self.0)
+    }
+}
+
+/// Writes the line of a structure that was read.
+pub(crate) fn write_read(
+    out: &mut String,
+    source: Source<'_>,
+    kind: Kind,
+    places: &[Place],
+) -> Result<(), AllocError> {
+    write_structure(out, source, kind)?;
+    writeln!(out, "{}", Deviations(places))
+}
+
+/// Writes the line of a structure that was refused.
+pub(crate) fn write_refused(
+    out: &mut String,
+    source: Source<'_>,
+    line: RefusalLine<'_>,
+) -> Result<(), AllocError> {
+    write_structure(out, source, line.kind)?;
+    writeln!(out, "refused: {line}")
+}

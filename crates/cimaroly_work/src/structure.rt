@@ -1,0 +1,270 @@
+//! What is done with one structure.
+
+use crate::lines::{write_read, write_refused};
+use crate::session::{NOTHING, Session};
+use crate::settings::{Action, Format};
+use crate::status::Status;
+use crate::stop::Stop;
+use anyhow::Error;
+use base64::engine::general_purpose::STANDARD;
+use std::io::Write;
+use x509_der::{ReadError, WriteError};
+use x509_inspect::{
+    Determined, Extent, Head, Kind, RefusalLine, Refused, Source, TreeError, check, determine,
+    encoded, push_json, write_text, write_tree,
+};
+use x509_report_parts::shown::ShownBytes;
+
+impl<W: Write> Session<'_, W> {
+    /// Works on a PEM block.
+    ///
+    /// # Errors
+    /// Output failed, memory is refused, or the program was called in a wrong way.
+    pub fn block(&mut self, source: Source<'_>, label: &[u8], bytes: &[u8]) -> Result<(), Stop> {
+        if self.settings.action == Action::Tree {
+            return self.tree(source, bytes);
+        }
+        match self.kind_of(label) {
+            Some(kind) => self.structure(source, kind, bytes),
+            None => self.pass_over(source),
+        }
+    }
+
+    /// Works on bytes without a label.
+    ///
+    /// # Errors
+    /// As `block`.
+    pub fn bare(&mut self, source: Source<'_>, bytes: &[u8]) -> Result<(), Stop> {
+        if self.settings.action == Action::Tree {
+            return self.tree(source, bytes);
+        }
+        if let Some(kind) = self.settings.kind {
+            return self.structure(source, kind, bytes);
+        }
+        if bytes.first() != Some(&0x30) {
+            return self.refuse(source, NOTHING);
+        }
+        match determine(self.alloc, bytes) {
+            Ok(Determined::One(kind) | Determined::None(kind, _)) => {
+                self.structure(source, kind, bytes)
+            }
+            Ok(Determined::Several(kinds)) => {
+                self.tally.note(Status::Usage);
+                let text = format!(in self.alloc;
+                    "it may be {kinds}: say which by --type, as in --type algorithm"
+                )?;
+                self.refuse(source, text.as_str())
+            }
+            Err(_) => Err(Stop::memory()),
+        }
+    }
+
+    /// Works on bytes as a type.
+    ///
+    /// # Errors
+    /// As `block`.
+    fn structure(&mut self, source: Source<'_>, kind: Kind, bytes: &[u8]) -> Result<(), Stop> {
+        match (self.settings.action, self.settings.format) {
+            (Action::Encode, _) => self.encode(source, kind, bytes),
+            (Action::Show, Format::Json) => {
+                self.json(source, kind, bytes, Extent::Fields(self.settings.options))
+            }
+            (_, Format::Json) => self.json(source, kind, bytes, Extent::Outcome),
+            (Action::Show, Format::Text) => self.show(source, kind, bytes),
+            _ => self.check(source, kind, bytes),
+        }
+    }
+
+    /// Counts a refused, and writes its line.
+    fn refuse_as(&mut self, source: Source<'_>, line: RefusalLine<'_>) -> Result<(), Stop> {
+        if line.refused.error == ReadError::OutOfMemory {
+            return Err(Stop::memory());
+        }
+        self.tally.refuse();
+        if self.settings.format == Format::Quiet {
+            return Ok(());
+        }
+        write_refused(&mut self.text, source, line)?;
+        self.put_text()
+    }
+
+    /// Says what a structure comes to.
+    fn check(&mut self, source: Source<'_>, kind: Kind, bytes: &[u8]) -> Result<(), Stop> {
+        match check(self.alloc, kind, bytes) {
+            Ok(places) => {
+                self.tally.add(places.len());
+                if self.settings.format == Format::Quiet {
+                    return Ok(());
+                }
+                write_read(&mut self.text, source, kind, places.as_slice())?;
+                self.put_text()
+            }
+            Err(refused) => self.refuse_as(
+                source,
+                RefusalLine {
+                    refused,
+                    kind,
+                    bytes,
+                },
+            ),
+        }
+    }
+
+    /// Writes the object of a structure.
+    fn json(
+        &mut self,
+        source: Source<'_>,
+        kind: Kind,
+        bytes: &[u8],
+        extent: Extent,
+    ) -> Result<(), Stop> {
+        let line = self.take_line();
+        let head = Head {
+            source,
+            kind,
+            bytes,
+            extent,
+        };
+        let (line, outcome) = push_json(self.alloc, line, head)?;
+        self.count(outcome)?;
+        self.put_line(line)
+    }
+
+    /// Counts what a structure came to.
+    fn count(&mut self, outcome: Result<usize, Refused>) -> Result<(), Stop> {
+        match outcome {
+            Ok(deviations) => self.tally.add(deviations),
+            Err(refused) => {
+                if refused.error == ReadError::OutOfMemory {
+                    return Err(Stop::memory());
+                }
+                self.tally.refuse();
+            }
+        }
+        Ok(())
+    }
+
+    /// Writes what stands between two reports, and where the structure comes from, where there are several.
+    fn separate(&mut self, source: Source<'_>) -> Result<(), Stop> {
+        if self.tally.structures() > 0 {
+            writeln!(self.text)?;
+        } else if !self.is_one_of_many {
+            return Ok(());
+        }
+        write!(self.text, "# {}", ShownBytes(source.file.as_bytes()))?;
+        match source.block {
+            Some((line, _)) => writeln!(self.text, ", line {line}")?,
+            None => writeln!(self.text)?,
+        }
+        Ok(())
+    }
+
+    /// Shows the report of a structure.
+    fn show(&mut self, source: Source<'_>, kind: Kind, bytes: &[u8]) -> Result<(), Stop> {
+        self.separate(source)?;
+        let options = self.settings.options;
+        match write_text(self.alloc, kind, bytes, options, &mut self.text) {
+            Ok(Ok(deviations)) => {
+                self.tally.add(deviations);
+                self.put_text()
+            }
+            Ok(Err(_)) => Err(Stop::memory()),
+            Err(refused) => self.refuse_as(
+                source,
+                RefusalLine {
+                    refused,
+                    kind,
+                    bytes,
+                },
+            ),
+        }
+    }
+
+    /// Writes the DER encoding of a structure, or keeps it for the end.
+    fn encode(&mut self, source: Source<'_>, kind: Kind, bytes: &[u8]) -> Result<(), Stop> {
+        if self.encoding.is_some() {
+            return Err(Stop::usage(Error::msg(
+                "there are several structures: write them as PEM, as in cimaroly der --pem FILE",
+            )));
+        }
+        match encoded(self.alloc, kind, bytes) {
+            Ok(Ok(encoding)) => {
+                self.tally.add(usize::from(encoding.as_slice() != bytes));
+                if self.settings.format == Format::Pem {
+                    return self.pem(kind, encoding.as_slice());
+                }
+                self.encoding = Some(encoding);
+                Ok(())
+            }
+            Ok(Err(WriteError::OutOfMemory)) => Err(Stop::memory()),
+            Ok(Err(WriteError::TooLong)) => self.refuse(source, "the DER encoding is too long"),
+            Err(refused) => self.refuse_encoding(
+                source,
+                RefusalLine {
+                    refused,
+                    kind,
+                    bytes,
+                },
+            ),
+        }
+    }
+
+    /// Counts the refusal of what was to be encoded: the caller is told by the error.
+    fn refuse_encoding(&mut self, source: Source<'_>, line: RefusalLine<'_>) -> Result<(), Stop> {
+        if line.refused.error == ReadError::OutOfMemory {
+            return Err(Stop::memory());
+        }
+        self.tally.refuse();
+        let file = ShownBytes(source.file.as_bytes());
+        Err(Stop {
+            status: Status::Refused,
+            error: Some(Error::msg(format_args!("{file}: refused: {line}"))),
+        })
+    }
+
+    /// Writes a PEM block (RFC 7468, 2): lines of 64 symbols.
+    fn pem(&mut self, kind: Kind, encoding: &[u8]) -> Result<(), Stop> {
+        let Some(label) = kind.label() else {
+            return Err(Stop::usage(Error::msg(format_args!(
+                "a structure of the type {} has no PEM label: leave --pem out",
+                kind.name()
+            ))));
+        };
+        let symbols = STANDARD.encode(self.alloc, encoding)?;
+        writeln!(self.text, "-----BEGIN {label}-----")?;
+        for line in symbols.as_bytes().chunks(64) {
+            writeln!(self.text, "{}", ShownBytes(line))?;
+        }
+        writeln!(self.text, "-----END {label}-----")?;
+        self.put_text()
+    }
+
+    /// Shows the elements of bytes.
+    fn tree(&mut self, source: Source<'_>, bytes: &[u8]) -> Result<(), Stop> {
+        self.separate(source)?;
+        match write_tree(self.alloc, &mut self.text, bytes) {
+            Ok(None) => {
+                self.tally.add(0);
+                self.put_text()
+            }
+            Ok(Some(at)) => {
+                self.tally.refuse();
+                writeln!(self.text, "no element at byte {at}")?;
+                self.put_text()
+            }
+            Err(TreeError::OutOfMemory | TreeError::Write) => Err(Stop::memory()),
+        }
+    }
+
+    /// Writes what was kept for the end.
+    ///
+    /// # Errors
+    /// Output failed.
+    pub fn finish(&mut self) -> Result<(), Stop> {
+        if let Some(encoding) = self.encoding.take() {
+            self.out.write_all(encoding.as_slice())?;
+        }
+        self.out.flush()?;
+        Ok(())
+    }
+}
