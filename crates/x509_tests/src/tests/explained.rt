@@ -312,7 +312,7 @@ const CERTIFICATE: Damaged = (
     ],
 );
 
-/// Damages of `CertificationRequest`.
+/// Damages of `CertificationRequest`. What stands inside the values of an attribute that isn't known isn't looked at.
 const REQUEST: Damaged = (
     "303230260201003000300a300506032b6570030100a013301106092a864886f70d010907310413027077300506032b6570030100",
     &[
@@ -340,8 +340,6 @@ const REQUEST: Damaged = (
         (26, 0x80, BadLength, 25),
         (36, 0x1f, WrongTag, 36),
         (37, 0x80, BadLength, 36),
-        (38, 0x1f, WrongTag, 38),
-        (39, 0x80, BadLength, 38),
         (42, 0x1f, WrongTag, 42),
         (43, 0x80, BadLength, 42),
         (44, 0x1f, WrongTag, 44),
