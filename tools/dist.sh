@@ -16,8 +16,12 @@ cd "$(dirname "$0")/.."
 
 sum() { sha256sum <"$1" | cut -d ' ' -f 1; }
 
-# The artifacts, a line each: its name, its crate, and the file that the build leaves.
-artifacts() { sed 's/#.*//; /^ *$/d; s/^\([^ ]*\) \([^ ]*\) /\1 \2 crates\/\2\//' tools/artifacts.txt; }
+# What can be built, a line each: its name, its crate, and the file that the build leaves. Before the name of what isn't in dist/
+# stands a hyphen.
+builds() { sed 's/#.*//; /^ *$/d; s/^\([^ ]*\) \([^ ]*\) /\1 \2 crates\/\2\//' tools/artifacts.txt; }
+
+# The artifacts in dist/.
+artifacts() { builds | sed '/^-/d'; }
 
 # The record of a file that is built of the sources of a crate as they stand here.
 record() { printf '%s %s\n' "$(tools/sources.sh "$1")" "$(sum "$2")"; }
@@ -132,8 +136,8 @@ case ${1-} in
     compare --check
     ;;
 --build)
-    artifacts | while read -r name crate file; do
-        if [ "$name" = "$2" ]; then
+    builds | while read -r name crate file; do
+        if [ "${name#-}" = "$2" ]; then
             build "$crate" "$file" </dev/null
             echo "$file"
         fi
