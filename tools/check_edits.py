@@ -25,14 +25,14 @@ BUDGETS = [
     (17, ["x509_names", "x509_names_parts"]),
     (28, ["x509_keys_parts"]),
     (13, ["x509_keys"]),
-    (22, ["picky_asn1_x509_parts"]),
-    (18, ["picky_asn1_x509"]),
+    (0, ["picky_asn1_x509_parts"]),
+    (0, ["picky_asn1_x509"]),
     (18, ["x509_tool_parts", "x509_callers", "refusing"]),
     (7, ["x509_fields"]),
     (2, ["x509_oids_algorithms", "x509_oids_objects"]),
     (5, ["x509_pem"]),
     (5, ["x509_report_parts"]),
-    (3, ["x509_inspect", "cimaroly_work"]),
+    (0, ["x509_inspect", "cimaroly_work"]),
 ]
 
 
