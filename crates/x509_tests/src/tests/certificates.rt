@@ -117,7 +117,22 @@ const FURTHER_FIELDS: &[Field<'static>] = &[
     },
 ];
 
-/// These two, and versions and empty lists that are encoded though they are left out, alone and together.
+/// Both unique identifiers.
+const IDENTIFIER_FIELDS: &[Field<'static>] = &[
+    Field {
+        around: &[0],
+        start: 65,
+        tags: &[],
+    },
+    Field {
+        around: &[0],
+        start: 69,
+        tags: &[],
+    },
+];
+
+/// These two, one of version 2 with both unique identifiers, and versions and empty lists that are encoded though they
+/// are left out, alone and together.
 const PART_ROWS: &[Row<'static>] = &[
     Row {
         input: PLAIN_PART,
@@ -132,6 +147,13 @@ const PART_ROWS: &[Row<'static>] = &[
         places: &[],
         headers: 22,
         fields: FURTHER_FIELDS,
+    },
+    Row {
+        input: "3046a003020101020101300506032b65703000301e170d3139313031373137343132385a170d3232313031363137343132385a3000300a300506032b6570030100810200aa820100",
+        strict: "3046a003020101020101300506032b65703000301e170d3139313031373137343132385a170d3232313031363137343132385a3000300a300506032b6570030100810200aa820100",
+        places: &[],
+        headers: 17,
+        fields: IDENTIFIER_FIELDS,
     },
     // Version 1, spelled.
     Row {
@@ -177,10 +199,6 @@ const PARTS: Table<'static> = Table {
         (
             "3043a003020101020101300506032b65703000301e170d3139313031373137343132385a170d3232313031363137343132385a3000300a300506032b6570030100810200aa",
             16,
-        ),
-        (
-            "3046a003020101020101300506032b65703000301e170d3139313031373137343132385a170d3232313031363137343132385a3000300a300506032b6570030100810200aa820100",
-            17,
         ),
     ],
     rows: PART_ROWS,

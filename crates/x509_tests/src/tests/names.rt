@@ -60,12 +60,21 @@ fn is_printed(rt: &impl Abort, printed: &str, stated: &str) {
     assert!(rt; printed == stated, "{printed} and not {stated}");
 }
 
+/// The value prints this text, whatever options are given.
+fn prints_always<A: Heap, T: Display>(rt: &impl Abort, heap: A, value: &T, text: &str) {
+    let printed = value.to_string(heap).expect(rt, "memory");
+    is_printed(rt, printed.as_str(), text);
+    let printed = format!(in heap; "{value:#}").expect(rt, "memory");
+    is_printed(rt, printed.as_str(), text);
+    let printed = format!(in heap; "{value:>40}").expect(rt, "memory");
+    is_printed(rt, printed.as_str(), text);
+}
+
 /// The value that the bytes encode prints this text.
 fn prints<A: Heap, T: FromDer<A> + Display>(rt: &impl Abort, heap: A, input: &str, text: &str) {
     let input = bytes_of(rt, heap, input);
     let value = from_bytes::<T, A>(heap, &input).expect(rt, text);
-    let printed = value.to_string(heap).expect(rt, "memory");
-    is_printed(rt, printed.as_str(), text);
+    prints_always(rt, heap, &value, text);
 }
 
 /// Directory strings and what they print. A pair of surrogates is one character, and one without a partner is U+FFFD.
