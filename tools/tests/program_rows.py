@@ -1,4 +1,4 @@
-"""What the program is run on and what it must print, from the grammar and from the README's tables, and never from its own output."""
+"""What the program is run on and what it must print, from the grammar, README and docs/PROGRAMS.md, and never from its own output."""
 
 NONE = "0 0 0 0 0 0 0 0 0 0"
 
