@@ -30,7 +30,7 @@ BUDGETS = [
     (18, ["x509_tool_parts", "x509_callers", "refusing"]),
     (7, ["x509_fields"]),
     (2, ["x509_oids_algorithms", "x509_oids_objects"]),
-    (5, ["x509_pem"]),
+    (6, ["x509_pem"]),
     (5, ["x509_report_parts"]),
     (2, ["x509_report_fields", "x509_inspect_parts"]),
     (0, ["x509_inspect", "cimaroly_work"]),
