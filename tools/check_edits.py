@@ -32,7 +32,7 @@ BUDGETS = [
     (2, ["x509_oids_algorithms", "x509_oids_objects"]),
     (6, ["x509_pem"]),
     (5, ["x509_report_parts"]),
-    (2, ["x509_report_fields", "x509_inspect_parts"]),
+    (3, ["x509_oid_names", "x509_report_fields", "x509_inspect_parts"]),
     (0, ["x509_inspect", "cimaroly_work"]),
 ]
 
