@@ -1,0 +1,84 @@
+// A structure that was taken: its bytes, and what the library says of them.
+
+import { kindsOf } from "./input.mjs";
+import { captionOf, isPrivate, titleOf } from "./summary.mjs";
+
+/** One structure. */
+export class Structure {
+  constructor(cimaroly, { file, line, label, kind, bytes, outcome, reason }) {
+    Object.assign(this, { cimaroly, file, line, label, bytes, outcome, reason });
+    this.labelKind = kind;
+  }
+
+  /** As which types the bytes are read where no label says it; the first is taken. */
+  get kinds() {
+    if (this.bytes === undefined || this.reason !== undefined) return [];
+    this.foundKinds ??= this.labelKind ? [this.labelKind] : kindsOf(this.bytes, (bytes, kind) => this.refusedAt(bytes, kind));
+    return this.foundKinds;
+  }
+
+  refusedAt(bytes, kind) {
+    try {
+      this.cimaroly.check(bytes, kind);
+      return null;
+    } catch (error) {
+      if (error instanceof this.cimaroly.Refused) return error.at;
+      throw error;
+    }
+  }
+
+  /** As which type it is read. */
+  get kind() {
+    return this.chosenKind ?? this.kinds[0] ?? null;
+  }
+
+  /** Reads it as another type from now on. */
+  readAs(kind) {
+    this.chosenKind = kind;
+    this.text = undefined;
+    this.told = undefined;
+  }
+
+  /** The report as JSON, without secret numbers. */
+  get reportText() {
+    this.text ??= this.cimaroly.reportText(this.bytes, this.kind);
+    return this.text;
+  }
+
+  /** The report. */
+  get report() {
+    if (this.kind === null) return { result: this.outcome ?? "refused", reason: this.reason };
+    this.told ??= this.cimaroly.parseReport(this.reportText);
+    return this.told;
+  }
+
+  /** The report with the secret numbers, which is kept nowhere. */
+  reportWithSecrets() {
+    return this.cimaroly.report(this.bytes, this.kind, { secrets: true });
+  }
+
+  /** Whether it is, or may be, a private key: a label or a type says so, or it is refused and begins with a version. */
+  get isPrivate() {
+    if (this.label?.includes("PRIVATE") || this.kinds.some(isPrivate) || (this.kind && isPrivate(this.kind))) return true;
+    return this.report.result === "refused" && beginsWithVersion(this.bytes);
+  }
+
+  /** What it is called. */
+  get title() {
+    return this.kind === null ? (this.label ?? "No structure") : titleOf(this.kind);
+  }
+
+  /** Whose it is, or why it isn't read. */
+  get caption() {
+    const { report } = this;
+    if (report.result === "refused" || report.result === "passed over") return `${report.result}: ${report.reason}`;
+    return captionOf(report, this.bytes);
+  }
+}
+
+// Whether the bytes begin as a SEQUENCE whose first element is a small INTEGER, as private keys do.
+function beginsWithVersion(bytes) {
+  if (bytes === undefined || bytes[0] !== 0x30) return false;
+  const content = bytes[1] > 0x80 ? 2 + (bytes[1] & 0x7f) : 2;
+  return bytes[content] === 2 && bytes[content + 1] === 1;
+}
