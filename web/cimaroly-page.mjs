@@ -1,22 +1,24 @@
 // The page: takes files, text and links, and shows each structure in them.
 
-import * as cimaroly from "./cimaroly.mjs";
-import { at } from "./page/dom.mjs";
+import { at, make } from "./page/dom.mjs";
 import { fromFragment, structuresIn } from "./page/input.mjs";
 import { List } from "./page/list.mjs";
 import { Result } from "./page/result.mjs";
 import { SAMPLES } from "./page/samples.mjs";
-import { make } from "./page/dom.mjs";
 import { Structure } from "./page/structure.mjs";
-
-const result = new Result(cimaroly);
-const list = new List((structure) => result.show(structure));
 
 function tell(text) {
   const message = at("message");
   message.textContent = text;
   message.hidden = text === "";
 }
+
+const cimaroly = await import("./cimaroly.mjs").catch((error) => {
+  tell(`What reads certificates couldn’t be loaded: ${error.message}`);
+  throw error;
+});
+const result = new Result(cimaroly);
+const list = new List((structure) => result.show(structure));
 
 /** Shows the structures of some inputs, each its bytes and its name. */
 function take(inputs) {

@@ -149,14 +149,21 @@ class Room {
   }
 }
 
+// (a 64-bit memory takes a BigInt, and took a number before that was settled)
+const counts = isLowered ? [Number] : [BigInt, Number];
+
 function grow(memory, size) {
   const missing = Math.ceil((size - memory.buffer.byteLength) / PAGE);
   if (missing <= 0) return;
-  try {
-    memory.grow(isLowered ? missing : BigInt(missing));
-  } catch {
-    throw new RangeError("out of memory");
+  for (const count of counts) {
+    try {
+      memory.grow(count(missing));
+      return;
+    } catch (error) {
+      if (!(error instanceof TypeError)) break;
+    }
   }
+  throw new RangeError("out of memory");
 }
 
 /**

@@ -100,12 +100,25 @@ function isHash(field, value) {
   return field.parent.label === "maskGenAlgorithm" && value.kind === "word";
 }
 
+// The field right inside of one that covers a place. They stand in order but for those of an authority key identifier.
+function innerOver({ inner }, start, end) {
+  let from = 0;
+  let to = inner.length;
+  while (to - from > 8) {
+    const middle = (from + to) >> 1;
+    if (inner[middle].start <= start) from = middle;
+    else to = middle;
+  }
+  const near = inner.length > 8 ? inner.slice(from, to) : inner;
+  return near.find((it) => it.start <= start && end <= it.end);
+}
+
 /** The innermost field that covers a place; null where there is none. */
 export function fieldOver(fields, start, end) {
   let found = fields[0];
   if (found === undefined || start < found.start || end > found.end) return null;
   for (;;) {
-    const inner = found.inner.find((it) => it.start <= start && end <= it.end);
+    const inner = innerOver(found, start, end);
     if (inner === undefined) return found;
     found = inner;
   }

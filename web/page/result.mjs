@@ -8,7 +8,7 @@ import { headerLength } from "./elements.mjs";
 import { fieldOver, fieldsOf } from "./fields.mjs";
 import { KINDS, toBase64 } from "../pem.mjs";
 import { summaryOf, titleOf } from "./summary.mjs";
-import { counted, grouped, shown } from "./text.mjs";
+import { counted, grouped, hexOf, shown } from "./text.mjs";
 import { Tree } from "./tree.mjs";
 
 const FIRST = 24;
@@ -89,7 +89,7 @@ export class Result {
     at("copy-link").disabled = this.whyNoLink() !== "";
     at("copy-link").title = this.whyNoLink();
     at("kind").value = structure.kind ?? "";
-    at("kind").parentElement.hidden = structure.kind === null;
+    at("kind").parentElement.hidden = structure.bytes === undefined;
     this.drawOthers();
   }
 
@@ -228,9 +228,14 @@ export class Result {
   /** Selects the field of a byte. */
   pick(byte) {
     const field = this.bytes.fieldAt(byte);
-    if (field === null) return;
+    if (field === null) {
+      this.covered.fill(0);
+      return;
+    }
     if (this.covered[byte] && field.isSecret) this.uncover(field);
     this.tree.select(field);
+    const path = field.path.slice(-2).map((it) => shown(it.label));
+    at("spoken").textContent = `byte ${byte}: ${hexOf(this.raw[byte])}, in ${path.join(", ")}`;
   }
 
   /** Goes to a place: selects the field over it, and lights up its bytes. */

@@ -23,6 +23,7 @@ export class Structure {
       return null;
     } catch (error) {
       if (error instanceof this.cimaroly.Refused) return error.at;
+      if (isFailure(error)) return -1;
       throw error;
     }
   }
@@ -48,7 +49,12 @@ export class Structure {
   /** The report. */
   get report() {
     if (this.kind === null) return { result: this.outcome ?? "refused", reason: this.reason };
-    this.told ??= this.cimaroly.parseReport(this.reportText);
+    try {
+      this.told ??= this.cimaroly.parseReport(this.reportText);
+    } catch (error) {
+      if (!isFailure(error)) throw error;
+      this.told = { result: "refused", reason: `this can't be read here: ${error.message}` };
+    }
     return this.told;
   }
 
@@ -74,6 +80,11 @@ export class Structure {
     if (report.result === "refused" || report.result === "passed over") return `${report.result}: ${report.reason}`;
     return captionOf(report, this.bytes);
   }
+}
+
+// Whether an error says that memory or the engine gave out, rather than what the input is.
+function isFailure(error) {
+  return error instanceof RangeError || error instanceof WebAssembly.RuntimeError;
 }
 
 // Whether the bytes begin as a SEQUENCE whose first element is a small INTEGER, as private keys do.

@@ -44,7 +44,12 @@ const { server, address } = await serve();
 const browser = await Browser.start();
 let failed = checks.length;
 try {
-  failed = await runAll(browser, process.env.PAGE_ADDRESS ?? address);
+  // (where the page doesn't load, none of it can be checked)
+  const first = await browser.open(address);
+  await first.close();
+  failed = await runAll(browser, address);
+} catch (error) {
+  console.log(error.stack);
 } finally {
   await browser.end();
   server.kill();
