@@ -69,21 +69,23 @@ export class Refused extends Error {
 // A module whose one memory has 64-bit addresses.
 const WITH_MEMORY64 = new Uint8Array([0, 97, 115, 109, 1, 0, 0, 0, 5, 3, 1, 4, 1]);
 
-async function bytesOf(name) {
-  const url = new URL(name, import.meta.url);
+/** Whether the module is the one that was lowered to 32-bit memories, a translation that no proof covers. */
+export const isLowered = !WebAssembly.validate(WITH_MEMORY64);
+
+// (bundlers find files that are named in this way)
+const file = isLowered ? new URL("cimaroly32.wasm", import.meta.url) : new URL("cimaroly.wasm", import.meta.url);
+
+async function bytesOf(url) {
   if (url.protocol === "file:") {
     const { readFile } = await import("node:fs/promises");
     return readFile(url);
   }
   const answer = await fetch(url);
-  if (!answer.ok) throw new Error(`${name} can't be loaded: status ${answer.status}`);
+  if (!answer.ok) throw new Error(`${url.pathname} can't be loaded: status ${answer.status}`);
   return answer.arrayBuffer();
 }
 
-/** Whether the module is the one that was lowered to 32-bit memories. */
-export const isLowered = !WebAssembly.validate(WITH_MEMORY64);
-
-const module = await WebAssembly.compile(await bytesOf(isLowered ? "cimaroly32.wasm" : "cimaroly.wasm"));
+const module = await WebAssembly.compile(await bytesOf(file));
 let instance = await WebAssembly.instantiate(module, {});
 
 const aligned = (size) => Math.ceil(size / 16) * 16;

@@ -1,6 +1,5 @@
 // What a structure is, in a few lines: whose it is, how long it is valid, which key it has.
 
-import { fieldOver } from "./fields.mjs";
 import { counted, grouped, shown } from "./text.mjs";
 import { isNode, valueOf } from "./values.mjs";
 
@@ -196,9 +195,4 @@ export function previewOf(field, bytes) {
 
 function validityLine({ notBefore, notAfter }) {
   return `${notBefore.value} to ${notAfter.value}`;
-}
-
-/** The names of the fields that a place lies in, from below the whole in. */
-export function pathOver(fields, [start, end]) {
-  return (fieldOver(fields, start, end)?.path ?? []).slice(1);
 }

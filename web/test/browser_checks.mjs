@@ -394,9 +394,9 @@ async function looks(context) {
 }
 
 async function wholeScreenshot(context) {
-  return withPage(context, { width: 1180, height: 1640 }, async (page) => {
+  return withPage(context, { width: 1180, height: 1260 }, async (page) => {
     await page.drop("certificate_deviations.pem", sample("certificate_deviations.pem"));
-    await page.run(`document.querySelectorAll(".deviation")[4].click(); scrollTo(0, 0)`);
+    await page.run(`document.querySelectorAll(".deviation")[0].click(); scrollTo(0, 0)`);
     await new Promise((resolve) => setTimeout(resolve, 200));
     await context.keep(page, "page");
   });
