@@ -236,14 +236,15 @@ function verdictOf(der, kind) {
   }
 }
 
-function placesOf(der, kind, count) {
-  if (count === 0) return [];
+function placesOf(der, kind, total) {
+  if (total === 0) return [];
   const call = (room) => {
     room.unit = 24;
     const [out, , result] = room.output;
-    return room.call("cimaroly_places", numberOf(kind), ...room.input, out, BigInt(Math.floor(room.outSize / 24)), result);
+    const count = BigInt(Math.floor(room.outSize / 24));
+    return room.call("cimaroly_places", numberOf(kind), ...room.input, out, count, result);
   };
-  return run(kind, der, 24 * count, call, (room) =>
+  return run(kind, der, 24 * total, call, (room) =>
     Array.from({ length: room.word(0) }, (_, index) => {
       const at = room.out + 24 * index;
       const number = room.word(0, at);
@@ -275,7 +276,8 @@ function told(der, kind, secrets) {
 function signedPartOf(der, kind) {
   if (kind !== "certificate" && kind !== "request") return null;
   const call = (room) => room.call("cimaroly_signed_part", numberOf(kind), ...room.input, BigInt(room.result));
-  return run(kind, der, 0, call, (room) => ({ ...room.span(0), inside: room.words(2, 10), outside: room.words(12, 10) }));
+  const take = (room) => ({ ...room.span(0), inside: room.words(2, 10), outside: room.words(12, 10) });
+  return run(kind, der, 0, call, take);
 }
 
 function fieldsOf(der, kind) {
@@ -295,7 +297,8 @@ function extensionsOf(der, kind) {
   const call = (room) => {
     room.unit = 64;
     const [out, , result] = room.output;
-    return room.call("cimaroly_extensions", numberOf(kind), ...room.input, out, BigInt(Math.floor(room.outSize / 64)), result);
+    const count = BigInt(Math.floor(room.outSize / 64));
+    return room.call("cimaroly_extensions", numberOf(kind), ...room.input, out, count, result);
   };
   return run(kind, der, 64 * 32, call, (room) =>
     Array.from({ length: room.word(0) }, (_, index) => {

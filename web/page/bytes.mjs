@@ -134,8 +134,9 @@ export class Bytes {
     for (let byte = from; byte < to; byte += 1) {
       const isCovered = this.handlers.isCovered(byte);
       const name = this.classOf(byte) + (byte === this.cursor ? " cursor" : "") + (isCovered ? " covered" : "");
-      cells.append(make("span", { class: `byte ${name}`, "data-byte": byte }, isCovered ? "··" : hexOf(this.bytes[byte])));
-      if (hasText) characters.append(make("span", { class: name, "data-byte": byte }, isCovered ? "·" : glyph(this.bytes[byte])));
+      const [digits, character] = isCovered ? ["··", "·"] : [hexOf(this.bytes[byte]), glyph(this.bytes[byte])];
+      cells.append(make("span", { class: `byte ${name}`, "data-byte": byte }, digits));
+      if (hasText) characters.append(make("span", { class: name, "data-byte": byte }, character));
     }
     const offset = make("span", { class: "offset" }, from.toString(16).padStart(this.digits, "0"));
     return make("div", { class: "row" }, offset, cells, hasText ? characters : null);

@@ -46,7 +46,8 @@ function factsOf({ start, end, node }, bytes) {
   const header = headerLength(bytes, start, end);
   const id = node.id === undefined ? "" : ` · ${node.id}`;
   const critical = node.critical === undefined ? "" : node.critical ? " · critical" : " · not critical";
-  return `${tagName(bytes, start)} · bytes ${start}..${end}: ${header} of header, ${counted(end - start - header, "byte")} of content${id}${critical}`;
+  const sizes = `${header} of header, ${counted(end - start - header, "byte")} of content`;
+  return `${tagName(bytes, start)} · bytes ${start}..${end}: ${sizes}${id}${critical}`;
 }
 
 function cut(text) {

@@ -5,6 +5,7 @@ import { KINDS, fromBase64, kindOfLabel, pemBlocks } from "../pem.mjs";
 /** How many bytes an input may have. */
 export const LONGEST = 1 << 25;
 
+const OTHER = "the label is of no type that is read";
 const NOTHING = "there is no PEM block of a type that is read, no DER and no hexadecimal";
 
 function textOf(bytes) {
@@ -28,7 +29,7 @@ function pemStructures(text) {
     const kind = kindOfLabel(block.label) ?? null;
     const { label, line } = block;
     if (block.reason) found.push({ label, line, kind: null, outcome: "refused", reason: block.reason });
-    else if (kind === null) found.push({ ...block, kind, outcome: "passed over", reason: "the label is of no type that is read" });
+    else if (kind === null) found.push({ ...block, kind, outcome: "passed over", reason: OTHER });
     else found.push({ ...block, kind });
   }
   return found;

@@ -150,9 +150,10 @@ export class Result {
     const [start, end] = place;
     const path = (fieldOver(this.fields, start, end)?.path ?? []).slice(-2);
     const where = path.map((it) => shown(it.label)).join(" › ");
+    const told = `${name}: bytes ${start} to ${end}, ${where}`;
     return make(
       "button",
-      { type: "button", class: "deviation", "aria-label": `${name}: bytes ${start} to ${end}, ${where}`, onclick: () => this.go(place) },
+      { type: "button", class: "deviation", "aria-label": told, onclick: () => this.go(place) },
       make("span", { class: "place" }, `${start}..${end}`),
       make("span", { class: "where" }, where),
     );

@@ -13,7 +13,8 @@ export class Structure {
   /** As which types the bytes are read where no label says it; the first is taken. */
   get kinds() {
     if (this.bytes === undefined || this.reason !== undefined) return [];
-    this.foundKinds ??= this.labelKind ? [this.labelKind] : kindsOf(this.bytes, (bytes, kind) => this.refusedAt(bytes, kind));
+    const refusedAt = (bytes, kind) => this.refusedAt(bytes, kind);
+    this.foundKinds ??= this.labelKind ? [this.labelKind] : kindsOf(this.bytes, refusedAt);
     return this.foundKinds;
   }
 
@@ -58,7 +59,7 @@ export class Structure {
     return this.told;
   }
 
-  /** The report with the secret numbers, which is kept nowhere. */
+  /** The report with the secret numbers. */
   reportWithSecrets() {
     return this.cimaroly.report(this.bytes, this.kind, { secrets: true });
   }

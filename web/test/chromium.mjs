@@ -104,6 +104,10 @@ export class Browser {
   }
 }
 
+function textOf({ exception, text }) {
+  return exception?.description ?? text;
+}
+
 /** A page of the browser. */
 class Page {
   constructor(browser, session, target) {
@@ -116,8 +120,10 @@ class Page {
 
   // What the page says on its console, and whatever it asks the network for.
   hear({ method, params }) {
-    if (method === "Runtime.exceptionThrown") this.said.push(params.exceptionDetails.exception?.description ?? params.exceptionDetails.text);
-    if (method === "Runtime.consoleAPICalled") this.said.push(`${params.type}: ${params.args.map((it) => it.value).join(" ")}`);
+    if (method === "Runtime.exceptionThrown") this.said.push(textOf(params.exceptionDetails));
+    if (method === "Runtime.consoleAPICalled") {
+      this.said.push(`${params.type}: ${params.args.map((it) => it.value).join(" ")}`);
+    }
     if (method === "Log.entryAdded") this.said.push(`${params.entry.level}: ${params.entry.text} ${params.entry.url ?? ""}`);
     if (method === "Network.requestWillBeSent") this.requested.push(params.request.url);
   }
@@ -136,7 +142,7 @@ class Page {
   /** What an expression comes to in the page. */
   async run(expression) {
     const answer = await this.send("Runtime.evaluate", { expression, awaitPromise: true, returnByValue: true });
-    if (answer.exceptionDetails) throw new Error(answer.exceptionDetails.exception?.description ?? expression);
+    if (answer.exceptionDetails) throw new Error(textOf(answer.exceptionDetails));
     return answer.result.value;
   }
 

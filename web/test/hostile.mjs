@@ -36,13 +36,19 @@ const alternative = (text) => element(0x82, text);
 /** A certificate of 100 KB. */
 export const LARGE = keyCertificate(
   name("a certificate of 100 KB"),
-  Array.from({ length: 2700 }, (_, index) => alternative(`host-${String(index).padStart(4, "0")}.department-${index % 17}.example.org`)),
+  Array.from({ length: 2700 }, (_, index) =>
+    alternative(`host-${String(index).padStart(4, "0")}.department-${index % 17}.example.org`),
+  ),
 );
 
 /** Names that are markup. */
 export const MARKUP = keyCertificate(
-  name("<img src=x onerror=\"document.title='taken'\">", "<script>document.title='taken'</script>", "</span><iframe src=//example.org>"),
-  [alternative("\"><svg onload=alert(1)>"), alternative("javascript:alert(1)"), alternative("${alert(1)}")],
+  name(
+    "<img src=x onerror=\"document.title='taken'\">",
+    "<script>document.title='taken'</script>",
+    "</span><iframe src=//example.org>",
+  ),
+  ['"><svg onload=alert(1)>', "javascript:alert(1)", "${alert(1)}"].map(alternative),
 );
 
 // Lists in lists, each with the length that is left.
@@ -56,6 +62,8 @@ function nested(tag) {
   return bytes;
 }
 
+const MANY = Array.from({ length: 100_000 }, (_, index) => alternative(`n${index}`));
+
 /** Inputs of a megabyte. */
 export const NESTED = [
   ["lists in lists", nested(0x30)],
@@ -63,7 +71,7 @@ export const NESTED = [
   ["lists of no length", Buffer.alloc(MEGABYTE, "3080", "hex")],
   ["empty lists", element(0x30, Buffer.alloc(MEGABYTE - 5, "3000", "hex"))],
   ["zeros", element(0x30, Buffer.alloc(MEGABYTE))],
-  ["many names", keyCertificate(name("many"), Array.from({ length: 100_000 }, (_, index) => alternative(`n${index}`)))],
+  ["many names", keyCertificate(name("many"), MANY)],
   ["a long name", keyCertificate(name("\u202e\u0007<b>".repeat(130_000)), [])],
   ["deep names", keyCertificate(nested(0x30), [])],
 ];

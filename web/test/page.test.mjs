@@ -69,13 +69,13 @@ test("where no type accepts bytes, that counts which got furthest", () => {
 
 test("links hold structures, and never private keys", () => {
   assert.deepEqual(fromFragment("#certificate=MAA"), { kind: "certificate", bytes: Uint8Array.from([0x30, 0]) });
-  for (const it of ["#private-key=MAA", "#ec-private-key=MAA", "#certificate=M", "#other=MAA", "#", "#certificate=MA A"]) {
-    assert.equal(fromFragment(it), null, it);
-  }
+  const others = ["private-key=MAA", "ec-private-key=MAA", "certificate=M", "other=MAA", "", "certificate=MA A"];
+  for (const it of others) assert.equal(fromFragment(`#${it}`), null, it);
 });
 
 test("what has no glyph is escaped", () => {
-  assert.equal(shown("\u001b[31m\u202e\u200b\u{e0041}\ue000\ud800"), "\\u{1b}[31m\\u{202e}\\u{200b}\\u{e0041}\\u{e000}\\u{d800}");
+  assert.equal(shown("\u001b[31m\u202e\u200b"), "\\u{1b}[31m\\u{202e}\\u{200b}");
+  assert.equal(shown("\u{e0041}\ue000\ud800"), "\\u{e0041}\\u{e000}\\u{d800}");
   assert.equal(shown("Gründe 中文 😀 <b>"), "Gründe 中文 😀 <b>");
   assert.equal(shown('a"b\\c', "quotes"), 'a\\"b\\\\c');
   assert.equal(shown("a,b+c", "name"), "a\\,b\\+c");

@@ -13,7 +13,8 @@ import { linesOf, shownOf } from "./shown.mjs";
 const NOT_HERE = PROGRAM === null && "the program isn't there: set CIMAROLY, or build dist/cimaroly";
 
 // The samples that hold a structure, each with it.
-const read = SAMPLES.map((name) => [name, new Structure(cimaroly, structuresIn(sample(name))[0])]).filter(([, it]) => it.kind !== null);
+const structures = SAMPLES.map((name) => [name, new Structure(cimaroly, structuresIn(sample(name))[0])]);
+const read = structures.filter(([, it]) => it.kind !== null);
 
 // What the program tells besides of where the bytes come from.
 function told(line) {
