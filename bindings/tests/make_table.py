@@ -365,7 +365,7 @@ def told_by_openssl(der):
     """Names, times and the serial number of a certificate that OpenSSL reads."""
     text = openssl(
         *("x509", "-inform", "DER", "-noout", "-startdate", "-enddate", "-dateopt", "iso_8601"),
-        *("-subject", "-nameopt", "esc_2253,esc_ctrl,esc_msb,sep_comma_plus_space,sname", "-serial"),
+        *("-subject", "-nameopt", "esc_2253,esc_ctrl,esc_msb,utf8,sep_comma_plus_space,sname", "-serial"),
         data=der,
     ).decode()
     said = dict(line.split("=", 1) for line in text.splitlines())
