@@ -15,7 +15,7 @@ import os
 import sys
 from collections.abc import Iterator
 
-import dask.bag
+from dask.bag import from_sequence  # type: ignore[attr-defined]
 from dask.distributed import Client, LocalCluster
 
 import cimaroly
@@ -63,7 +63,7 @@ def total(folder: str) -> collections.Counter[str]:
     files = files_of(folder)
     if not files:
         return collections.Counter()
-    bag = dask.bag.from_sequence(files, partition_size=FILES).map(found_in)
+    bag = from_sequence(files, partition_size=FILES).map(found_in)
     whole: collections.Counter[str] = bag.fold(lambda one, other: one + other, initial=collections.Counter()).compute()
     return whole
 

@@ -199,7 +199,8 @@ class Input(unittest.TestCase):
 
     def test_forms(self) -> None:
         der, pem = input_of("certificate_ec.pem"), file("certificate_ec.pem")
-        for data in (der, bytearray(der), memoryview(der), pem, pem.decode(), b"text: 1\r\n" + pem, pem.replace(b"\n", b"\r\n")):
+        forms: list[cimaroly.Data] = [der, bytearray(der), memoryview(der), pem, pem.decode()]
+        for data in (*forms, b"text: 1\r\n" + pem, pem.replace(b"\n", b"\r\n")):
             self.assertEqual(cimaroly.read(data).der, der)
             self.assertTrue(cimaroly.check(data).is_der)
 
@@ -252,10 +253,11 @@ class Objects(unittest.TestCase):
     def test_names_are_those_of_the_header(self) -> None:
         with open(HEADER, encoding="utf-8") as it:
             header = it.read()
-        for enum, begin in ((Deviation, "CIMAROLY_"), (Reason, "CIMAROLY_ERROR_")):
-            for member in enum:
-                self.assertRegex(header, rf"\b{begin}{member.name} = {member.value}\b")
-                self.assertIn(f'"{member.text}"', header)
+        members: list[Deviation | Reason] = [*Deviation, *Reason]
+        for member in members:
+            begin = "CIMAROLY_" if isinstance(member, Deviation) else "CIMAROLY_ERROR_"
+            self.assertRegex(header, rf"\b{begin}{member.name} = {member.value}\b")
+            self.assertIn(f'"{member.text}"', header)
         for number, kind in enumerate(cimaroly.KINDS, 1):
             self.assertRegex(header, rf"\bCIMAROLY_{kind.upper().replace('-', '_')} = {number}\b")
 
