@@ -3,6 +3,7 @@
 The library is that of dist/, or of the folder that the variable CIMAROLY_LIB_DIR names.
 """
 
+import base64
 import csv
 import importlib.util
 import os
@@ -172,6 +173,50 @@ class Rust(BindingTest):
         self.cargo("clippy", "--all-targets", "--", "-D", "warnings")
         self.ran("cargo", "fmt", "--check", folder=f"{BINDINGS}/rust")
         self.cargo("doc", "--quiet", RUSTDOCFLAGS="-D warnings")
+
+
+def snippet(language):
+    """The first code of a language in docs/BINDINGS.md."""
+    with open(f"{ROOT}/docs/BINDINGS.md", encoding="utf-8") as file:
+        return re.search(rf"^```{language}\n(.*?)^```$", file.read(), re.DOTALL | re.MULTILINE).group(1)
+
+
+class Snippets(BindingTest):
+    """What docs/BINDINGS.md shows, on a certificate with two deviations."""
+
+    def setUp(self):
+        self.place = self.folder()
+        shutil.copy(f"{DATA}/deviation_1_rsa_parameters.pem", f"{self.place}/cert.pem")
+        with open(f"{self.place}/cert.pem", encoding="utf-8") as file:
+            digits = "".join(it for it in file if not it.startswith("-----"))
+        self.write("cert.der", base64.b64decode(digits))
+
+    def write(self, name, content):
+        os.makedirs(os.path.dirname(f"{self.place}/{name}"), exist_ok=True)
+        with open(f"{self.place}/{name}", "wb") as file:
+            file.write(content)
+
+    def test_c(self):
+        program = (
+            '#include "cimaroly.h"\n#include <stdio.h>\nint main(void) {\nuint8_t der[4096];\n'
+            'size_t size = fread(der, 1, sizeof der, fopen("cert.der", "rb"));\n' + snippet("c") + "return 0;\n}\n"
+        )
+        self.write("main.c", program.encode())
+        self.ran("cc", "-Wall", "-Wextra", f"-I{BINDINGS}/c", "main.c", ARCHIVE, "-o", "main", folder=self.place)
+        self.assertIn("2 times RSA parameters absent\n0 times algorithm", self.ran(f"{self.place}/main", folder=self.place))
+
+    def test_python(self):
+        self.write("main.py", snippet("python").encode())
+        printed = self.ran(sys.executable, "main.py", folder=self.place, PYTHONPATH=f"{BINDINGS}/python")
+        self.assertEqual(printed, "RSA parameters absent 13 26\nRSA parameters absent 106 119\n3000 deviations\n")
+
+    def test_rust(self):
+        program = f"fn main() -> Result<(), Box<dyn std::error::Error>> {{\n{snippet('rust')}Ok(())\n}}\n"
+        manifest = f'[package]\nname = "snippet"\nedition = "2021"\n[dependencies]\ncimaroly.path = "{BINDINGS}/rust"\n'
+        self.write("src/main.rs", program.encode())
+        self.write("Cargo.toml", manifest.encode())
+        printed = self.ran("cargo", "run", "--offline", "--quiet", folder=self.place)
+        self.assertEqual(printed, "[01]\n13..26: Some(RsaParametersAbsent)\n106..119: Some(RsaParametersAbsent)\n")
 
 
 class Table(unittest.TestCase):
