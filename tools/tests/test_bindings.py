@@ -29,6 +29,16 @@ def table():
         return list(csv.DictReader(file, delimiter="\t", quoting=csv.QUOTE_NONE))
 
 
+def path_of(row, folder):
+    """The file of a row's input, which is written to a folder where the table has its digits."""
+    if "." in row["input"]:
+        return f"{DATA}/{row['input']}"
+    path = f"{folder}/{row['name']}.der"
+    with open(path, "wb") as file:
+        file.write(bytes.fromhex(row["input"]))
+    return path
+
+
 @NEEDS_LIBRARY
 class BindingTest(unittest.TestCase):
     """What a command prints, which must be there and end well."""
@@ -73,7 +83,7 @@ class C(BindingTest):
         self.ran("cc", "-std=c99", f"{BINDINGS}/c/examples/inspect.c", *flags, f"-Wl,-rpath,{place}/lib", "-o", f"{place}/inspect")
         for row in table():
             if row["not_before"] != "-":
-                printed = self.ran(f"{place}/inspect", f"{DATA}/{row['input']}")
+                printed = self.ran(f"{place}/inspect", path_of(row, place))
                 told = dict(re.findall(r"^(subject|not before|not after) +(.*)$", printed, re.MULTILINE))
                 stated = {"subject": row["subject"], "not before": row["not_before"], "not after": row["not_after"]}
                 self.assertEqual(told, stated)
@@ -81,17 +91,19 @@ class C(BindingTest):
         self.assertEqual(os.listdir(f"{place}/lib/pkgconfig"), [])
 
     def test_example(self):
-        """Deviations and refusals, with their places."""
+        """It prints deviations and refusals with their places."""
+        place = self.folder()
         self.ran("make", "-C", f"{BINDINGS}/c", "out/inspect")
         for row in table():
-            if row["kind"] == "certificate" and row["input"].endswith(".pem"):
+            if row["kind"] == "certificate":
                 status = {"ok": 0, "deviations": 3, "refused": 1}[row["result"]]
-                printed = self.ran(f"{BINDINGS}/c/out/inspect", f"{DATA}/{row['input']}", status=status)
+                printed = self.ran(f"{BINDINGS}/c/out/inspect", path_of(row, place), status=status)
                 places = re.findall(r"^deviation .*, at (\d+\.\.\d+)$", printed, re.MULTILINE)
                 stated = [] if row["deviations"] == "-" else [it.split("@")[1] for it in row["deviations"].split()]
                 self.assertEqual(places, stated)
                 found = re.findall(r"^refused .* at byte (\d+)$", printed, re.MULTILINE)
-                self.assertEqual(found, [] if row["error"] == "-" else [row["error"].split("@")[1]])
+                if row["error"] != "-":
+                    self.assertEqual(found, [row["error"].split("@")[1]])
 
     def test_the_shipped_header(self):
         shipped = f"{LIBRARY}/cimaroly.h"

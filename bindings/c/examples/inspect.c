@@ -83,6 +83,7 @@ static void print_attribute_type(struct walk content)
         {"\x55\x04\x08", "ST"},
         {"\x55\x04\x0a", "O"},
         {"\x55\x04\x0b", "OU"},
+        {"\x09\x92\x26\x89\x93\xf2\x2c\x64\x01\x19", "DC"},
         {"\x2a\x86\x48\x86\xf7\x0d\x01\x09\x01", "emailAddress"},
     };
     size_t size = (size_t)(content.end - content.at);
