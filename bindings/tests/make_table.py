@@ -164,8 +164,8 @@ PLACES = [
 REASONS = {
     "": (2, 0),
     "300a06082a864886f70d02": (2, 0),
-    # an algorithm that isn't known
-    "300b0609608648016503040201": (13, 2),
+    # the identifier of a hash function without its NULL, which is wanted here
+    "300b0609608648016503040201": (2, 13),
     "3100": (4, 0),
     "300000": (3, 2),
     # behind the value of an extension
