@@ -47,12 +47,12 @@ static inline int base64_value(char digit)
 }
 
 /*
- * Decodes the first PEM block of a text to its front, and tells how many bytes it has. False where there is none, or
- * something else than base64 stands in it.
+ * Decodes a PEM block of a text to the text's front, and tells how many bytes it has: the first block whose first line
+ * begins so. False where there is none, or something else than base64 stands in it.
  */
-static inline bool decode_pem(uint8_t *text, size_t *size)
+static inline bool decode_pem(uint8_t *text, const char *line, size_t *size)
 {
-    char *begin = strstr((char *)text, "-----BEGIN ");
+    char *begin = strstr((char *)text, line);
     char *body = begin != NULL ? strstr(begin + 11, "-----") : NULL;
     char *end = body != NULL ? strstr(body + 5, "-----END ") : NULL;
     unsigned bits = 0;

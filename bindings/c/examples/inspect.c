@@ -1,5 +1,6 @@
 /*
- * inspect FILE: prints the subject, the validity and the deviations of a certificate in PEM or DER.
+ * inspect FILE: prints the subject, the validity and the deviations of a certificate in PEM, which may stand among other
+ * blocks, or in DER.
  *
  * It ends with 0 where the certificate is in DER, 1 where the input is refused, 2 where it could not be read, and 3 where
  * the certificate has deviations.
@@ -209,8 +210,9 @@ int main(int argc, char **argv)
         fputs("usage: inspect FILE\n", stderr);
     else if (bytes == NULL)
         perror(argv[1]);
-    else if (strstr((const char *)bytes, "-----BEGIN ") != NULL && !decode_pem(bytes, &size))
-        fputs("inspect: the PEM block is no base64 or has no end\n", stderr);
+    else if (strstr((const char *)bytes, "-----BEGIN ") != NULL &&
+             !decode_pem(bytes, "-----BEGIN CERTIFICATE-----", &size))
+        fputs("inspect: there is no certificate in PEM, or it is no base64 or has no end\n", stderr);
     else
         status = inspect(bytes, size);
     free(bytes);

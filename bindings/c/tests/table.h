@@ -73,7 +73,7 @@ static inline uint8_t *read_input(const char *folder, const char *cell, size_t *
     if (text == NULL)
         stop("can't be read", path);
     if (is_text(end, ".pem")) {
-        if (!decode_pem(text, size))
+        if (!decode_pem(text, "-----BEGIN ", size))
             stop("has no PEM block", path);
         return text;
     }

@@ -6,6 +6,7 @@ import ctypes
 import mmap
 import os
 import threading
+from collections.abc import Callable
 from ctypes import POINTER, byref, c_bool, c_char_p, c_size_t, c_uint32, c_void_p
 from typing import Any
 
@@ -15,6 +16,8 @@ OK, REFUSED, OUT_OF_MEMORY, BUFFER_TOO_SHORT, UNKNOWN_KIND, TOO_LONG = range(6)
 
 _HERE = os.path.dirname(os.path.abspath(__file__))
 _NAME = "libcimaroly.so"
+
+_NUMBERS = {kind: number for number, kind in enumerate(KINDS, 1)}
 
 # How much memory a thread keeps between calls, and how many items or bytes a first answer has room for.
 _KEPT = 1 << 20
@@ -122,7 +125,8 @@ def _folder() -> str:
     return os.path.join(_HERE, "..", "..", "..", "dist")
 
 
-def _load() -> ctypes.CDLL:
+def _load() -> dict[str, Callable[..., int]]:
+    """The calls of the shared object, by their names."""
     path = os.path.abspath(os.path.join(_folder(), _NAME))
     try:
         library = ctypes.CDLL(path)
@@ -140,13 +144,15 @@ def _load() -> ctypes.CDLL:
     }
     for call, fields in _FIELDS.values():
         calls[call] = (POINTER(Memory), c_char_p, c_size_t, POINTER(fields))
+    loaded: dict[str, Callable[..., int]] = {}
     for name, arguments in calls.items():
-        call_itself = getattr(library, name)
-        call_itself.argtypes, call_itself.restype = arguments, c_uint32
-    return library
+        function = getattr(library, name)
+        function.argtypes, function.restype = arguments, c_uint32
+        loaded[name] = function
+    return loaded
 
 
-_LIBRARY = _load()
+_CALLS = _load()
 
 
 class _Lent:
@@ -184,11 +190,10 @@ def _lent(size: int) -> _Lent:
 
 def _asked(name: str, der: bytes, *arguments: Any) -> int:
     """The status of a call, which is given more memory until that is enough."""
-    call = getattr(_LIBRARY, name)
-    size = 16 * len(der) + 16384
+    call, size = _CALLS[name], 16 * len(der) + 16384
     while True:
         lent = _lent(size)
-        status: int = call(byref(lent.of_library), *arguments)
+        status = call(byref(lent.of_library), *arguments)
         if status != OUT_OF_MEMORY:
             return status
         size = 4 * lent.size
@@ -197,7 +202,7 @@ def _asked(name: str, der: bytes, *arguments: Any) -> int:
 def check(kind: Kind, der: bytes) -> Verdict:
     """What a check finds. Raises `Refused`."""
     verdict = Verdict()
-    status = _asked("cimaroly_check", der, KINDS.index(kind) + 1, der, len(der), byref(verdict))
+    status = _asked("cimaroly_check", der, _NUMBERS[kind], der, len(der), byref(verdict))
     if status == REFUSED:
         raise Refused(kind, verdict.error, verdict.at)
     return verdict
@@ -220,7 +225,7 @@ def _bytes(name: str, kind: Kind, der: bytes, *further: Any) -> bytes:
     while True:
         out = bytearray(size.value)
         at = ctypes.addressof(ctypes.c_char.from_buffer(out))
-        status = _asked(name, der, KINDS.index(kind) + 1, der, len(der), *further, at, len(out), byref(size))
+        status = _asked(name, der, _NUMBERS[kind], der, len(der), *further, at, len(out), byref(size))
         if _is_ok(status, kind, der):
             return bytes(memoryview(out)[: size.value])
 
@@ -240,7 +245,7 @@ def _items(name: str, kind: Kind, der: bytes, item: type[ctypes.Structure]) -> l
     count = c_size_t(_ITEMS)
     while True:
         out = (item * count.value)()
-        given = (KINDS.index(kind) + 1, der, len(der), out, len(out), byref(count))
+        given = (_NUMBERS[kind], der, len(der), out, len(out), byref(count))
         if _is_ok(_asked(name, der, *given), kind, der):
             return list(out[: count.value])
 
@@ -258,7 +263,7 @@ def extensions(kind: Kind, der: bytes) -> list[Extension]:
 def signed_part(kind: Kind, der: bytes) -> Signed:
     """What the signature covers."""
     part = Signed()
-    _is_ok(_asked("cimaroly_signed_part", der, KINDS.index(kind) + 1, der, len(der), byref(part)), kind, der)
+    _is_ok(_asked("cimaroly_signed_part", der, _NUMBERS[kind], der, len(der), byref(part)), kind, der)
     return part
 
 

@@ -71,7 +71,8 @@ class SignedPart(NamedTuple):
 
 
 def _counted(counts: Any) -> dict[Deviation, int]:
-    return {Deviation(number): count for number, count in enumerate(counts, 1) if count}
+    found = counts[:]
+    return {Deviation(number): count for number, count in enumerate(found, 1) if count} if any(found) else {}
 
 
 def _identifier(content: bytes) -> str:
