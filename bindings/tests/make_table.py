@@ -201,8 +201,8 @@ FURTHER = [
 ]
 
 # An encoding of a kind, and damages of it, each by itself: the byte that is changed, what stands there then, the error's number
-# (docs/CALLING.md), and the byte that it stands at: the first of the element, or of the primitive content, that can't be read, the
-# first that is left over, or the first of the structure whose fields don't go together.
+# (docs/CALLING.md), and the byte that it stands at: the first of the element, or of the primitive content, that can't be read,
+# the first that is left over, or the first of the structure whose fields don't go together.
 DAMAGES = [
     (
         "certificate",
@@ -227,7 +227,11 @@ DAMAGES = [
         ],
     ),
     ("name", "300d310b3009060355040313026162", [("indefinite_attribute", 5, 0x80, 5, 4), ("padded_arc", 8, 0x80, 9, 8)]),
-    ("rsa-private-key", "301b020100020101020102020103020104020105020106020107020108", [("number_of_another_tag", 5, 0x1F, 4, 5)]),
+    (
+        "rsa-private-key",
+        "301b020100020101020102020103020104020105020106020107020108",
+        [("number_of_another_tag", 5, 0x1F, 4, 5)],
+    ),
     ("ec-private-key", "30180201010401aaa00a06082a8648ce3d030107a10403020004", [("version_2", 4, 0x02, 12, 0)]),
     ("private-key", "300e020100300506032b657004020400", [("version_3", 4, 0x02, 12, 0), ("key_cut_short", 15, 0x01, 2, 14)]),
 ]
@@ -245,8 +249,8 @@ REFUSED = [
     ("a_needless_length_digit", "name", "308100", 5, 0),
 ]
 
-# The fields of what has fields, by their names in cimaroly.h: the steps to the structure, and its fields in their order, each with
-# the tag that an optional one has.
+# The fields of what has fields, by their names in cimaroly.h: the steps to the structure, and its fields in their order, each
+# with the tag that an optional one has.
 FIELDS = {
     "certificate": {
         (): ["tbs_certificate", "signature_algorithm", "signature_value"],
@@ -295,9 +299,11 @@ def extensions_by_cryptography():
         x509.OtherName(ObjectIdentifier("1.3.6.1.4.1.311.20.2.3"), b"\x0c\x01a"),
     ]
     points = [x509.DistributionPoint([x509.UniformResourceIdentifier("http://example.org/crl")], None, None, None)]
-    access = x509.AccessDescription(AuthorityInformationAccessOID.OCSP, x509.UniformResourceIdentifier("http://example.org/ocsp"))
+    responder = x509.UniformResourceIdentifier("http://example.org/ocsp")
+    access = x509.AccessDescription(AuthorityInformationAccessOID.OCSP, responder)
     usage = [True, True, False, False, True, False, False, True, False]
     net = ipaddress.ip_network("192.0.2.0/24")
+    policy = x509.PolicyInformation(ObjectIdentifier("2.5.29.32.0"), ["https://example.org/cps"])
     return [
         (x509.SubjectAlternativeName(names), False),
         (x509.IssuerAlternativeName(names[:3]), False),
@@ -305,7 +311,7 @@ def extensions_by_cryptography():
         (x509.ExtendedKeyUsage([ExtendedKeyUsageOID.SERVER_AUTH, ObjectIdentifier("1.2.3.4294967296")]), False),
         (x509.BasicConstraints(ca=True, path_length=3), True),
         (x509.NameConstraints([x509.DNSName("example.org")], [x509.IPAddress(net)]), True),
-        (x509.CertificatePolicies([x509.PolicyInformation(ObjectIdentifier("2.5.29.32.0"), ["https://example.org/cps"])]), False),
+        (x509.CertificatePolicies([policy]), False),
         (x509.PolicyConstraints(0, 3), True),
         (x509.InhibitAnyPolicy(2), True),
         (x509.CRLDistributionPoints(points), False),
