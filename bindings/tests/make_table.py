@@ -192,7 +192,11 @@ OUTER = "300506032b6570030100"
 FURTHER = [
     ("full_certificate", "certificate", FULL),
     ("version_1", "certificate", f"3046303a{SHORT}{OUTER}"),
-    ("request_attribute", "request", "303230260201003000300a300506032b6570030100a013301106092a864886f70d010907310413027077" + OUTER),
+    (
+        "request_attribute",
+        "request",
+        "303230260201003000300a300506032b6570030100a013301106092a864886f70d010907310413027077" + OUTER,
+    ),
     ("private_key_with_public_key", "private-key", "3013020101300506032b657004020400a103030100"),
     ("empty_name", "name", "3000"),
     ("empty_extensions", "extensions", "3000"),

@@ -125,7 +125,7 @@ class Python(BindingTest):
         self.assertTrue(os.path.isfile(SHARED), f"there is no {SHARED}")
 
     def test_package(self):
-        self.ran(sys.executable, "-m", "unittest", "discover", "-s", "tests", folder=f"{BINDINGS}/python")
+        self.ran(sys.executable, "-m", "unittest", folder=f"{BINDINGS}/python")
 
     def test_types(self):
         if not shutil.which("mypy"):
