@@ -5,6 +5,7 @@ from __future__ import annotations
 import base64
 import collections
 import concurrent.futures
+import contextlib
 import csv
 import json
 import os
@@ -16,6 +17,11 @@ import sys
 import unittest
 from typing import Any
 
+try:
+    from cryptography import x509
+except ImportError:
+    x509 = None  # type: ignore[assignment]
+
 import cimaroly
 from cimaroly import Deviation, Reason
 
@@ -23,6 +29,7 @@ HERE = os.path.dirname(os.path.abspath(__file__))
 ROOT = os.path.abspath(f"{HERE}/../../..")
 DATA = f"{ROOT}/tools/tests/data"
 HEADER = f"{ROOT}/bindings/c/cimaroly.h"
+STORE = "/etc/ssl/certs"
 
 
 def file(name: str) -> bytes:
@@ -175,6 +182,34 @@ class Table(unittest.TestCase):
         with concurrent.futures.ThreadPoolExecutor(4) as pool:
             for found in pool.map(lambda _: [read(row).report() for row in READ], range(8)):
                 self.assertEqual(found, alone)
+
+
+@unittest.skipIf(x509 is None, "there is no package cryptography")
+@unittest.skipUnless(os.path.isdir(STORE), f"there is no {STORE}")
+class OfThisMachine(unittest.TestCase):
+    """The certificates that this machine trusts, as the package cryptography reads them."""
+
+    def test_certificates(self) -> None:
+        seen = 0
+        for name in sorted(os.listdir(STORE)):
+            if not name.endswith(".pem"):
+                continue
+            with open(f"{STORE}/{name}", "rb") as it:
+                data = it.read()
+            with self.subTest(name), contextlib.suppress(cimaroly.Refused):
+                self.same(cimaroly.read(data), x509.load_pem_x509_certificate(data))
+                seen += 1
+        self.assertGreater(seen, 0)
+
+    def same(self, mine: cimaroly.Structure, other: x509.Certificate) -> None:
+        self.assertEqual(mine.signed_part.data, other.tbs_certificate_bytes)
+        self.assertEqual(mine.fields["subject"].data, other.subject.public_bytes())
+        self.assertEqual(mine.fields["issuer"].data, other.issuer.public_bytes())
+        self.assertEqual(int.from_bytes(mine.fields["serial_number"].data[2:], "big"), other.serial_number)
+        told = [(it.identifier, it.critical) for it in mine.extensions]
+        self.assertEqual(told, [(it.oid.dotted_string, it.critical) for it in other.extensions])
+        if mine.is_der:
+            self.assertEqual(mine.encode(), mine.der)
 
 
 class Extensions(unittest.TestCase):
