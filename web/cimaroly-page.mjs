@@ -1,11 +1,11 @@
 // The page: takes files, text and links, and shows each structure in them.
 
 import { at, make } from "./page/dom.mjs";
+import { Entry } from "./page/entry.mjs";
 import { fromFragment, structuresIn } from "./page/input.mjs";
 import { List } from "./page/list.mjs";
 import { Result } from "./page/result.mjs";
 import { SAMPLES } from "./page/samples.mjs";
-import { Structure } from "./page/structure.mjs";
 
 function tell(text) {
   const message = at("message");
@@ -23,7 +23,7 @@ const list = new List((structure) => result.show(structure));
 /** Shows the structures of some inputs, each its bytes and its name. */
 function take(inputs) {
   const structures = inputs.flatMap(({ name, bytes }) =>
-    structuresIn(bytes).map((it) => new Structure(cimaroly, { ...it, file: name })),
+    structuresIn(bytes).map((it) => new Entry(cimaroly, { ...it, file: name })),
   );
   tell("");
   document.body.classList.add("has-result");
@@ -62,7 +62,7 @@ function takeLink() {
     return;
   }
   document.body.classList.add("has-result");
-  list.show([new Structure(cimaroly, { ...found, file: "from the link" })]);
+  list.show([new Entry(cimaroly, { ...found, file: "from the link" })]);
 }
 
 async function takeSample(name) {

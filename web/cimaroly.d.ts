@@ -12,7 +12,7 @@ export type Kind =
   | "algorithm"
   | "raw-algorithm";
 
-/** DER, or PEM as text or as bytes, of which the first block is taken. */
+/** DER; or PEM, as text or as bytes, of which the first block of the type is taken. */
 export type Input = Uint8Array | ArrayBuffer | string;
 
 /** Bytes of the input, from `start` up to `end`, without the one at `end`. */
@@ -102,7 +102,7 @@ export class Refused extends Error {
 }
 
 /** A structure that was read. */
-export class Reading implements Verdict {
+export class Structure implements Verdict {
   private constructor();
   readonly kind: Kind;
   /** Its bytes. */
@@ -145,7 +145,7 @@ export function check(data: Input, kind?: Kind): Verdict;
  * Reads the input as a value of the type.
  * @throws {Refused} It encodes none.
  */
-export function read(data: Input, kind?: Kind): Reading;
+export function read(data: Input, kind?: Kind): Structure;
 
 /**
  * The DER encoding of the value that the input encodes: where it has no deviation, these are its own bytes.

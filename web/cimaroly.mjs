@@ -1,9 +1,9 @@
-// Cimaroly as a module for browsers and for Node: X.509 structures checked, read, encoded and told of by code whose promises
-// are proved. It is the module cimaroly.wasm, or cimaroly32.wasm where there are no 64-bit memories, with the calls of
-// bindings/c/cimaroly.h.
+// Cimaroly as a module for browsers and for Node: X.509 structures checked, read, encoded and told of by code whose
+// promises are proved. It stands over cimaroly.wasm, or cimaroly32.wasm where there are no 64-bit memories, with the calls
+// of bindings/c/cimaroly.h.
 
 import { DEVIATIONS, ERRORS } from "./names.mjs";
-import { KINDS, pemBlocks } from "./pem.mjs";
+import { KINDS, kindOfLabel, pemBlocks } from "./pem.mjs";
 
 export { DEVIATIONS, KINDS };
 
@@ -91,8 +91,8 @@ let instance = await WebAssembly.instantiate(module, {});
 const aligned = (size) => Math.ceil(size / 16) * 16;
 
 /**
- * The memory of one call, behind what the module itself has there: a slot for what the call is lent, a slot for its result,
- * the input, room for what it writes, and room to work in.
+ * The memory of one call, behind what the module itself has there: a slot for what the call is lent, a slot for its
+ * result, the input, room for what it writes, and room to work in.
  */
 class Room {
   constructor(der, outSize, workSize) {
@@ -204,21 +204,23 @@ function refusal(kind, der) {
   return new Error("refused, but not by a check");
 }
 
-/** The DER of an input: bytes as they are, or those of the first PEM block of a text. */
-function derOf(data) {
-  if (typeof data === "string") return derOfText(data);
+/** The DER of an input: bytes as they are, or those of a text's first PEM block of the type. */
+function derOf(data, kind) {
+  numberOf(kind);
+  if (typeof data === "string") return derOfText(data, kind);
   const bytes = data instanceof Uint8Array ? data : new Uint8Array(data);
   const isText = bytes[0] !== 0x30 || (bytes.length > 16 && bytes[1] === 0x2d);
   const text = isText ? new TextDecoder().decode(bytes) : "";
-  return text.includes("-----BEGIN ") ? derOfText(text) : bytes;
+  return text.includes("-----BEGIN ") ? derOfText(text, kind) : bytes;
 }
 
-function derOfText(text) {
+function derOfText(text, kind) {
   for (const block of pemBlocks(text)) {
+    if (kindOfLabel(block.label) !== kind) continue;
     if (block.bytes === undefined) throw new SyntaxError(`line ${block.line}: ${block.reason}`);
     return block.bytes;
   }
-  throw new SyntaxError("the text has no PEM block");
+  throw new SyntaxError(`the text has no PEM block of the type ${kind}`);
 }
 
 function verdictOf(der, kind) {
@@ -324,7 +326,7 @@ export function parseReport(text) {
  * @throws {Refused} It encodes none.
  */
 export function check(data, kind = "certificate") {
-  return checked(derOf(data), kind);
+  return checked(derOf(data, kind), kind);
 }
 
 /**
@@ -332,12 +334,12 @@ export function check(data, kind = "certificate") {
  * @throws {Refused} It encodes none.
  */
 export function encode(data, kind = "certificate") {
-  return encoded(derOf(data), kind);
+  return encoded(derOf(data, kind), kind);
 }
 
-/** What stands in the input, as the text of the one JSON object that docs/JSON.md tells of; also where it is refused. */
+/** What stands in the input, as the text of the JSON object that docs/JSON.md tells of; also where it is refused. */
 export function reportText(data, kind = "certificate", { secrets = false } = {}) {
-  return told(derOf(data), kind, secrets);
+  return told(derOf(data, kind), kind, secrets);
 }
 
 /** The same as an object. */
@@ -346,7 +348,7 @@ export function report(data, kind = "certificate", options = {}) {
 }
 
 /** A structure that was read. */
-export class Reading {
+export class Structure {
   #signedPart;
   #fields;
   #extensions;
@@ -355,7 +357,7 @@ export class Reading {
     Object.assign(this, { der, kind }, checked(der, kind));
   }
 
-  /** What the signature of a certificate or a request covers, and how many deviations stand inside and outside of it. */
+  /** What the signature of a certificate or a request covers, and the counts of deviations inside and outside of it. */
   get signedPart() {
     this.#signedPart ??= signedPartOf(this.der, this.kind);
     return this.#signedPart;
@@ -394,5 +396,5 @@ export class Reading {
  * @throws {Refused} It encodes none.
  */
 export function read(data, kind = "certificate") {
-  return new Reading(derOf(data).slice(), kind);
+  return new Structure(derOf(data, kind).slice(), kind);
 }

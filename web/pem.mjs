@@ -65,8 +65,8 @@ function closed(open, label) {
 }
 
 /**
- * The blocks of a text, in its order: the label, the number of the BEGIN line, and the bytes, or under `reason` why there
- * are none. Text around the blocks is passed over.
+ * The blocks of a text, in its order: the label, the number of the BEGIN line, and the bytes, or under `reason` why
+ * there are none. Text around the blocks is passed over.
  */
 export function* pemBlocks(text) {
   let open = null;

@@ -36,8 +36,8 @@ function pemStructures(text) {
 }
 
 /**
- * The structures of an input, in its order: the bytes, and the PEM block's label, its line and the type that it says; or
- * under `reason` why there are none.
+ * The structures of an input, in its order: the bytes, and the PEM block's label, its line and the type that it says;
+ * or under `reason` why there are none.
  */
 export function structuresIn(bytes) {
   if (bytes.length > LONGEST) return [{ kind: null, outcome: "refused", reason: "it has more than 32 MB" }];

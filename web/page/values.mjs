@@ -42,8 +42,8 @@ function octets(text) {
   return { kind: "octets", text: front + shortHex(text), whole: text };
 }
 
-// The tag of the element whose content a string of the report has in hexadecimal, 0 where it has a whole element, and null
-// where it has none.
+// The tag of the element whose content a string of the report has in hexadecimal, 0 where it has a whole element, and
+// null where it has none.
 function heldTag(text, bytes, elements) {
   for (const { tag, start, content, end } of elements) {
     if (isHexOf(text, bytes, content, end)) return tag;

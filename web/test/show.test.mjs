@@ -3,8 +3,8 @@
 import assert from "node:assert/strict";
 import { test } from "node:test";
 import { parseReport, report, reportText } from "../cimaroly.mjs";
+import { Entry } from "../page/entry.mjs";
 import { structuresIn } from "../page/input.mjs";
-import { Structure } from "../page/structure.mjs";
 import { summaryOf } from "../page/summary.mjs";
 import * as cimaroly from "../cimaroly.mjs";
 import { DATA, PROGRAM, SAMPLES, run, sample } from "./data.mjs";
@@ -13,7 +13,7 @@ import { linesOf, shownOf } from "./shown.mjs";
 const NOT_HERE = PROGRAM === null && "the program isn't there: set CIMAROLY, or build dist/cimaroly";
 
 // The samples that hold a structure, each with it.
-const structures = SAMPLES.map((name) => [name, new Structure(cimaroly, structuresIn(sample(name))[0])]);
+const structures = SAMPLES.map((name) => [name, new Entry(cimaroly, structuresIn(sample(name))[0])]);
 const read = structures.filter(([, it]) => it.kind !== null);
 
 // What the program tells besides of where the bytes come from.

@@ -99,7 +99,8 @@ test("the module is taken that this engine has memories for", () => {
 test("PEM is taken as text and as bytes", () => {
   const bytes = sample("certificate_rsa.pem");
   const text = new TextDecoder().decode(bytes);
-  for (const input of [bytes, text, bytes.buffer, `before\n${text}`]) assert.equal(check(input).isDer, true);
+  const behindAnother = new TextDecoder().decode(sample("private_key_ec.pem")) + text;
+  for (const input of [bytes, text, bytes.buffer, behindAnother]) assert.equal(check(input).isDer, true);
   assert.throws(() => check("no block"), SyntaxError);
   assert.throws(() => check("-----BEGIN CERTIFICATE-----\nM\n-----END CERTIFICATE-----\n"), SyntaxError);
 });

@@ -1,10 +1,10 @@
-// A structure that was taken: its bytes, and what the library says of them.
+// One entry of what was taken: the bytes of a structure, and what the library says of them.
 
 import { kindsOf } from "./input.mjs";
 import { captionOf, isPrivate, titleOf } from "./summary.mjs";
 
-/** One structure. */
-export class Structure {
+/** An entry: one structure, or a PEM block that is none. */
+export class Entry {
   constructor(cimaroly, { file, line, label, kind, bytes, outcome, reason }) {
     Object.assign(this, { cimaroly, file, line, label, bytes, outcome, reason });
     this.labelKind = kind;
@@ -66,7 +66,7 @@ export class Structure {
 
   /** Whether it is, or may be, a private key: a label or a type says so, or it is refused and begins with a version. */
   get isPrivate() {
-    if (this.label?.includes("PRIVATE") || this.kinds.some(isPrivate) || (this.kind && isPrivate(this.kind))) return true;
+    if (this.label?.includes("PRIVATE") || this.kinds.some(isPrivate) || isPrivate(this.kind ?? "")) return true;
     return this.report.result === "refused" && beginsWithVersion(this.bytes);
   }
 
