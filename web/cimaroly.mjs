@@ -3,7 +3,7 @@
 // of bindings/c/cimaroly.h.
 
 import { DEVIATIONS, ERRORS } from "./names.mjs";
-import { KINDS, kindOfLabel, pemBlocks } from "./pem.mjs";
+import { KINDS, isSequence, kindOfLabel, pemBlocks } from "./pem.mjs";
 
 export { DEVIATIONS, KINDS };
 
@@ -209,8 +209,7 @@ function derOf(data, kind) {
   numberOf(kind);
   if (typeof data === "string") return derOfText(data, kind);
   const bytes = data instanceof Uint8Array ? data : new Uint8Array(data);
-  const isText = bytes[0] !== 0x30 || (bytes.length > 16 && bytes[1] === 0x2d);
-  const text = isText ? new TextDecoder().decode(bytes) : "";
+  const text = isSequence(bytes) ? "" : new TextDecoder().decode(bytes);
   return text.includes("-----BEGIN ") ? derOfText(text, kind) : bytes;
 }
 

@@ -1,4 +1,4 @@
-// PEM, the textual encodings of RFC 7468, and the types that its labels say.
+// The forms of inputs: PEM, the textual encodings of RFC 7468, the types that its labels say, and DER.
 
 /** The types that a structure is read as, in the order of their numbers in cimaroly.h. */
 export const KINDS = Object.freeze([
@@ -31,6 +31,12 @@ const LABELS = new Map([
 /** The type that a PEM label says, or undefined. */
 export function kindOfLabel(label) {
   return LABELS.get(label);
+}
+
+/** Whether bytes begin as a SEQUENCE whose length takes several bytes, as no text does, or is that of the whole. */
+export function isSequence(bytes) {
+  const length = bytes[1];
+  return bytes[0] === 0x30 && ((length >= 0x80 && length <= 0x88) || length === bytes.length - 2);
 }
 
 /** The bytes of base64 text (RFC 4648, 4) without white space, or null where it is none. */

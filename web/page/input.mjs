@@ -1,6 +1,6 @@
 // What a file or a text holds: PEM blocks, DER, or hexadecimal or base64 digits.
 
-import { KINDS, fromBase64, kindOfLabel, pemBlocks } from "../pem.mjs";
+import { KINDS, fromBase64, isSequence, kindOfLabel, pemBlocks } from "../pem.mjs";
 
 /** How many bytes an input may have. */
 export const LONGEST = 1 << 25;
@@ -11,12 +11,6 @@ const NOTHING = "there is no PEM block of a type that is read, no DER and no hex
 function textOf(bytes) {
   const isUtf16 = bytes[0] === 0xff && bytes[1] === 0xfe;
   return new TextDecoder(isUtf16 ? "utf-16le" : "utf-8").decode(bytes);
-}
-
-// Whether it begins as a SEQUENCE whose length takes several bytes, as no text does, or is that of the whole.
-function isSequence(bytes) {
-  const length = bytes[1];
-  return bytes[0] === 0x30 && ((length >= 0x80 && length <= 0x88) || length === bytes.length - 2);
 }
 
 function fromHex(digits) {
