@@ -99,8 +99,9 @@ export class Bytes {
   classOf(byte) {
     const { selected, refusedAt } = this;
     const classes = [];
-    if (refusedAt !== null) classes.push(byte < refusedAt ? "was-read" : byte === refusedAt ? "stopped" : "unread");
+    if (byte === refusedAt) classes.push("stopped");
     else if (selected !== null && byte >= selected.start && byte < selected.end) classes.push(this.shade(byte));
+    else if (refusedAt !== null) classes.push(byte < refusedAt ? "was-read" : "unread");
     else if (selected?.parent?.parent && byte >= selected.parent.start && byte < selected.parent.end) classes.push("around");
     if (this.deviant[byte]) classes.push("deviant");
     if (this.place && byte >= this.place.start && byte < this.place.end) classes.push("pointed");

@@ -1,7 +1,7 @@
 // What is told of the selected field: where it stands, its tag, and its whole value.
 
 import { make } from "./dom.mjs";
-import { headerLength, tagName } from "./elements.mjs";
+import { headerLength, wholeTagName } from "./elements.mjs";
 import { lineOf } from "./fields.mjs";
 import { previewOf } from "./summary.mjs";
 import { counted, shown } from "./text.mjs";
@@ -47,7 +47,7 @@ function factsOf({ start, end, node }, bytes) {
   const id = node.id === undefined ? "" : ` · ${node.id}`;
   const critical = node.critical === undefined ? "" : node.critical ? " · critical" : " · not critical";
   const sizes = `${header} of header, ${counted(end - start - header, "byte")} of content`;
-  return `${tagName(bytes, start)} · bytes ${start}..${end}: ${sizes}${id}${critical}`;
+  return `${wholeTagName(bytes, start)} · bytes ${start}..${end}: ${sizes}${id}${critical}`;
 }
 
 function cut(text) {

@@ -42,9 +42,15 @@ export function tagName(bytes, start) {
   const first = bytes[start];
   const number = first & 0x1f;
   if (number === 0x1f) return "high tag number";
-  const form = first & 0x20 ? "constructed" : "primitive";
   if (first < 0x40 && UNIVERSAL.has(number)) return UNIVERSAL.get(number);
-  return `[${CLASSES[first >> 6]}${number}], ${form}`;
+  return `[${CLASSES[first >> 6]}${number}]`;
+}
+
+/** The same, with its form where the name doesn't say it. */
+export function wholeTagName(bytes, start) {
+  const name = tagName(bytes, start);
+  if (!name.startsWith("[")) return name;
+  return `${name}, ${bytes[start] & 0x20 ? "constructed" : "primitive"}`;
 }
 
 /** The element that begins at a place and ends at another at the latest. */
@@ -66,8 +72,8 @@ function lastIn(bytes, start, end) {
   return null;
 }
 
-// The length that a header gives.
-function lengthAt(bytes, start, content) {
+/** The length that a header gives; 0 where that isn't said (X.690, 8.1.3.6). */
+export function lengthAt(bytes, start, content) {
   let at = start + 1;
   if ((bytes[start] & 0x1f) === 0x1f) {
     while (at < content && bytes[at] & 0x80) at += 1;

@@ -10,6 +10,7 @@ import { KINDS, toBase64 } from "../pem.mjs";
 import { summaryOf, titleOf } from "./summary.mjs";
 import { counted, grouped, hexOf, shown } from "./text.mjs";
 import { Tree } from "./tree.mjs";
+import { elementsOf } from "./unread.mjs";
 
 const FIRST = 24;
 const LONGEST_LINK = 200_000;
@@ -66,8 +67,10 @@ export class Result {
     const { structure } = this;
     at("result").hidden = false;
     this.note("");
-    this.fields = fieldsOf(report);
     this.raw = structure.bytes ?? new Uint8Array(0);
+    this.fields = fieldsOf(report);
+    this.isRead = this.fields.length > 0;
+    if (!this.isRead && !structure.isPrivate) this.fields = elementsOf(this.raw);
     this.deviations = report.deviations ?? [];
     this.drawHead(report);
     this.drawSummary(report);
@@ -83,8 +86,7 @@ export class Result {
     verdict.className = `verdict ${report.result.replace(" ", "-")}`;
     verdict.textContent = verdictOf(report);
     at("result").dataset.result = report.result;
-    const isRead = this.fields.length > 0;
-    at("save-der").disabled = !isRead;
+    at("save-der").disabled = !this.isRead;
     at("save-report").disabled = structure.kind === null;
     at("copy-link").disabled = this.whyNoLink() !== "";
     at("copy-link").title = this.whyNoLink();
@@ -169,7 +171,7 @@ export class Result {
     if (place !== undefined) where.push(`Reading stopped at byte ${grouped(place)} of ${grouped(this.raw.length)}`);
     if (field) where.push(`in ${shown(field).replaceAll(".", " › ")}`);
     const text = where.length > 0 ? `${where.join(", ")}. ` : "";
-    const rest = place === undefined ? "" : "The bytes before it are lit below; those behind it were not read.";
+    const rest = place === undefined ? "" : "The bytes before it are lit; those behind it were not read.";
     at("refusal-text").textContent = text + rest;
   }
 
@@ -180,14 +182,24 @@ export class Result {
     for (const { at: place } of this.deviations) this.markOver(place);
     this.coverSecrets(report);
     at("count").textContent = counted(this.raw.length, "byte");
-    const refusedAt = report.result === "refused" && report.at !== undefined ? report.at : null;
+    at("fields-title").textContent = this.isRead ? "Fields" : "Elements";
+    const refusedAt = report.at ?? null;
     this.bytes.show(this.raw, this.fields, this.deviations, refusedAt);
     this.tree.show(this.fields, this.raw);
-    if (this.fields.length > 0) this.light(this.fields[0]);
-    else {
-      this.detail.clear();
-      if (refusedAt !== null) this.bytes.reveal(refusedAt);
+    if (this.isRead) this.light(this.fields[0]);
+    else this.stopAt(refusedAt);
+  }
+
+  // Shows where reading stopped, and the element that stands there.
+  stopAt(place) {
+    this.detail.clear();
+    if (place === null) return;
+    const field = fieldOver(this.fields, place, place + 1);
+    if (field !== null) {
+      field.isMarked = true;
+      this.tree.select(field, { isTold: false, isRevealed: false });
     }
+    this.bytes.reveal(place);
   }
 
   markOver([start, end]) {

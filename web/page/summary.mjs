@@ -185,6 +185,7 @@ export function captionOf(report, bytes) {
 /** What stands in a field that others stand in, for where these aren't shown. */
 export function previewOf(field, bytes) {
   const { node } = field;
+  if (node.isElement) return counted(field.inner.length, "element");
   if (node.items === undefined) return field.label === "validity" ? validityLine(node) : "";
   if (node.items.length > 0 && node.items.every((it) => it.field === "RelativeDistinguishedName")) {
     return nameLine(node, bytes, 8);

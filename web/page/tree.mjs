@@ -94,7 +94,7 @@ export class Tree {
   }
 
   /** Selects a field, and opens those around it. */
-  select(field, { isTold = true } = {}) {
+  select(field, { isTold = true, isRevealed = true } = {}) {
     let isFolded = false;
     for (let it = field.parent; it !== null; it = it.parent) {
       isFolded ||= !it.isOpen;
@@ -104,7 +104,7 @@ export class Tree {
     this.active = field;
     if (isFolded) this.refresh();
     else this.mark(before);
-    this.rows.reveal(field.row, this.handlers.hidden());
+    if (isRevealed) this.rows.reveal(field.row, this.handlers.hidden());
     if (isTold) this.handlers.select(field);
   }
 

@@ -1,11 +1,14 @@
 // Values of the report as they are shown: as `cimaroly show` prints them, and whole.
 
-import { lastElements } from "./elements.mjs";
-import { counted, grouped, hexOf, quoted, shown } from "./text.mjs";
+import { elementAt, lastElements } from "./elements.mjs";
+import { counted, grouped, hex, hexOf, quoted, shown } from "./text.mjs";
 
 const WHOLE = 32;
 const FRONT = 16;
 const TEXT_TAGS = new Set([0x0c, 0x12, 0x13, 0x16, 0x1a, 0x1e]);
+const TIME_TAGS = new Set([0x17, 0x18]);
+const LONGEST_TEXT = 4000;
+const LONGEST_IDENTIFIER = 200;
 const TEXT_FIELDS = new Set(["dNSName", "rfc822Name", "uniformResourceIdentifier"]);
 
 // Whether a text is the bytes in hexadecimal with colons.
@@ -86,9 +89,40 @@ export function isNode(it) {
   return typeof it === "object" && it !== null && Array.isArray(it.at);
 }
 
+// The content of an object identifier with dots (X.690, 8.19).
+function dotted(content) {
+  const arcs = [];
+  let arc = 0n;
+  for (const byte of content) {
+    arc = arc * 128n + BigInt(byte & 0x7f);
+    if (byte & 0x80) continue;
+    if (arcs.length === 0) {
+      const first = arc < 80n ? arc / 40n : 2n;
+      arcs.push(first, arc - 40n * first);
+    } else arcs.push(arc);
+    arc = 0n;
+  }
+  return arcs.join(".");
+}
+
+// The content of an element of what isn't read: text where its tag says so.
+function elementValue({ at: [start, end] }, bytes) {
+  const element = elementAt(bytes, start, end);
+  if (element.tag & 0x20) return null;
+  if (TEXT_TAGS.has(element.tag) || TIME_TAGS.has(element.tag)) {
+    const text = quoted(decoded(bytes, element));
+    return { kind: "text", text: text.slice(0, LONGEST_TEXT), whole: text };
+  }
+  const content = bytes.subarray(element.content, end);
+  if (element.tag === 6 && content.length <= LONGEST_IDENTIFIER) return word(dotted(content));
+  const value = octets(hex(content.subarray(0, LONGEST_TEXT)));
+  return content.length > WHOLE ? { ...value, text: `${content.length} bytes, ${shortHex(value.whole)}` } : value;
+}
+
 /** The value of a node under a label, or null where it has none of its own. */
 export function valueOf(label, node, bytes) {
   const { value } = node;
+  if (node.isElement) return elementValue(node, bytes);
   if (node.hidden !== undefined) {
     const text = `${counted(node.hidden, "byte")}, not shown`;
     return { kind: "secret", text, whole: text };

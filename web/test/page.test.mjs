@@ -4,10 +4,13 @@ import assert from "node:assert/strict";
 import { test } from "node:test";
 import { fromFragment, kindsOf, structuresIn } from "../page/input.mjs";
 import { sentenceOn } from "../page/deviations.mjs";
-import { elementAt, headerLength, lastElements, tagName } from "../page/elements.mjs";
+import { elementAt, headerLength, lastElements, tagName, wholeTagName } from "../page/elements.mjs";
+import { lineOf } from "../page/fields.mjs";
 import { shown } from "../page/text.mjs";
+import { elementsOf } from "../page/unread.mjs";
 import { fromBase64, pemBlocks, toBase64 } from "../pem.mjs";
 import { SAMPLES, sample } from "./data.mjs";
+import { NESTED } from "./hostile.mjs";
 
 const bytes = (text) => new TextEncoder().encode(text);
 const block = (label, body = "MAA=") => `-----BEGIN ${label}-----\n${body}\n-----END ${label}-----\n`;
@@ -88,7 +91,8 @@ test("headers of elements are measured", () => {
   assert.equal(headerLength([0x9f, 0x81, 0x01, 0x01, 0], 0, 5), 4);
   assert.equal(headerLength([0x30], 0, 1), 1);
   assert.equal(tagName([0x30], 0), "SEQUENCE");
-  assert.equal(tagName([0xa3], 0), "[3], constructed");
+  assert.equal(tagName([0xa3], 0), "[3]");
+  assert.equal(wholeTagName([0x83], 0), "[3], primitive");
   const nested = [0x30, 5, 4, 3, 2, 1, 7];
   assert.deepEqual(lastElements(nested, 0, 7).map((it) => it.content), [2, 4, 6]);
   assert.deepEqual(elementAt(nested, 2, 7), { tag: 4, start: 2, content: 4, end: 7 });
@@ -97,6 +101,21 @@ test("headers of elements are measured", () => {
 test("nested elements are followed to a depth that ends", () => {
   const deep = new Uint8Array(100_000).fill(0x30);
   assert.ok(lastElements(deep, 0, deep.length).length <= 17);
+});
+
+test("what isn't read is told by its elements", () => {
+  const der = Uint8Array.from([0x30, 12, 0x06, 3, 0x55, 4, 3, 0x0c, 1, 0x61, 0x30, 5, 2, 9]);
+  const told = elementsOf(der).map((it) => [it.label, it.start, it.end, lineOf(it, der)]);
+  assert.deepEqual(told, [
+    ["SEQUENCE", 0, 14, ""],
+    ["OBJECT IDENTIFIER", 2, 7, "2.5.4.3"],
+    ["UTF8String", 7, 10, '"a"'],
+    ["SEQUENCE", 10, 14, ""],
+    ["INTEGER", 12, 14, "0 bytes"],
+  ]);
+  for (const [name, bytes] of NESTED) assert.ok(elementsOf(bytes).length <= 20_000, name);
+  assert.deepEqual(elementsOf(new Uint8Array(0)), []);
+  assert.deepEqual(elementsOf(Uint8Array.from([0x30])), []);
 });
 
 test("each deviation has its sentence", async () => {
