@@ -13,7 +13,9 @@ function tell(text) {
   message.hidden = text === "";
 }
 
-const cimaroly = await import("./cimaroly.mjs").catch((error) => {
+const loaded = import("./cimaroly.mjs");
+listSamples();
+const cimaroly = await loaded.catch((error) => {
   tell(`What reads certificates couldn’t be loaded: ${error.message}`);
   throw error;
 });
@@ -131,7 +133,6 @@ function listSamples() {
 
 listenToFiles();
 listenToText();
-listSamples();
 at("module").textContent = cimaroly.isLowered
   ? "This browser has no 64-bit memories, so the module was lowered to 32 bits: a translation that no proof covers."
   : "";
