@@ -7,8 +7,9 @@
 #        tools/dist.sh --after-ci SUMS  --check right after rt ci, which has built anew the programs in out/, and the
 #                                       libraries that aren't among SUMS (tools/plant.py --before-ci)
 #        tools/dist.sh --build NAME     proves and builds an artifact where that isn't done, and prints its path
-# SOURCES has the toolchain's line, and the checksum of each artifact's sources (tools/sources.sh). What is built has a record
-# beside it, FILE.sources: the checksum of its sources and its own. The last line of a comparison is 'N passed, M failed'.
+# SOURCES has the line of the toolchain that built it, and the checksum of each artifact's sources (tools/sources.sh). Where another
+# toolchain builds other bytes of the same sources, that is said, and is no fault. What is built has a record beside it,
+# FILE.sources: the checksum of its sources and its own. The last line of a comparison is 'N passed, M failed'.
 set -eu
 export LC_ALL=C
 unset CDPATH
@@ -80,12 +81,19 @@ fault_of() {
         return
     elif ! build "$2" "$3" </dev/null; then
         echo "$3 can't be built, so dist/$1 wasn't compared with it"
-    elif ! cmp -s "dist/$1" "$3"; then
+    elif cmp -s "dist/$1" "$3"; then
+        return
+    elif is_same_toolchain; then
         echo "dist/$1 has other bytes than $3, which was built here"
+    else
+        echo "dist/$1 can't be compared with $3: $(rt version) builds other bytes than $(head -n 1 dist/SOURCES)" >&2
     fi
 }
 
-# What dist/ holds beside the artifacts, and another toolchain than the one here.
+# Whether the toolchain here is the one that dist/ was built with. Another may build other bytes of the same sources.
+is_same_toolchain() { [ "$(rt version)" = "$(head -n 1 dist/SOURCES)" ]; }
+
+# What dist/ holds beside the artifacts, and a want of the toolchain.
 strays() {
     for file in dist/*; do
         name=${file#dist/}
@@ -98,8 +106,6 @@ strays() {
         return
     elif ! command -v rt >/dev/null; then
         echo "dist/ wasn't compared with a build: the toolchain's command rt isn't on the PATH"
-    elif [ "$(rt version)" != "$(head -n 1 dist/SOURCES)" ]; then
-        echo "dist/SOURCES names another toolchain than $(rt version)"
     fi
 }
 

@@ -12,7 +12,7 @@ SCRIPTS = ("bin/x509_tool", "tools/launch.sh", "tools/dist.sh", "tools/sources.s
 # What 'rt run' builds: a script that says what it was built of.
 RT = """#!/bin/sh
 case $1 in
-version) echo "a toolchain"; exit ;;
+version) echo "${RT_VERSION:-a toolchain}"; exit ;;
 run) ;;
 *) exit 2 ;;
 esac
@@ -142,6 +142,18 @@ class DistTest(unittest.TestCase):
         self.write_sums()
         self.assertEqual(self.ran(["tools/dist.sh", "--sums"])[0], "1 passed, 0 failed\n")
         self.assertIn("other bytes", self.ran(["tools/dist.sh", "--check"], 1)[0])
+
+    def test_another_toolchain(self):
+        """It may build other bytes of the same sources, which is said; checksums and sources are compared all the same."""
+        other = {"RT_VERSION": "another toolchain"}
+        self.assertEqual(self.ran(["tools/dist.sh", "--check"], **other), ("1 passed, 0 failed\n", ""))
+        self.change("dist/x509_tool", "#!/bin/sh\necho built by a toolchain\n")
+        self.write_sums()
+        output, error = self.ran(["tools/dist.sh", "--check"], **other)
+        self.assertEqual(output, "1 passed, 0 failed\n")
+        self.assertIn("another toolchain builds other bytes than a toolchain", error)
+        self.change("dist/SHA256SUMS", "")
+        self.assertIn("its checksum", self.ran(["tools/dist.sh", "--check"], 1, **other)[0])
 
     def test_a_machine_that_cannot_run_it(self):
         # (an executable with the number of another processor in its header)
