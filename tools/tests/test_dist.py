@@ -87,6 +87,10 @@ class DistTest(unittest.TestCase):
         shutil.rmtree(f"{self.root}/crates/x509_tool/out")
         self.assertEqual(self.ran(["bin/x509_tool", "a", "b c"], has_rt=False), ("first a b c\n", ""))
 
+    def test_a_link_to_it_runs(self):
+        os.symlink(f"{self.root}/bin/x509_tool", f"{self.bin}/linked")
+        self.assertEqual(self.ran(["linked", "a"], has_rt=True), ("first a\n", ""))
+
     def test_what_makes_no_other_program(self):
         """A touched source, a proof, another crate, and a comment or a line of another crate in crates.txt."""
         shutil.rmtree(f"{self.root}/crates/x509_tool/out")
@@ -182,6 +186,18 @@ class DistTest(unittest.TestCase):
         self.change("crates/x509_tool/out/x509_tool", "other")
         self.assertIn("other bytes", self.ran(["tools/dist.sh", "--after-ci", ""], 1)[0])
         self.assertFalse(self.is_built())
+
+    def test_what_the_gate_sees(self):
+        """A changed byte of what is shipped, and a source that was changed without making dist/ anew, end its comparison."""
+        shutil.rmtree(f"{self.root}/crates/x509_tool/out")
+        shutil.copytree(f"{self.root}/dist", f"{self.root}/crates/x509_tool/out")
+        self.change("dist/x509_tool", "#!/bin/sh\necho wrong\n")
+        self.assertIn("dist/x509_tool: its checksum", self.ran(["tools/dist.sh", "--after-ci", ""], 1)[0])
+        self.write_sums()
+        self.assertIn("dist/x509_tool has other bytes", self.ran(["tools/dist.sh", "--after-ci", ""], 1)[0])
+        self.ran(["tools/dist.sh"])
+        self.change("crates/low/src/lib.rt", "changed")
+        self.assertIn("built of other sources", self.ran(["tools/dist.sh", "--after-ci", ""], 1)[0])
 
     def test_what_else_stands_in_dist(self):
         self.change("dist/more", "more")

@@ -5,9 +5,11 @@ The program is that of dist/, or the one that the variable X509_TOOL names.
 
 import contextlib
 import os
+import pty
 import resource
 import subprocess
 import tempfile
+import termios
 import threading
 import time
 import unittest
@@ -185,6 +187,43 @@ class ProgramTest(unittest.TestCase):
             self.skipTest("its interpreter needs more memory to start")
         text, _ = rows.long_row(8_000_000)
         self.stops(self.run_on(["extensions"], text.encode(), preexec_fn=limit_memory), 3)
+
+
+MOST_READS = 1 << 24
+
+
+@unittest.skipUnless(os.environ.get("X509_LONG_TESTS"), "it takes a minute: X509_LONG_TESTS=1 runs it")
+class ManyReadsTest(unittest.TestCase):
+    """An input that doesn't end is given up after 2^24 reads: a terminal gives a line a read."""
+
+    def status_of(self, count):
+        """The status where the input has this many empty lines."""
+        if not os.access(PROGRAM, os.X_OK):
+            self.skipTest(f"there is no program {PROGRAM}")
+        front, back = pty.openpty()
+        how = termios.tcgetattr(back)
+        how[3] &= ~termios.ECHO
+        termios.tcsetattr(back, termios.TCSANOW, how)
+        with subprocess.Popen([PROGRAM, "name"], stdin=back, stdout=subprocess.DEVNULL, stderr=subprocess.DEVNULL) as it:
+            os.close(back)
+            # (once the program has ended, writing fails)
+            with contextlib.suppress(OSError):
+                while count:
+                    count -= os.write(front, b"\n" * min(count, 2048))
+                os.write(front, b"\x04")
+            try:
+                status = it.wait(timeout=600)
+            except subprocess.TimeoutExpired:
+                it.kill()
+                self.fail("it had not ended after ten minutes")
+            finally:
+                os.close(front)
+        return status
+
+    def test_the_last_read_that_may_be(self):
+        # (the end of the input takes a read too)
+        self.assertEqual(self.status_of(MOST_READS - 1), 2)
+        self.assertEqual(self.status_of(MOST_READS), 5)
 
 
 def limit_memory():

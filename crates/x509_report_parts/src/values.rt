@@ -5,6 +5,11 @@ ghost use Rattle.std.specs.Prelude.{◌≤◌, ◌<◌, length};
 use crate::sink::Moment;
 use std::fmt::{self, Display, Write};
 
+/// The hexadecimal digits.
+const DIGITS: [&'static str; 16] = [
+    "0", "1", "2", "3", "4", "5", "6", "7", "8", "9", "a", "b", "c", "d", "e", "f",
+];
+
 /// Bytes in lower-case hexadecimal with colons between them, as in `0a:ff`.
 #[derive(Clone, Copy, Drop)]
 pub struct Hex<'a>(pub &'a [u8]);
@@ -17,7 +22,8 @@ impl Display for Hex<'_> {
                 f.write_str(":")?;
             }
             is_first = false;
-            write!(f, "{byte:02x}")?;
+            f.write_str(DIGITS[usize::from(*byte / 16)])?;
+            f.write_str(DIGITS[usize::from(*byte % 16)])?;
         }
         Ok(())
     }
