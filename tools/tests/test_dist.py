@@ -8,7 +8,7 @@ import tempfile
 import unittest
 
 ROOT = os.path.dirname(os.path.dirname(os.path.dirname(os.path.abspath(__file__))))
-SCRIPTS = ("bin/x509_tool", "tools/launch.sh", "tools/dist.sh", "tools/sources.sh", "tools/artifacts.txt")
+SCRIPTS = ("bin/x509_tool", "tools/launch.sh", "tools/dist.sh", "tools/sources.sh")
 # What 'rt run' builds: a script that says what it was built of.
 RT = """#!/bin/sh
 case $1 in
@@ -51,6 +51,7 @@ class DistTest(unittest.TestCase):
         for it in SCRIPTS:
             os.makedirs(os.path.dirname(f"{self.root}/{it}"), exist_ok=True)
             shutil.copy(f"{ROOT}/{it}", f"{self.root}/{it}")
+        write(f"{self.root}/tools/artifacts.txt", "# what is shipped\nx509_tool x509_tool out/x509_tool\n")
         write(f"{self.root}/crates.txt", "low: thiserror\nx509_tool: low # the program\nother: low\n")
         write(f"{self.root}/crates/low/src/lib.rt", "low")
         write(f"{self.root}/crates/low/specs/Lib.antt", "low")
@@ -198,6 +199,15 @@ class DistTest(unittest.TestCase):
         self.ran(["tools/dist.sh"])
         self.change("crates/low/src/lib.rt", "changed")
         self.assertIn("built of other sources", self.ran(["tools/dist.sh", "--after-ci", ""], 1)[0])
+
+    def test_a_copied_file(self):
+        """It is of no crate, and compared with what it is a copy of."""
+        self.change("header.h", "a header\n")
+        self.change("tools/artifacts.txt", "x509_tool x509_tool out/x509_tool\nheader.h - header.h\n")
+        self.ran(["tools/dist.sh"])
+        self.assertEqual(self.ran(["tools/dist.sh", "--check"])[0], "2 passed, 0 failed\n")
+        self.change("header.h", "another header\n")
+        self.assertIn("dist/header.h has other bytes than header.h", self.ran(["tools/dist.sh", "--sums"], 1)[0])
 
     def test_what_else_stands_in_dist(self):
         self.change("dist/more", "more")
