@@ -129,27 +129,11 @@ const BARE_ALGORITHMS: &[&[u64]] = &[
     &[1, 2, 840, 10040, 4, 3],
 ];
 
-/// Whether these are the arcs of an object identifier. Those of one family differ in their length or their last arc, so
-/// these are compared first.
-pub fn is_one<A: Allocator>(identifier: &ObjectIdentifier<A>, arcs: &[u64]) -> bool
-    ensures { result ≡ is_arcs identifier.now arcs.now }
-{
-    let own = identifier.arcs();
-    let len = own.len();
-    if len != arcs.len() {
-        return false;
-    }
-    if len > 0 && own[len - 1] != arcs[len - 1] {
-        return false;
-    }
-    own == arcs
-}
-
 /// Whether the arcs of an object identifier stand in a table.
 pub fn is_among<A: Allocator>(identifier: &ObjectIdentifier<A>, table: &[&[u64]]) -> bool
     ensures { result ≡ list_any (λ arcs. is_arcs identifier.now arcs.now) table.now }
 {
-    table.iter().any(|arcs| is_one(identifier, *arcs))
+    table.iter().any(|arcs| identifier.is_arcs(*arcs))
 }
 
 /// The kind that an object identifier says.
@@ -159,16 +143,16 @@ pub fn kind_of<A: Allocator>(identifier: &ObjectIdentifierAsn1<A>) -> AlgorithmK
     let identifier = &identifier.0;
     if is_among(identifier, RSA_ALGORITHMS) {
         AlgorithmKind::Rsa
-    } else if is_one(identifier, &[1, 2, 840, 113549, 1, 1, 10]) {
+    } else if identifier.is_arcs(&[1, 2, 840, 113549, 1, 1, 10]) {
         AlgorithmKind::RsassaPss
-    } else if is_one(identifier, &[1, 2, 840, 10045, 2, 1]) {
+    } else if identifier.is_arcs(&[1, 2, 840, 10045, 2, 1]) {
         AlgorithmKind::EcPublicKey
     } else if is_among(identifier, BARE_ALGORITHMS) {
         AlgorithmKind::Bare
     } else if identifier.starts_under(&[2, 16, 840, 1, 101, 3, 4, 1]) {
         AlgorithmKind::Aes
     } else if identifier.starts_under(&[2, 16, 840, 1, 101, 3, 4, 2])
-        || is_one(identifier, &[1, 3, 14, 3, 2, 26])
+        || identifier.is_arcs(&[1, 3, 14, 3, 2, 26])
     {
         AlgorithmKind::Hash
     } else {
