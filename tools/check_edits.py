@@ -19,7 +19,7 @@ PARTS = {"src", "specs", "proofs", "out", *FOLDERS}
 
 # How many edits the gate tries in these crates together.
 BUDGETS = [
-    (21, ["x509_der"]),
+    (25, ["x509_der"]),
     (20, ["x509_der_parts"]),
     (10, ["x509_prim", "x509_prim_parts"]),
     (17, ["x509_names", "x509_names_parts"]),

@@ -35,7 +35,7 @@ fn extension<A: Allocator, S: Sink>(
     let _critical = fields.next_if(1);
     let mut string = fields.next().inside;
     let label = Label::Extension {
-        arcs: value.extn_id().0.arcs(),
+        content: value.extn_id().0.content(),
         is_critical: value.critical(),
     };
     held(sink, label, at.span, string.next(), value.extn_value())

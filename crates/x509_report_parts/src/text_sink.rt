@@ -3,9 +3,8 @@
 use crate::cursor::Span;
 use crate::shown::{Frame, Shown};
 use crate::sink::{Label, Shape, Sink, Value};
-use crate::values::{Address, Dotted, Hex, ShortHex, Stamp, Utf16};
+use crate::values::{Address, Dotted, Hex, ShortHex, Stamp, Utf16, name_in};
 use std::fmt::{self, Display, Write};
-use x509_oid_names::name_of;
 
 /// Whether object identifiers that have names stand with their dots too.
 #[derive(Clone, Copy, Debug, PartialEq, Eq)]
@@ -66,14 +65,14 @@ pub struct TextSink<'w, W: Write> {
     line: Option<(Span, bool)>,
 }
 
-/// An object identifier by its name, or with dots where it has none here, or both.
+/// An object identifier, by its content: its name, or with dots where it has none here, or both.
 #[derive(Clone, Copy, Drop)]
-pub struct Named<'a>(pub &'a [u64], pub Identifiers);
+pub struct Named<'a>(pub &'a [u8], pub Identifiers);
 
 impl Display for Named<'_> {
     fn fmt<W: Write>(&self, f: &mut fmt::Formatter<W>) -> fmt::Result {
         let dotted = Dotted(self.0);
-        match (name_of(self.0), self.1) {
+        match (name_in(self.0), self.1) {
             (Some(name), Identifiers::Named) => f.write_str(name),
             (Some(name), Identifiers::Dotted) => write!(f, "{name} ({dotted})"),
             (None, _) => write!(f, "{dotted}"),
@@ -152,7 +151,7 @@ fn write_value<W: Write>(out: &mut W, value: Value<'_>, identifiers: Identifiers
         Value::Utf16(bytes) => write_text(out, &Utf16(bytes)),
         Value::Word(word) => out.write_str(word),
         Value::Words(words) => write_words(out, words),
-        Value::Identifier(arcs) => write!(out, "{}", Named(arcs, identifiers)),
+        Value::Identifier(content) => write!(out, "{}", Named(content, identifiers)),
         Value::Number(number) => write!(out, "{number}"),
         Value::Integer(bytes) => write!(out, "{}", Hex(bytes)),
         Value::Sized(count, bytes) => write_number(out, count, bytes),
@@ -220,8 +219,9 @@ impl<'w, W: Write> TextSink<'w, W> {
         let identifiers = self.identifiers;
         match label {
             Label::Field(name) => self.out.write_str(name),
-            Label::Identifier(arcs) => write!(self.out, "{}", Named(arcs, identifiers)),
-            Label::Extension { arcs, .. } => write!(self.out, "{}", Named(arcs, identifiers)),
+            Label::Identifier(content) | Label::Extension { content, .. } => {
+                write!(self.out, "{}", Named(content, identifiers))
+            }
         }
     }
 
