@@ -100,7 +100,7 @@ pub fn name_in(content: &[u8]) -> Option<&'static str> {
         room[count] = arc;
         count += 1;
     }
-    name_of(&room[..count])
+    name_of(room.get(..count)?)
 }
 
 /// An address of the internet protocol: of four bytes with dots, of sixteen as RFC 5952 writes it, and of any other length
