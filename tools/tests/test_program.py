@@ -7,6 +7,7 @@ import contextlib
 import os
 import pty
 import resource
+import shutil
 import subprocess
 import tempfile
 import termios
@@ -16,7 +17,8 @@ import unittest
 
 import program_rows as rows
 
-ROOT = os.path.dirname(os.path.dirname(os.path.dirname(os.path.abspath(__file__))))
+HERE = os.path.dirname(os.path.abspath(__file__))
+ROOT = os.path.dirname(os.path.dirname(HERE))
 SHIPPED = f"{ROOT}/dist/x509_tool"
 PROGRAM = os.path.abspath(os.environ.get("X509_TOOL") or SHIPPED)
 LINES = {1: "refused", 2: "usage: x509_tool TYPE", 3: "out of memory", 5: "input or output failed"}
@@ -187,6 +189,33 @@ class ProgramTest(unittest.TestCase):
             self.skipTest("its interpreter needs more memory to start")
         text, _ = rows.long_row(8_000_000)
         self.stops(self.run_on(["extensions"], text.encode(), preexec_fn=limit_memory), 3)
+
+
+@unittest.skipUnless(shutil.which("cc"), "there is no C compiler")
+class RefusedMemoryTest(unittest.TestCase):
+    """Each request for memory refused in turn."""
+
+    def test_each_request(self):
+        if not os.access(PROGRAM, os.X_OK):
+            self.skipTest(f"there is no program {PROGRAM}")
+        with tempfile.TemporaryDirectory() as room:
+            shim = f"{room}/refuse_memory.so"
+            subprocess.run(["cc", "-shared", "-fPIC", "-o", shim, f"{HERE}/refuse_memory.c"], check=True)
+            for name, text, encoding, counts in (rows.ACCEPTED[0], rows.ACCEPTED[-1]):
+                whole = (0, f"{encoding}\n{counts}\n".encode(), b"")
+                found = [ended_without(shim, number, name, text.encode()) for number in range(1, 40)]
+                count = found.index(whole)
+                with self.subTest(name):
+                    self.assertGreater(count, 8)
+                    self.assertEqual(found[:count], count * [(3, b"", b"out of memory\n")])
+                    self.assertEqual(found[count:], (39 - count) * [whole])
+
+
+def ended_without(shim, number, name, given):
+    """What a run gives to which one request for memory is refused."""
+    environment = {**os.environ, "LD_PRELOAD": shim, "REFUSED_REQUEST": str(number)}
+    ran = subprocess.run([PROGRAM, name], input=given, env=environment, capture_output=True, check=False)
+    return ran.returncode, ran.stdout, ran.stderr
 
 
 MOST_READS = 1 << 24
