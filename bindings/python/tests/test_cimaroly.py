@@ -15,6 +15,7 @@ import resource
 import subprocess
 import sys
 import unittest
+import warnings
 from typing import Any
 
 try:
@@ -189,6 +190,13 @@ class Table(unittest.TestCase):
 class OfThisMachine(unittest.TestCase):
     """The certificates that this machine trusts, as the package cryptography reads them."""
 
+    def setUp(self) -> None:
+        # (cryptography warns of serial numbers that aren't positive)
+        quiet = warnings.catch_warnings()
+        quiet.__enter__()
+        self.addCleanup(quiet.__exit__, None, None, None)
+        warnings.simplefilter("ignore")
+
     def test_certificates(self) -> None:
         seen = 0
         for name in sorted(os.listdir(STORE)):
@@ -205,7 +213,7 @@ class OfThisMachine(unittest.TestCase):
         self.assertEqual(mine.signed_part.data, other.tbs_certificate_bytes)
         self.assertEqual(mine.fields["subject"].data, other.subject.public_bytes())
         self.assertEqual(mine.fields["issuer"].data, other.issuer.public_bytes())
-        self.assertEqual(int.from_bytes(mine.fields["serial_number"].data[2:], "big"), other.serial_number)
+        self.assertEqual(int.from_bytes(mine.fields["serial_number"].data[2:], "big", signed=True), other.serial_number)
         told = [(it.identifier, it.critical) for it in mine.extensions]
         self.assertEqual(told, [(it.oid.dotted_string, it.critical) for it in other.extensions])
         if mine.is_der:
