@@ -34,6 +34,7 @@ BUDGETS = [
     (5, ["x509_report_parts"]),
     (3, ["x509_oid_names", "x509_report_fields", "x509_inspect_parts"]),
     (0, ["x509_inspect", "cimaroly_work"]),
+    (21, ["lent_memory", "x509_flat", "x509_flat_report"]),
 ]
 
 
