@@ -1,20 +1,21 @@
 #!/usr/bin/env python3
-"""Proves and builds the C calls for WebAssembly: web/cimaroly.wasm, whose addresses have 64 bits, and of it web/cimaroly32.wasm, whose
-addresses have 32.
+"""Proves and builds the C calls as a WebAssembly module, over the libraries below them as they stand built.
 
-usage: tools/build_wasm.py
+usage: tools/build_wasm.py [--stood SUMS] FILE
 
-Both export the calls of bindings/c/cimaroly.h, `memory` and `__heap_base`, and import nothing. The second is made by wasm-opt
-(Debian's binaryen), for browsers without 64-bit memories; no proof covers that step.
+The module exports the calls of bindings/c/cimaroly.h, `memory` and `__heap_base`, and imports nothing. Its addresses have 64 bits, as
+those of which the contracts speak. Where the name of FILE ends in 32.wasm, wasm-opt (Debian's binaryen) makes of it a module whose
+addresses have 32, for browsers without 64-bit memories; no proof covers that step. SUMS is as in tools/build_library.py.
 """
 
+import argparse
 import os
 import shutil
 import subprocess
 import sys
 
 from edits import ROOT
-from libraries import build, closure, lists
+from libraries import build, closure, lists, made_since
 from trial import check_of, kit
 
 CRATE = "cimaroly_c"
@@ -28,12 +29,8 @@ def run(words, folder):
         sys.exit(f"{os.path.basename(words[0])} failed")
 
 
-def main():
-    lower = shutil.which("wasm-opt")
-    if not lower:
-        sys.exit("wasm-opt is missing: Debian's package binaryen has it")
-    build(closure(CRATE, lists()), set())
-    folder = f"{ROOT}/crates/{CRATE}"
+def built_archive(folder):
+    """The archive for WebAssembly, proved and built of the sources that stand here."""
     archive = f"{folder}/out/lib{CRATE}-wasm64.a"
     os.makedirs(f"{folder}/out/kept-wasm64", exist_ok=True)
     words = check_of(CRATE, folder)
@@ -41,10 +38,25 @@ def main():
     words += ["--links", f"{CRATE}=", "--crate-type", "staticlib", "--target", TARGET, "--toolchain", f"{kit()}/toolchain"]
     words += ["--backend", "llvm", "--incremental", "out/kept-wasm64", "-o", archive]
     run(words, folder)
-    os.makedirs(f"{ROOT}/web", exist_ok=True)
-    module, lowered = f"{ROOT}/web/cimaroly.wasm", f"{ROOT}/web/cimaroly32.wasm"
+    return archive
+
+
+def main():
+    given = argparse.ArgumentParser(description=__doc__, formatter_class=argparse.RawDescriptionHelpFormatter)
+    given.add_argument("file")
+    given.add_argument("--stood")
+    given = given.parse_args()
+    out = os.path.abspath(given.file)
+    lower = shutil.which("wasm-opt")
+    if out.endswith("32.wasm") and not lower:
+        sys.exit("wasm-opt is missing: Debian's package binaryen has it")
+    build(closure(CRATE, lists()), set() if given.stood is None else made_since(given.stood))
+    folder = f"{ROOT}/crates/{CRATE}"
+    archive = built_archive(folder)
+    module = f"{folder}/out/module64.wasm" if out.endswith("32.wasm") else out
     run([f"{kit()}/bin/rattle-link", "--target", TARGET, "--toolchain", f"{kit()}/toolchain", "-o", module, archive], folder)
-    run([lower, *(f"--enable-{it}" for it in FEATURES), "--memory64-lowering", module, "-o", lowered], folder)
+    if module != out:
+        run([lower, *(f"--enable-{it}" for it in FEATURES), "--memory64-lowering", module, "-o", out], folder)
 
 
 if __name__ == "__main__":

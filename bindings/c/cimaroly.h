@@ -16,7 +16,8 @@
  *   buffer is written with CIMAROLY_OK alone; with every other status it is as it was.
  * - Places count bytes of the input from 0. A span covers the bytes start..end, without the one at end.
  *
- * Link with -lcimaroly. libcimaroly.a needs memcpy, memmove and memset, and nothing else. It is for x86-64.
+ * Link with -lcimaroly. libcimaroly.a needs memcpy, memmove and memset, and nothing else. It is for x86-64 processors with
+ * SSE4.2 (x86-64-v2).
  */
 #ifndef CIMAROLY_H
 #define CIMAROLY_H

@@ -1,5 +1,5 @@
 /* Runs the calls that calls.rt.in exports, each on inputs made here, and with CERTIFICATES those of certificates.rt.in, on the files
-   of inputs/. Linked as it is, it is run under callgrind, and dumps the count of each call under its name. With MEMORY, and linked
+   of inputs/; with COMPARED also those of plain/, on the certificates. Linked as it is, it is run under callgrind, and dumps the count of each call under its name. With MEMORY, and linked
    with --wrap, it prints what each call asks of malloc; with ARENA, linked so too, it is counted over an allocator that does next to
    nothing. */
 #include <malloc.h>
@@ -279,9 +279,24 @@ static void whole(const char *name, const uint8_t *input, size_t n, uint8_t whic
 
 #define WHOLE(name, input, which) whole(name, input, sizeof input, which)
 
+#ifdef COMPARED
+Called plain_certificate;
+
+/* The same by hand-written Rust. */
+static void plain(const char *name, const uint8_t *input, size_t n) {
+  one(input, n, 0);
+  if (plain_certificate(SLICE, input, n, room, sizeof room) != n || memcmp(room, input, n)) fail(name, "rewrite");
+  measure(name, plain_certificate);
+}
+#else
+static void plain(const char *name, const uint8_t *input, size_t n) { (void)name, (void)input, (void)n; }
+#endif
+
 static void certificates(void) {
   WHOLE("certificate", input_certificate, CERTIFICATE);
+  plain("plain-certificate", input_certificate, sizeof input_certificate);
   WHOLE("certificate-1000-names", input_certificate_1000_names, CERTIFICATE);
+  plain("plain-certificate-1000-names", input_certificate_1000_names, sizeof input_certificate_1000_names);
   WHOLE("request", input_request, REQUEST);
   WHOLE("private-key", input_private_key, PRIVATE_KEY);
 }

@@ -2,7 +2,8 @@
 # Measures the library: instructions of each call by callgrind, and its requests for memory.
 # run.sh                  measures this repository
 # run.sh CHECKOUT         also measures that checkout of an earlier state, and compares; one without certificates is measured without them
-# It needs rt, rattle, gcc, valgrind and python3. It builds in $MEASURE_FOLDER (else /tmp/measure), and nothing else of the repository is written.
+# It needs rt, rattle, gcc, valgrind and python3, and with cargo it compares with hand-written Rust too (plain/). It builds in
+# $MEASURE_FOLDER (else /tmp/measure), and nothing else of the repository is written.
 set -euo pipefail
 here=$(cd "$(dirname "$0")" && pwd)
 top=$(cd "$here/../.." && pwd)
@@ -81,6 +82,10 @@ count() {
   local to=$1 flags="-O2 -I$folder"
   ! grep -q "^picky_asn1_x509:" "$to/crates.txt" || flags="$flags -DCERTIFICATES"
   local library="$to/crates/measured/out/libmeasured.a $kit/c/liblibc_c.a"
+  if [ -f "$folder/plain/release/libplain.a" ] && grep -q "^picky_asn1_x509:" "$to/crates.txt"; then
+    flags="$flags -DCOMPARED"
+    library="$library $folder/plain/release/libplain.a"
+  fi
   gcc $flags "$here/drive.c" $library -o "$to/instructions"
   gcc $flags -DARENA "$here/drive.c" $library -Wl,--wrap=malloc,--wrap=realloc,--wrap=free -o "$to/arena"
   gcc $flags -DMEMORY "$here/drive.c" $library -Wl,--wrap=malloc,--wrap=realloc,--wrap=free -o "$to/memory"
@@ -95,6 +100,7 @@ count() {
 
 mkdir -p "$folder"
 arrays > "$folder/inputs.h"
+! command -v cargo > /dev/null || CARGO_TARGET_DIR="$folder/plain" cargo build --quiet --release --offline --manifest-path "$here/plain/Cargo.toml"
 build "$top" "$folder/new"
 count "$folder/new"
 if [ $# = 1 ]; then

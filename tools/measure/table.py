@@ -64,7 +64,7 @@ def part(number):
 
 
 def is_single(name):
-    return name not in WHOLES and not re.search(r"-\d+[km]$|^nest|^thousand", name)
+    return name.removeprefix("plain-") not in WHOLES and not re.search(r"-\d+[km]$|^nest|^thousand", name)
 
 
 def wholes(new):
@@ -75,6 +75,24 @@ def wholes(new):
             cells += [new.count(name, call, new.alone) for call in ("read", "vec")]
             cells += [new.memory[name, "read"][1], new.memory[name, "vec"][2], new.memory[name, "read"][3]]
             row(name, *map(whole, cells))
+
+
+def compared(new):
+    """The library's certificates beside those of hand-written Rust, if they were measured."""
+    names = [name for name in WHOLES if f"plain-{name}" in new.inputs]
+    if not names:
+        return
+    head("Beside hand-written Rust", "Input", "from_bytes", "by hand", "ratio", "and to_vec", "by hand", "ratio", "alone: from_bytes", "by hand", "requests", "by hand", "bytes held", "by hand")
+    for name in names:
+        other = f"plain-{name}"
+        cells = [name]
+        for call in ("read", "vec"):
+            ours, theirs = new.counts[name, call], new.counts[other, call]
+            cells += [whole(ours), whole(theirs), f"{ours / theirs:.2f}"]
+        cells += [whole(new.alone[it, "read"]) for it in (name, other)]
+        cells += [whole(new.memory[it, "read"][1]) for it in (name, other)]
+        cells += [whole(new.memory[it, "vec"][2]) for it in (name, other)]
+        row(*cells)
 
 
 def tables(new):
@@ -96,6 +114,7 @@ def tables(new):
         if is_single(name):
             row(name, whole(size), str(headers), *(whole(new.count(name, call, new.alone)) for call in ("read", *USES)))
     wholes(new)
+    compared(new)
     head("By depth, instructions", "Input", "bytes", "headers", "from_bytes", "encoded_len", "to_vec", "write_to_slice")
     for name, (size, headers) in new.inputs.items():
         if name.startswith("nest"):

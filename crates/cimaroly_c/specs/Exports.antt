@@ -2,6 +2,9 @@
 use Rattle.std.specs.Prelude.{◌≡◌, ◌⊎◌, ℕ, List}
 use Rattle.std.specs.Borrow.{Bor}
 use Rattle.bumpalo.specs.declared.bump.Bump.{Bump}
+use Rattle.std.specs.contracts.prelude.RefAllocator.TheImpl as borrowed
+use Rattle.lent_memory.specs.contracts.OneBlock.{the_row}
+use Rattle.lent_memory.specs.contracts.OneBlockAllocator.TheImpl as block
 use Rattle.lent_memory.specs.declared.OneBlock.{OneBlock}
 use Rattle.x509_flat.specs.Numbers.{kind_number, status_number}
 use Rattle.x509_flat.specs.declared.kind.Kind.{Kind}
@@ -9,7 +12,7 @@ use Rattle.x509_flat.specs.declared.status.Status.{Status}
 
 -- the arena over the block that is lent, in which a call works
 abbrev pub Arena : Type 0
-Arena = Bor (Bump (Bor OneBlock))
+Arena = Bor (Bump (Bor OneBlock) (borrowed.ghosts the_row block.ghosts borrowed.no_dict borrowed.no_dict))
 
 -- the number is that of a type
 abbrev pub IsKind : ℕ → Type 0

@@ -33,18 +33,34 @@ abbrev pub arcs_in : List ℕ → List ℕ
 arcs_in [] = []
 arcs_in (n ∷ ns) = first_of n ∷ (n - 40 * first_of n) ∷ ns
 
--- arcs so far, as numbers are read
+-- the numbers, or none
+abbrev pub if_some_numbers : Option (List ℕ) → List ℕ
+if_some_numbers None = []
+if_some_numbers (Some ns) = ns
 
--- the arcs with one more number behind those that spelled them
-abbrev pub pushed : List ℕ → ℕ → List ℕ
-pushed [] n = first_of n ∷ (n - 40 * first_of n) ∷ []
-pushed (a ∷ r) n = (a ∷ r) ++ n ∷ []
+-- the numbers that bytes spell, and none where they spell none
+abbrev pub numbers_in : List ℕ → List ℕ
+numbers_in bytes = if_some_numbers (parse_numbers bytes)
 
--- the bytes spell numbers, and these the arcs
-pub record Parsed (bytes arcs : List ℕ) : Type 0 where
+-- the arcs that a content spells
+abbrev pub arcs_spelled : List ℕ → List ℕ
+arcs_spelled content = arcs_in (numbers_in content)
+
+-- bytes that spell numbers
+pub record AreNumbers (bytes : List ℕ) : Type 0 where
   pub numbers : List ℕ
   pub parsed : parse_numbers bytes ≡ Some numbers
-  pub arcs_are : arcs ≡ arcs_in numbers
+
+-- and one at least
+pub record BeginsNumber (bytes : List ℕ) : Type 0 where
+  pub first : ℕ
+  pub others : List ℕ
+  pub parsed : parse_numbers bytes ≡ Some (first ∷ others)
+
+-- a number in front, if there is one
+abbrev pub if_some_front : Option ℕ → List ℕ → List ℕ
+if_some_front None ns = ns
+if_some_front (Some n) ns = n ∷ ns
 
 -- two arcs or more: the first is 0, 1 or 2, the second below 40 under 0 and 1 (X.660, 7.6), and the number that spells these two, and each arc, is of 64 bits
 pub record IsLawful (arcs : List ℕ) : Type 0 where

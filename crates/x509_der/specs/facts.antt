@@ -19,6 +19,8 @@ pub mod Named
 pub mod Partly
 pub mod Retagged
 pub mod ObjectIdentifier
+pub mod OidContent
+pub mod OidLast
 pub mod BitEdits
 pub mod BitString
 pub mod Integer

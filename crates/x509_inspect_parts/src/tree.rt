@@ -170,7 +170,11 @@ fn write_identifier<A: Allocator + Copy, W: Write>(
     content: &[u8],
 ) -> Result<(), TreeError> {
     match from_bytes::<ObjectIdentifierAsn1<A>, A>(alloc, element) {
-        Ok(identifier) => write!(out, " {}", Named(identifier.0.arcs(), Identifiers::Dotted))?,
+        Ok(identifier) => write!(
+            out,
+            " {}",
+            Named(identifier.0.content(), Identifiers::Dotted)
+        )?,
         Err(ReadError::OutOfMemory) => return Err(TreeError::OutOfMemory),
         Err(_) => write!(out, " {}", ShortHex(content))?,
     }

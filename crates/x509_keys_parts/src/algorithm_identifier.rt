@@ -199,7 +199,7 @@ fn lacks_null<A: Allocator>(
 ) -> bool
     ensures { result ≡ lacks_null (algorithm.now, parameters.now) }
 {
-    is_rsa(kind_of(algorithm)) && are_absent(parameters)
+    are_absent(parameters) && is_rsa(kind_of(algorithm))
 }
 
 /// The parameters, and NULL where it was left out.

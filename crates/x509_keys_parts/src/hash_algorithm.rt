@@ -138,7 +138,7 @@ impl HashAlgorithm {
         }
     }
 
-    /// Its object identifier. Takes memory for the arcs alone.
+    /// Its object identifier, which is short enough to take no memory.
     ///
     /// # Errors
     /// `AllocError` where memory is refused.

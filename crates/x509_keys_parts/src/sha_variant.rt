@@ -118,7 +118,7 @@ impl ShaVariant {
         }
     }
 
-    /// Its object identifier. Takes memory for the arcs alone.
+    /// Its object identifier, which is short enough to take no memory.
     ///
     /// # Errors
     /// `AllocError` where memory is refused.

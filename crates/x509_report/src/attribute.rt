@@ -30,7 +30,7 @@ fn attribute<A: Allocator, S: Sink>(
     let mut fields = at.inside;
     let _type = fields.next();
     let values = fields.next();
-    let label = Label::Identifier(value.ty.0.arcs());
+    let label = Label::Identifier(value.ty.0.content());
     if let AttributeValues::Custom(element) = &value.value {
         return sink.field(label, at.span, Value::Raw(element.as_bytes()));
     }
@@ -102,7 +102,7 @@ fn identifiers<A: Allocator, S: Sink>(
     values: &[ObjectIdentifierAsn1<A>],
 ) -> Result<(), S::Error> {
     for value in values {
-        let identifier = Value::Identifier(value.0.arcs());
+        let identifier = Value::Identifier(value.0.content());
         sink.field(Label::Field(field), items.next().span, identifier)?;
     }
     Ok(())

@@ -35,7 +35,7 @@ fn extension<A: Allocator, S: Sink>(
     let _critical = fields.next_if(1);
     let mut string = fields.next().inside;
     let label = Label::Extension {
-        arcs: value.extn_id().0.arcs(),
+        content: value.extn_id().0.content(),
         is_critical: value.critical(),
     };
     held(sink, label, at.span, string.next(), value.extn_value())
@@ -62,7 +62,7 @@ fn held<A: Allocator, S: Sink>(
         }
         ExtensionView::ExtendedKeyUsage(usage) => purposes(sink, label, span, inside, usage),
         ExtensionView::Generic(octets) => {
-            sink.field(label, span, Value::Octets(octets.0.as_slice()))
+            sink.field(label, span, Value::Kept(octets.0.as_slice()))
         }
         ExtensionView::CrlNumber(number) => {
             sink.field(label, span, Value::Integer(number.0.as_bytes()))

@@ -16,7 +16,7 @@ pub(crate) fn purposes<A: Allocator, S: Sink>(
     let mut items = inside.inside;
     sink.begin(label, span, Shape::Items)?;
     for purpose in usage.iter() {
-        let value = Value::Identifier(purpose.0.arcs());
+        let value = Value::Identifier(purpose.0.content());
         sink.field(Label::Field("KeyPurposeId"), items.next().span, value)?;
     }
     sink.end()

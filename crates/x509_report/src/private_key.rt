@@ -113,7 +113,7 @@ fn ec<A: Allocator, S: Sink>(
     let secret = secret_octets(value.private_key.0.as_slice(), secrets);
     sink.field(Label::Field("privateKey"), fields.next().span, secret)?;
     if let Some(EcParameters::NamedCurve(curve)) = &value.parameters {
-        let curve = Value::Identifier(curve.0.arcs());
+        let curve = Value::Identifier(curve.0.content());
         sink.field(Label::Field("parameters"), fields.next().span, curve)?;
     }
     if let Some(point) = &value.public_key {
@@ -217,7 +217,7 @@ impl<A: Allocator> Reported for RsaPrivateKey<A> {
 /// What is said of an elliptic curve private key.
 fn ec_line<A: Allocator>(value: &ECPrivateKey<A>) -> KeyLine<'_> {
     let curve = match &value.parameters {
-        Some(EcParameters::NamedCurve(curve)) => Some(curve.0.arcs()),
+        Some(EcParameters::NamedCurve(curve)) => Some(curve.0.content()),
         None => None,
     };
     x509_report_fields::key::ec_line(curve)

@@ -35,7 +35,7 @@ impl<A: Allocator> Reported for AlgorithmIdentifier<A> {
         writeln!(
             out,
             "  algorithm   {}",
-            Named(self.oid().arcs(), Identifiers::Dotted)
+            Named(self.oid().content(), Identifiers::Dotted)
         )
     }
 }
@@ -47,7 +47,7 @@ impl<A: Allocator> Reported for RawAlgorithmIdentifier<A> {
         let at = Cursor::new(bytes).next();
         let mut fields = at.inside;
         sink.begin(Label::Field("AlgorithmIdentifier"), at.span, Shape::Line)?;
-        let identifier = Value::Identifier(self.algorithm().arcs());
+        let identifier = Value::Identifier(self.algorithm().content());
         sink.field(Label::Field("algorithm"), fields.next().span, identifier)?;
         if fields.tag().is_some() {
             let value = match self.parameters() {
@@ -63,7 +63,7 @@ impl<A: Allocator> Reported for RawAlgorithmIdentifier<A> {
         writeln!(
             out,
             "  algorithm   {}",
-            Named(self.algorithm().arcs(), Identifiers::Dotted)
+            Named(self.algorithm().content(), Identifiers::Dotted)
         )
     }
 }

@@ -17,7 +17,7 @@ pub fn algorithm<A: Allocator, S: Sink>(
     let mut fields = at.inside;
     let parameters = value.parameters();
     sink.begin(Label::Field(field), at.span, shape_of(parameters))?;
-    let identifier = Value::Identifier(value.oid().arcs());
+    let identifier = Value::Identifier(value.oid().content());
     sink.field(Label::Field("algorithm"), fields.next().span, identifier)?;
     if fields.tag().is_some() {
         told_parameters(sink, fields.next(), parameters)?;
@@ -48,7 +48,7 @@ fn told_parameters<A: Allocator, S: Sink>(
         }
         AlgorithmIdentifierParameters::Aes(value) => aes(sink, at, value),
         AlgorithmIdentifierParameters::Ec(EcParameters::NamedCurve(curve)) => {
-            sink.field(label, at.span, Value::Identifier(curve.0.arcs()))
+            sink.field(label, at.span, Value::Identifier(curve.0.content()))
         }
         AlgorithmIdentifierParameters::RsassaPss(value) => pss(sink, at, value),
     }
@@ -108,7 +108,7 @@ fn mask<A: Allocator, S: Sink>(
     let mut inside = at.inside;
     let mut fields = inside.next().inside;
     sink.begin(Label::Field("maskGenAlgorithm"), at.span, Shape::Line)?;
-    let identifier = Value::Identifier(value.mask_gen_algorithm.0.arcs());
+    let identifier = Value::Identifier(value.mask_gen_algorithm.0.content());
     sink.field(Label::Field("algorithm"), fields.next().span, identifier)?;
     let hash = Value::Word(hash_word(value.hash_algorithm));
     sink.field(Label::Field("parameters"), fields.next().span, hash)?;

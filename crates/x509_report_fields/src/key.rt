@@ -94,28 +94,34 @@ pub fn public_key<A: Allocator, S: Sink>(
 #[derive(Clone, Copy, Drop)]
 pub struct KeyLine<'a> {
     /// The object identifier of the algorithm.
-    pub algorithm: &'a [u64],
+    pub algorithm: &'a [u8],
     /// The object identifier of the curve, where the parameters name one.
-    pub curve: Option<&'a [u64]>,
+    pub curve: Option<&'a [u8]>,
     /// The size in bits, where it is known.
     pub bits: Option<u64>,
 }
 
 /// The size in bits of the keys of a curve, where it is known (RFC 5480, 2.1.1.1; RFC 7748, RFC 8032).
-fn curve_bits(arcs: &[u64]) -> Option<u64> {
-    match arcs {
-        [1, 2, 840, 10045, 3, 1, 1] => Some(192),
-        [1, 2, 840, 10045, 3, 1, 7] => Some(256),
-        [1, 3, 132, 0, last] => secg_bits(*last),
-        [1, 3, 101, 110] | [1, 3, 101, 112] => Some(256),
-        [1, 3, 101, 111] => Some(448),
-        [1, 3, 101, 113] => Some(456),
+fn curve_bits(content: &[u8]) -> Option<u64> {
+    match content {
+        // 1.2.840.10045.3.1.1
+        [0x2a, 0x86, 0x48, 0xce, 0x3d, 0x03, 0x01, 0x01] => Some(192),
+        // 1.2.840.10045.3.1.7
+        [0x2a, 0x86, 0x48, 0xce, 0x3d, 0x03, 0x01, 0x07] => Some(256),
+        // under 1.3.132.0
+        [0x2b, 0x81, 0x04, 0x00, last] => secg_bits(*last),
+        // 1.3.101.110 and 1.3.101.112
+        [0x2b, 0x65, 0x6e] | [0x2b, 0x65, 0x70] => Some(256),
+        // 1.3.101.111
+        [0x2b, 0x65, 0x6f] => Some(448),
+        // 1.3.101.113
+        [0x2b, 0x65, 0x71] => Some(456),
         _ => None,
     }
 }
 
 /// The same, of the curves under 1.3.132.0.
-fn secg_bits(last: u64) -> Option<u64> {
+fn secg_bits(last: u8) -> Option<u64> {
     match last {
         1 | 15 => Some(163),
         26 | 27 => Some(233),
@@ -132,12 +138,12 @@ fn secg_bits(last: u64) -> Option<u64> {
 
 /// What an algorithm identifier says of its keys.
 pub fn line_of<A: Allocator>(value: &AlgorithmIdentifier<A>) -> KeyLine<'_> {
-    let algorithm = value.oid().arcs();
+    let algorithm = value.oid().content();
     match value.parameters() {
         AlgorithmIdentifierParameters::Ec(EcParameters::NamedCurve(curve)) => KeyLine {
             algorithm,
-            curve: Some(curve.0.arcs()),
-            bits: curve_bits(curve.0.arcs()),
+            curve: Some(curve.0.content()),
+            bits: curve_bits(curve.0.content()),
         },
         _ => KeyLine {
             algorithm,
@@ -148,12 +154,13 @@ pub fn line_of<A: Allocator>(value: &AlgorithmIdentifier<A>) -> KeyLine<'_> {
 }
 
 /// What is said of an elliptic curve key on a curve.
-pub fn ec_line(curve: Option<&[u64]>) -> KeyLine<'_> {
+pub fn ec_line(curve: Option<&[u8]>) -> KeyLine<'_> {
     KeyLine {
-        algorithm: &[1, 2, 840, 10045, 2, 1],
+        // 1.2.840.10045.2.1
+        algorithm: &[0x2a, 0x86, 0x48, 0xce, 0x3d, 0x02, 0x01],
         curve,
         bits: match curve {
-            Some(arcs) => curve_bits(arcs),
+            Some(content) => curve_bits(content),
             None => None,
         },
     }
@@ -172,17 +179,26 @@ pub fn public_line<A: Allocator>(value: &SubjectPublicKeyInfo<A>) -> KeyLine<'_>
 }
 
 /// The common name of a key's algorithm, where it is another than its identifier's.
-fn common_word(arcs: &[u64]) -> Option<&'static str> {
-    match arcs {
-        [1, 2, 840, 113549, 1, 1, 1] => Some("RSA"),
-        [1, 2, 840, 10045, 2, 1] => Some("EC"),
-        [1, 3, 101, 110] => Some("X25519"),
-        [1, 3, 101, 111] => Some("X448"),
-        [1, 3, 101, 112] => Some("Ed25519"),
-        [1, 3, 101, 113] => Some("Ed448"),
-        [2, 16, 840, 1, 101, 3, 4, 3, 17] => Some("ML-DSA-44"),
-        [2, 16, 840, 1, 101, 3, 4, 3, 18] => Some("ML-DSA-65"),
-        [2, 16, 840, 1, 101, 3, 4, 3, 19] => Some("ML-DSA-87"),
+fn common_word(content: &[u8]) -> Option<&'static str> {
+    match content {
+        // 1.2.840.113549.1.1.1
+        [0x2a, 0x86, 0x48, 0x86, 0xf7, 0x0d, 0x01, 0x01, 0x01] => Some("RSA"),
+        // 1.2.840.10045.2.1
+        [0x2a, 0x86, 0x48, 0xce, 0x3d, 0x02, 0x01] => Some("EC"),
+        // 1.3.101.110
+        [0x2b, 0x65, 0x6e] => Some("X25519"),
+        // 1.3.101.111
+        [0x2b, 0x65, 0x6f] => Some("X448"),
+        // 1.3.101.112
+        [0x2b, 0x65, 0x70] => Some("Ed25519"),
+        // 1.3.101.113
+        [0x2b, 0x65, 0x71] => Some("Ed448"),
+        // 2.16.840.1.101.3.4.3.17
+        [0x60, 0x86, 0x48, 0x01, 0x65, 0x03, 0x04, 0x03, 0x11] => Some("ML-DSA-44"),
+        // 2.16.840.1.101.3.4.3.18
+        [0x60, 0x86, 0x48, 0x01, 0x65, 0x03, 0x04, 0x03, 0x12] => Some("ML-DSA-65"),
+        // 2.16.840.1.101.3.4.3.19
+        [0x60, 0x86, 0x48, 0x01, 0x65, 0x03, 0x04, 0x03, 0x13] => Some("ML-DSA-87"),
         _ => None,
     }
 }
@@ -193,8 +209,8 @@ impl Display for KeyLine<'_> {
             Some(word) => f.write_str(word)?,
             None => write!(f, "{}", Named(self.algorithm, Identifiers::Named))?,
         }
-        if let Some(arcs) = self.curve {
-            write!(f, ", {}", Named(arcs, Identifiers::Named))?;
+        if let Some(curve) = self.curve {
+            write!(f, ", {}", Named(curve, Identifiers::Named))?;
         }
         if let Some(bits) = self.bits {
             write!(f, ", {bits} bits")?;

@@ -41,7 +41,11 @@ fn attributes<A: Allocator, S: Sink>(
     sink.begin(Label::Field("RelativeDistinguishedName"), at.span, shape)?;
     for item in &set.0 {
         let span = items.next().span;
-        sink.field(Label::Identifier(item.ty.0.arcs()), span, held(&item.value))?;
+        sink.field(
+            Label::Identifier(item.ty.0.content()),
+            span,
+            held(&item.value),
+        )?;
     }
     sink.end()
 }
@@ -125,7 +129,7 @@ fn simple_name<A: Allocator>(value: &GeneralName<A>) -> (&'static str, Value<'_>
         GeneralName::Uri(text) => ("uniformResourceIdentifier", Value::Text(text.as_str())),
         GeneralName::IpAddress(address) => ("iPAddress", Value::Address(address.0.as_slice())),
         GeneralName::RegisteredId(identifier) => {
-            ("registeredID", Value::Identifier(identifier.0.arcs()))
+            ("registeredID", Value::Identifier(identifier.0.content()))
         }
         _ => ("", Value::Null),
     }
@@ -161,7 +165,7 @@ fn other_name<A: Allocator, S: Sink>(
 ) -> Result<(), S::Error> {
     let mut fields = at.inside;
     sink.begin(Label::Field("otherName"), at.span, Shape::Fields)?;
-    let form = Value::Identifier(value.type_id.0.arcs());
+    let form = Value::Identifier(value.type_id.0.content());
     sink.field(Label::Field("type-id"), fields.next().span, form)?;
     let span = fields.next().span;
     sink.field(Label::Field("value"), span, raw(value.value.as_bytes()))?;
@@ -189,19 +193,30 @@ fn edi_party_name<A: Allocator, S: Sink>(
 }
 
 /// The short name of an attribute's type, as names are written with it (RFC 4514, 3; OpenSSL), if it has one.
-fn short_name(arcs: &[u64]) -> Option<&'static str> {
-    match arcs {
-        [2, 5, 4, 3] => Some("CN"),
-        [2, 5, 4, 4] => Some("SN"),
-        [2, 5, 4, 6] => Some("C"),
-        [2, 5, 4, 7] => Some("L"),
-        [2, 5, 4, 8] => Some("ST"),
-        [2, 5, 4, 9] => Some("street"),
-        [2, 5, 4, 10] => Some("O"),
-        [2, 5, 4, 11] => Some("OU"),
-        [2, 5, 4, 42] => Some("GN"),
-        [0, 9, 2342, 19200300, 100, 1, 1] => Some("UID"),
-        [0, 9, 2342, 19200300, 100, 1, 25] => Some("DC"),
+fn short_name(content: &[u8]) -> Option<&'static str> {
+    match content {
+        // 2.5.4.3
+        [0x55, 0x04, 0x03] => Some("CN"),
+        // 2.5.4.4
+        [0x55, 0x04, 0x04] => Some("SN"),
+        // 2.5.4.6
+        [0x55, 0x04, 0x06] => Some("C"),
+        // 2.5.4.7
+        [0x55, 0x04, 0x07] => Some("L"),
+        // 2.5.4.8
+        [0x55, 0x04, 0x08] => Some("ST"),
+        // 2.5.4.9
+        [0x55, 0x04, 0x09] => Some("street"),
+        // 2.5.4.10
+        [0x55, 0x04, 0x0a] => Some("O"),
+        // 2.5.4.11
+        [0x55, 0x04, 0x0b] => Some("OU"),
+        // 2.5.4.42
+        [0x55, 0x04, 0x2a] => Some("GN"),
+        // 0.9.2342.19200300.100.1.1
+        [0x09, 0x92, 0x26, 0x89, 0x93, 0xf2, 0x2c, 0x64, 0x01, 0x01] => Some("UID"),
+        // 0.9.2342.19200300.100.1.25
+        [0x09, 0x92, 0x26, 0x89, 0x93, 0xf2, 0x2c, 0x64, 0x01, 0x19] => Some("DC"),
         _ => None,
     }
 }
@@ -217,7 +232,7 @@ impl Display for InLine<'_> {
             Value::Utf16(bytes) => write!(f, "{}", Shown(&Utf16(bytes), Frame::Name)),
             Value::Raw(bytes) | Value::Octets(bytes) => write!(f, "#{}", Hex(bytes)),
             Value::Address(bytes) => write!(f, "{}", Address(bytes)),
-            Value::Identifier(arcs) => write!(f, "{}", Dotted(arcs)),
+            Value::Identifier(content) => write!(f, "{}", Dotted(content)),
             _ => Ok(()),
         }
     }
@@ -230,10 +245,10 @@ struct AttributeLine<'a, A: Allocator>(&'a AttributeTypeAndValue<A>);
 impl<A: Allocator> Display for AttributeLine<'_, A> {
     fn fmt<W: Write>(&self, f: &mut fmt::Formatter<W>) -> fmt::Result {
         let attribute = self.0;
-        let arcs = attribute.ty.0.arcs();
-        match short_name(arcs) {
+        let content = attribute.ty.0.content();
+        match short_name(content) {
             Some(short) => f.write_str(short)?,
-            None => write!(f, "{}", Named(arcs, Identifiers::Named))?,
+            None => write!(f, "{}", Named(content, Identifiers::Named))?,
         }
         let value = InLine(held(&attribute.value));
         write!(f, "={value}")
@@ -301,7 +316,7 @@ fn write_general_name<A: Allocator, W: Write>(
     write!(f, "{} ", form_word(name))?;
     match name {
         GeneralName::OtherName(other) => {
-            let form = Named(other.type_id.0.arcs(), Identifiers::Named);
+            let form = Named(other.type_id.0.content(), Identifiers::Named);
             write!(f, "{form} {}", InLine(raw(other.value.as_bytes())))
         }
         GeneralName::EdiPartyName(party) => write!(f, "{}", InLine(text(&party.party_name))),

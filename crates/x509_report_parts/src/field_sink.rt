@@ -39,8 +39,8 @@ impl<'w, W: Write> FieldSink<'w, W> {
         self.written = self.written.saturating_add(1);
         match label {
             Label::Field(name) => self.out.write_str(name),
-            Label::Identifier(arcs) | Label::Extension { arcs, .. } => {
-                write!(self.out, "{}", Named(arcs, Identifiers::Named))
+            Label::Identifier(content) | Label::Extension { content, .. } => {
+                write!(self.out, "{}", Named(content, Identifiers::Named))
             }
         }
     }

@@ -3,12 +3,11 @@
 use crate::cursor::Span;
 use crate::shown::is_plain;
 use crate::sink::{Label, Shape, Sink, Value};
-use crate::values::{Address, Dotted, Hex, Stamp, Utf16};
+use crate::values::{Address, Dotted, Hex, Stamp, Utf16, name_in};
 use json::Writer;
 use std::alloc::{AllocError, Allocator, Global};
 use std::fmt::Display;
 use std::str;
-use x509_oid_names::name_of;
 
 /// An object for each node, with its place under `at`. A node of fields has a member for each, a node of items has them
 /// under `items`, and a field without nodes in it has its value under `value`.
@@ -87,10 +86,10 @@ impl<A: Allocator + Copy> JsonSink<A> {
     }
 
     /// Writes an object identifier's members: `id`, with dots, and `name`, if it has one here.
-    fn identifier(&mut self, arcs: &[u64]) -> Result<(), AllocError> {
+    fn identifier(&mut self, content: &[u8]) -> Result<(), AllocError> {
         self.writer.key("id")?;
-        self.printed(&Dotted(arcs))?;
-        match name_of(arcs) {
+        self.printed(&Dotted(content))?;
+        match name_in(content) {
             Some(name) => self.member("name", name),
             None => Ok(()),
         }
@@ -116,13 +115,16 @@ impl<A: Allocator + Copy> JsonSink<A> {
     fn open(&mut self, label: Label<'_>, span: Span) -> Result<(), AllocError> {
         match label {
             Label::Field(name) => self.named(name, span),
-            Label::Identifier(arcs) => {
+            Label::Identifier(content) => {
                 self.object(span)?;
-                self.identifier(arcs)
+                self.identifier(content)
             }
-            Label::Extension { arcs, is_critical } => {
+            Label::Extension {
+                content,
+                is_critical,
+            } => {
                 self.object(span)?;
-                self.identifier(arcs)?;
+                self.identifier(content)?;
                 self.writer.key("critical")?;
                 self.writer.boolean(is_critical)
             }
@@ -139,9 +141,9 @@ impl<A: Allocator + Copy> JsonSink<A> {
     }
 
     /// Writes an object identifier as an object.
-    fn identified(&mut self, arcs: &[u64]) -> Result<(), AllocError> {
+    fn identified(&mut self, content: &[u8]) -> Result<(), AllocError> {
         self.writer.begin_object()?;
-        self.identifier(arcs)?;
+        self.identifier(content)?;
         self.writer.end_object()
     }
 
@@ -159,12 +161,14 @@ impl<A: Allocator + Copy> JsonSink<A> {
             Value::Utf16(bytes) => self.printed(&Utf16(bytes)),
             Value::Word(word) => self.writer.string(word),
             Value::Words(words) => self.words(words),
-            Value::Identifier(arcs) => self.identified(arcs),
+            Value::Identifier(content) => self.identified(content),
             Value::Number(number) => self.writer.u64(number),
-            Value::Integer(bytes) | Value::Octets(bytes) | Value::Raw(bytes) => {
-                self.printed(&Hex(bytes))
-            }
-            Value::Sized(_, bytes) | Value::Bits(_, bytes) => self.printed(&Hex(bytes)),
+            Value::Integer(bytes)
+            | Value::Octets(bytes)
+            | Value::Raw(bytes)
+            | Value::Kept(bytes)
+            | Value::Sized(_, bytes)
+            | Value::Bits(_, bytes) => self.printed(&Hex(bytes)),
             Value::Flag(flag) => self.writer.boolean(flag),
             Value::Time(moment) => self.printed(&Stamp(moment)),
             Value::Address(bytes) => self.printed(&Address(bytes)),
@@ -177,6 +181,11 @@ impl<A: Allocator + Copy> JsonSink<A> {
         match value {
             Value::Sized(count, bytes) | Value::Bits(count, bytes) => self.bits(count, bytes),
             Value::Hidden(count) => self.count("hidden", count),
+            Value::Kept(bytes) => {
+                self.count("length", bytes.len() as u64)?;
+                self.writer.key("value")?;
+                self.value(value)
+            }
             _ => {
                 self.writer.key("value")?;
                 self.value(value)

@@ -7,12 +7,12 @@ use crate::cursor::Span;
 pub enum Label<'a> {
     /// By the name of its field, as the standard spells it.
     Field(&'static str),
-    /// By an object identifier, as an attribute is.
-    Identifier(&'a [u64]),
+    /// By an object identifier, as an attribute is: its content.
+    Identifier(&'a [u8]),
     /// An extension, by its object identifier.
     Extension {
-        /// The object identifier.
-        arcs: &'a [u64],
+        /// The content of the object identifier.
+        content: &'a [u8],
         /// Whether the extension is critical.
         is_critical: bool,
     },
@@ -51,8 +51,8 @@ pub enum Value<'a> {
     Word(&'static str),
     /// Words of the standard.
     Words(&'a [&'static str]),
-    /// An object identifier.
-    Identifier(&'a [u64]),
+    /// An object identifier: its content.
+    Identifier(&'a [u8]),
     /// A small number.
     Number(u64),
     /// A number in two's complement, high bytes first.
@@ -61,6 +61,8 @@ pub enum Value<'a> {
     Sized(u64, &'a [u8]),
     /// Bytes.
     Octets(&'a [u8]),
+    /// Bytes that stand for something that isn't known, told with their number.
+    Kept(&'a [u8]),
     /// How many bits, and these in bytes.
     Bits(u64, &'a [u8]),
     /// An element that isn't looked into, with its header.

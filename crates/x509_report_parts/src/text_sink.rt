@@ -3,9 +3,8 @@
 use crate::cursor::Span;
 use crate::shown::{Frame, Shown};
 use crate::sink::{Label, Shape, Sink, Value};
-use crate::values::{Address, Dotted, Hex, ShortHex, Stamp, Utf16};
+use crate::values::{Address, Dotted, Hex, ShortHex, Stamp, Utf16, name_in};
 use std::fmt::{self, Display, Write};
-use x509_oid_names::name_of;
 
 /// Whether object identifiers that have names stand with their dots too.
 #[derive(Clone, Copy, Debug, PartialEq, Eq)]
@@ -21,6 +20,10 @@ const VALUES: usize = 34;
 
 /// In which column the starts of places end.
 const PLACES: usize = 84;
+
+/// As many spaces as are written at a time, which go up to the column of places.
+const SPACES: &str =
+    "                                                                                    ";
 
 /// A writer that counts the characters which it passes on.
 #[derive(Drop)]
@@ -45,10 +48,7 @@ impl<W: Write> Counted<'_, W> {
     /// Writes spaces up to a column, and at least some.
     fn pad(&mut self, column: usize, least: usize) -> fmt::Result {
         let missing = column.saturating_sub(self.count).max(least);
-        for _ in 0..missing {
-            self.write_str(" ")?;
-        }
-        Ok(())
+        self.write_str(SPACES.get(..missing).unwrap_or(SPACES))
     }
 }
 
@@ -65,14 +65,14 @@ pub struct TextSink<'w, W: Write> {
     line: Option<(Span, bool)>,
 }
 
-/// An object identifier by its name, or with dots where it has none here, or both.
+/// An object identifier, by its content: its name, or with dots where it has none here, or both.
 #[derive(Clone, Copy, Drop)]
-pub struct Named<'a>(pub &'a [u64], pub Identifiers);
+pub struct Named<'a>(pub &'a [u8], pub Identifiers);
 
 impl Display for Named<'_> {
     fn fmt<W: Write>(&self, f: &mut fmt::Formatter<W>) -> fmt::Result {
         let dotted = Dotted(self.0);
-        match (name_of(self.0), self.1) {
+        match (name_in(self.0), self.1) {
             (Some(name), Identifiers::Named) => f.write_str(name),
             (Some(name), Identifiers::Dotted) => write!(f, "{name} ({dotted})"),
             (None, _) => write!(f, "{dotted}"),
@@ -103,6 +103,15 @@ fn write_octets<W: Write>(out: &mut W, bytes: &[u8]) -> fmt::Result {
         write!(out, "{count} bytes, ")?;
     }
     write!(out, "{}", ShortHex(bytes))
+}
+
+/// Writes bytes behind their number.
+fn write_kept<W: Write>(out: &mut W, bytes: &[u8]) -> fmt::Result {
+    match bytes.len() {
+        0 => out.write_str("0 bytes"),
+        1 => write!(out, "1 byte, {}", Hex(bytes)),
+        count => write!(out, "{count} bytes, {}", ShortHex(bytes)),
+    }
 }
 
 /// Writes a number of a key: in decimal where it has at most 64 bits, and else its size in bits, and its bytes.
@@ -142,12 +151,13 @@ fn write_value<W: Write>(out: &mut W, value: Value<'_>, identifiers: Identifiers
         Value::Utf16(bytes) => write_text(out, &Utf16(bytes)),
         Value::Word(word) => out.write_str(word),
         Value::Words(words) => write_words(out, words),
-        Value::Identifier(arcs) => write!(out, "{}", Named(arcs, identifiers)),
+        Value::Identifier(content) => write!(out, "{}", Named(content, identifiers)),
         Value::Number(number) => write!(out, "{number}"),
         Value::Integer(bytes) => write!(out, "{}", Hex(bytes)),
         Value::Sized(count, bytes) => write_number(out, count, bytes),
         Value::Bits(count, bytes) => write_bits(out, count, bytes),
         Value::Octets(bytes) | Value::Raw(bytes) => write_octets(out, bytes),
+        Value::Kept(bytes) => write_kept(out, bytes),
         Value::Flag(flag) => write!(out, "{flag}"),
         Value::Time(moment) => write!(out, "{}", Stamp(moment)),
         Value::Address(bytes) => write!(out, "{}", Address(bytes)),
@@ -209,8 +219,9 @@ impl<'w, W: Write> TextSink<'w, W> {
         let identifiers = self.identifiers;
         match label {
             Label::Field(name) => self.out.write_str(name),
-            Label::Identifier(arcs) => write!(self.out, "{}", Named(arcs, identifiers)),
-            Label::Extension { arcs, .. } => write!(self.out, "{}", Named(arcs, identifiers)),
+            Label::Identifier(content) | Label::Extension { content, .. } => {
+                write!(self.out, "{}", Named(content, identifiers))
+            }
         }
     }
 

@@ -4,6 +4,13 @@ ghost use Rattle.std.specs.Prelude.{◌≤◌, ◌<◌, length};
 
 use crate::sink::Moment;
 use std::fmt::{self, Display, Write};
+use x509_der::Arcs;
+use x509_oid_names::name_of;
+
+/// The hexadecimal digits.
+const DIGITS: [&'static str; 16] = [
+    "0", "1", "2", "3", "4", "5", "6", "7", "8", "9", "a", "b", "c", "d", "e", "f",
+];
 
 /// Bytes in lower-case hexadecimal with colons between them, as in `0a:ff`.
 #[derive(Clone, Copy, Drop)]
@@ -17,7 +24,8 @@ impl Display for Hex<'_> {
                 f.write_str(":")?;
             }
             is_first = false;
-            write!(f, "{byte:02x}")?;
+            f.write_str(DIGITS[usize::from(*byte / 16)])?;
+            f.write_str(DIGITS[usize::from(*byte % 16)])?;
         }
         Ok(())
     }
@@ -56,14 +64,18 @@ impl Display for Stamp {
     }
 }
 
-/// An object identifier with dots, as in `2.5.4.3`.
+/// An object identifier with dots, as in `2.5.4.3`, by its content. Bytes that are no object identifier's content stand in
+/// hexadecimal.
 #[derive(Clone, Copy, Drop)]
-pub struct Dotted<'a>(pub &'a [u64]);
+pub struct Dotted<'a>(pub &'a [u8]);
 
 impl Display for Dotted<'_> {
     fn fmt<W: Write>(&self, f: &mut fmt::Formatter<W>) -> fmt::Result {
+        let Some(arcs) = Arcs::in_content(self.0) else {
+            return write!(f, "{}", Hex(self.0));
+        };
         let mut is_first = true;
-        for arc in self.0 {
+        for arc in arcs {
             if !is_first {
                 f.write_str(".")?;
             }
@@ -72,6 +84,23 @@ impl Display for Dotted<'_> {
         }
         Ok(())
     }
+}
+
+/// How many arcs an object identifier may have that has a name here.
+const NAMED: usize = 16;
+
+/// The name of the object identifier with this content, if it has one here.
+pub fn name_in(content: &[u8]) -> Option<&'static str> {
+    let mut room = [0; NAMED];
+    let mut count: usize = 0;
+    for arc in Arcs::in_content(content)? {
+        if count >= NAMED {
+            return None;
+        }
+        room[count] = arc;
+        count += 1;
+    }
+    name_of(room.get(..count)?)
 }
 
 /// An address of the internet protocol: of four bytes with dots, of sixteen as RFC 5952 writes it, and of any other length

@@ -10,7 +10,7 @@ use x509_der::ObjectIdentifier;
 use x509_oid_names::name_of;
 use x509_report_parts::Moment;
 use x509_report_parts::shown::{Frame, Shown, ShownBytes};
-use x509_report_parts::values::{Address, Dotted, Hex, ShortHex, Stamp, Utf16};
+use x509_report_parts::values::{Address, Dotted, Hex, ShortHex, Stamp, Utf16, name_in};
 
 /// Asks that an identifier has a name.
 fn is_named(rt: &impl Abort, alloc: Global, text: &str, name: &str) {
@@ -18,7 +18,7 @@ fn is_named(rt: &impl Abort, alloc: Global, text: &str, name: &str) {
         rt,
         "an identifier",
     );
-    assert!(rt; name_of(identifier.arcs()) == Some(name), "{text}");
+    assert!(rt; name_in(identifier.content()) == Some(name), "{text}");
 }
 
 /// Asks that identifiers have these names.
@@ -140,7 +140,7 @@ fn other_values(rt: HostRuntime) {
         &ShortHex(&[7; 33]),
         "07:07:07:07:07:07:07:07:07:07:07:07:07:07:07:07:..",
     );
-    prints(&rt, rt.alloc(), &Dotted(&[2, 5, 4, 3]), "2.5.4.3");
+    prints(&rt, rt.alloc(), &Dotted(&[0x55, 0x04, 0x03]), "2.5.4.3");
     prints(
         &rt,
         rt.alloc(),

@@ -140,7 +140,7 @@ fn keys_are_made_over<A: Heap>(rt: &impl Abort, heap: A) {
             CONSTRAINTS,
         )
     );
-    same(rt, &constraints, &Some(1), "basic constraints");
+    same(rt, &constraints, &Some(0), "basic constraints");
 }
 
 #[test]

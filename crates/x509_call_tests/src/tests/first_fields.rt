@@ -77,8 +77,8 @@ fn are_absent(counts: &Deviations, absent: usize) -> bool {
 
 /// Whether the algorithms are 1.2 and 1.3.
 fn are_algorithms<A: Allocator>(pair: &Pair<A>) -> bool {
-    let first = pair.first.algorithm().arcs() == [1, 2].as_slice();
-    first && pair.second.algorithm().arcs() == [1, 3].as_slice()
+    let first = pair.first.algorithm().is_arcs(&[1, 2]);
+    first && pair.second.algorithm().is_arcs(&[1, 3])
 }
 
 /// The algorithms, the slice and the counts are the stated ones.
@@ -214,12 +214,12 @@ fn flagged_turn<A: Heap>(heap: A, bytes: &[u8], slice: &[u8]) -> Turn {
     }
 }
 
-/// The identifier takes memory once; the slice takes none.
+/// Neither the identifier nor the slice takes memory.
 fn optional_first_fields_are_sliced_over<A: Heap>(rt: &impl Abort, heap: A) {
     let algorithm = b"\x30\x05\x06\x01\x2A\x05\x00".as_slice();
     let there = b"\x30\x0A\x30\x05\x06\x01\x2A\x05\x00\x01\x01\xFF".as_slice();
     let requests = in_turn!(heap, flagged_turn(heap, there, algorithm));
-    same(rt, &requests, &Some(1), "an algorithm");
+    same(rt, &requests, &Some(0), "an algorithm");
     let absent = b"\x30\x03\x01\x01\xFF".as_slice();
     let requests = in_turn!(heap, flagged_turn(heap, absent, b""));
     same(rt, &requests, &Some(0), "no algorithm");

@@ -101,7 +101,7 @@ fn hash_identifiers_over<A: Heap>(rt: &impl Abort, heap: A) {
     for (hash, last, _len) in HASHES {
         let arcs = [2, 16, 840, 1, 101, 3, 4, 2, *last];
         let requests = in_turn!(heap, arcs_turn(hash.to_oid(heap), &arcs));
-        same(rt, &requests, &Some(1), "requests");
+        same(rt, &requests, &Some(0), "requests");
     }
 }
 
@@ -115,7 +115,7 @@ fn hash_identifiers(rt: HostRuntime) {
 fn sha_identifiers_over<A: Heap>(rt: &impl Abort, heap: A) {
     for (sha, arcs, _name) in SHAS {
         let requests = in_turn!(heap, arcs_turn(sha.to_oid(heap), arcs));
-        same(rt, &requests, &Some(1), "requests");
+        same(rt, &requests, &Some(0), "requests");
     }
 }
 
@@ -299,7 +299,7 @@ fn masks_are_made_over<A: Heap>(rt: &impl Abort, heap: A) {
             )
         }
     );
-    same(rt, &requests, &Some(1), "requests");
+    same(rt, &requests, &Some(0), "requests");
 }
 
 #[test]
@@ -308,7 +308,7 @@ fn masks_are_made(rt: HostRuntime) {
     masks_are_made_over(&rt, &heap);
 }
 
-/// Parameters of RSASSA-PSS take memory once, for the identifier of MGF1.
+/// Parameters of RSASSA-PSS take no memory.
 fn parameters_are_made<A: Heap>(rt: &impl Abort, heap: A, hash: HashAlgorithm, text: &str) {
     let strict = strict_of(rt, heap, text);
     let mut room = Vec::from_elem(heap, 0u8, strict.len()).expect(rt, "memory");
@@ -317,7 +317,7 @@ fn parameters_are_made<A: Heap>(rt: &impl Abort, heap: A, hash: HashAlgorithm, t
         heap,
         made_turn(RsassaPssParams::new(heap, hash), &strict, room)
     );
-    same(rt, &requests, &Some(1), text);
+    same(rt, &requests, &Some(0), text);
 }
 
 /// The test of this name, over any such allocator.

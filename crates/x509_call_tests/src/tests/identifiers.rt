@@ -26,7 +26,7 @@ fn arcs_are_as_stated(rt: HostRuntime) {
     for (text, first, second) in TWO_ARCS {
         let value = identifier_of(&rt, rt.alloc(), *text);
         is_so(&rt, value.is_arcs(&[*first, *second]), *text);
-        is_so(&rt, value.arcs() == [*first, *second].as_slice(), *text);
+        is_so(&rt, value.arcs().eq([*first, *second]), *text);
     }
 }
 

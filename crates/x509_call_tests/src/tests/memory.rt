@@ -27,14 +27,20 @@ fn arcs_turn<A: Allocator>(answer: Result<ObjectIdentifier<A>, OidError>, arcs: 
     }
 }
 
-/// The test of this name, over any such allocator.
+/// An identifier of a content of 22 bytes takes no memory, and one of 23 takes it once.
 fn identifiers_are_made_over<A: Heap>(rt: &impl Abort, heap: A) {
-    let arcs = [1, 2, 840, 113549, 2, 9];
+    let short = [1, 2, 840, 113549, u64::MAX, 1 << 41];
     let requests = in_turn!(
         heap,
-        arcs_turn(ObjectIdentifier::from_arcs(heap, &arcs), &arcs)
+        arcs_turn(ObjectIdentifier::from_arcs(heap, &short), &short)
     );
-    same(rt, &requests, &Some(1), "requests");
+    same(rt, &requests, &Some(0), "22 bytes");
+    let long = [1, 2, 840, 113549, u64::MAX, 1 << 48];
+    let requests = in_turn!(
+        heap,
+        arcs_turn(ObjectIdentifier::from_arcs(heap, &long), &long)
+    );
+    same(rt, &requests, &Some(1), "23 bytes");
 }
 
 #[test]
@@ -55,12 +61,26 @@ fn read_turn<A: Allocator>(
     }
 }
 
-/// An identifier that is read takes memory once, however many arcs it has.
+/// An identifier that is read takes no memory up to a content of 22 bytes, and takes it once beyond.
 fn identifiers_are_read_over<A: Heap>(rt: &impl Abort, heap: A) {
     let bytes = b"\x06\x08\x2A\x86\x48\x86\xF7\x0D\x02\x09".as_slice();
     let arcs = [1, 2, 840, 113549, 2, 9];
     let requests = in_turn!(heap, read_turn(from_bytes(heap, bytes), &arcs));
-    same(rt, &requests, &Some(1), "requests");
+    same(rt, &requests, &Some(0), "eight bytes");
+    let bytes =
+        b"\x06\x16\x2A\x01\x02\x03\x04\x05\x06\x07\x08\x09\x0A\x0B\x0C\x0D\x0E\x0F\x10\x11\x12\x13\x14\x15".as_slice();
+    let arcs = [
+        1, 2, 1, 2, 3, 4, 5, 6, 7, 8, 9, 10, 11, 12, 13, 14, 15, 16, 17, 18, 19, 20, 21,
+    ];
+    let requests = in_turn!(heap, read_turn(from_bytes(heap, bytes), &arcs));
+    same(rt, &requests, &Some(0), "22 bytes");
+    let bytes =
+        b"\x06\x17\x2A\x01\x02\x03\x04\x05\x06\x07\x08\x09\x0A\x0B\x0C\x0D\x0E\x0F\x10\x11\x12\x13\x14\x15\x16".as_slice();
+    let arcs = [
+        1, 2, 1, 2, 3, 4, 5, 6, 7, 8, 9, 10, 11, 12, 13, 14, 15, 16, 17, 18, 19, 20, 21, 22,
+    ];
+    let requests = in_turn!(heap, read_turn(from_bytes(heap, bytes), &arcs));
+    same(rt, &requests, &Some(1), "23 bytes");
 }
 
 #[test]

@@ -77,11 +77,11 @@ fn attribute_turn<A: Allocator + Copy>(alloc: A, attr: &NameAttr, arc: u8) -> Tu
     }
 }
 
-/// Each is made by two requests: one for the text, and one for the type.
+/// Each is made by one request, for the text.
 fn attributes_are_made_over<A: Heap>(rt: &impl Abort, heap: A) {
     for (attr, arc) in ATTRS {
         let requests = in_turn!(heap, attribute_turn(heap, attr, *arc));
-        same(rt, &requests, &Some(2), "requests");
+        same(rt, &requests, &Some(1), "requests");
     }
 }
 
@@ -108,7 +108,7 @@ fn email_turn<A: Allocator + Copy>(alloc: A) -> Turn {
 /// The test of this name, over any such allocator.
 fn addresses_are_made_over<A: Heap>(rt: &impl Abort, heap: A) {
     let requests = in_turn!(heap, email_turn(heap));
-    same(rt, &requests, &Some(2), "requests");
+    same(rt, &requests, &Some(1), "requests");
 }
 
 #[test]
@@ -142,12 +142,12 @@ fn named<A: Allocator + Copy>(alloc: A, text: &str) -> Result<Name<A>, AllocErro
 /// The name whose one attribute is a common name of 18 letters.
 const CONTOSO: &[u8] = b"\x30\x1D\x31\x1B\x30\x19\x06\x03\x55\x04\x03\x0C\x12test.contoso.local";
 
-/// A name takes four requests: for the text, its type, the set and the list.
+/// A name takes three requests: for the text, the set and the list.
 fn names_are_made_over<A: Heap>(rt: &impl Abort, heap: A) {
     let requests = in_turn!(heap, made_turn(named(heap, "a"), NAMED));
-    same(rt, &requests, &Some(4), "one letter");
+    same(rt, &requests, &Some(3), "one letter");
     let requests = in_turn!(heap, made_turn(named(heap, "test.contoso.local"), CONTOSO));
-    same(rt, &requests, &Some(4), "18 letters");
+    same(rt, &requests, &Some(3), "18 letters");
 }
 
 #[test]
@@ -181,7 +181,7 @@ fn addressed_turn<A: Allocator + Copy>(alloc: A) -> Turn {
 /// A name takes as many requests by its e-mail address.
 fn names_of_addresses_are_made_over<A: Heap>(rt: &impl Abort, heap: A) {
     let requests = in_turn!(heap, addressed_turn(heap));
-    same(rt, &requests, &Some(4), "requests");
+    same(rt, &requests, &Some(3), "requests");
 }
 
 #[test]

@@ -7,7 +7,7 @@ use Rattle.std.proofs.lemmas.Bool.{eqb-true, eqb-false, eq-eqb, ne_eqb, ltb-true
 use Rattle.std.proofs.lemmas.Grind.{common_steps}
 use Rattle.x509_der_parts.specs.Shape.{Lawful}
 use Rattle.x509_der_parts.specs.laws.PrimitiveContent.{IsPlain, plain_lawful}
-use Rattle.x509_der.specs.ObjectIdentifier.{IsLawful, high, high_digits, septets, spelled_numbers, oid_content, IsOid, oids, Parsed, arcs_in, first_of, numbers_from, pushed, put_front}
+use Rattle.x509_der.specs.ObjectIdentifier.{IsLawful, high, high_digits, septets, spelled_numbers, oid_content, IsOid, oids, arcs_in, first_of, numbers_from, put_front}
 
 pub chosen : {A : Type 0} (b : Bool) (x y z : A) → cond b x y ≡ z → ((b ≡ true) × (x ≡ z)) ⊎ ((b ≡ false) × (y ≡ z))
 chosen true x y z e = inl (refl, e)
@@ -57,14 +57,14 @@ pub high-zero : high_digits 0 ≡ []
 unfolding high
 high-zero = refl
 
-front_ok : (n : ℕ) (o : Option (List ℕ)) (ns : List ℕ) → put_front n o ≡ Some ns → (ms : List ℕ) × (o ≡ Some ms) × (n ∷ ms ≡ ns)
+pub front_ok : (n : ℕ) (o : Option (List ℕ)) (ns : List ℕ) → put_front n o ≡ Some ns → (ms : List ℕ) × (o ≡ Some ms) × (n ∷ ms ≡ ns)
 front_ok n None ns e = absurd cc
 front_ok n (Some ms) ns e = (ms, refl, cc)
 
 none_not : {A : Type 0} (x : A) → ◌≡◌ {A = Option A} None (Some x) → ⊥
 none_not x e = cc
 
-some_is : {A : Type 0} (x y : A) → ◌≡◌ {A = Option A} (Some x) (Some y) → x ≡ y
+pub some_is : {A : Type 0} (x y : A) → ◌≡◌ {A = Option A} (Some x) (Some y) → x ≡ y
 some_is x y e = cc
 
 abbrev Spelled : ℕ → List ℕ → List ℕ → Type 0
@@ -378,41 +378,15 @@ oid_here p ns e n =
 pub no_oid : (p : List ℕ) → numbers_from 0 true p ≡ None → (v : List ℕ) → IsOid v p → ⊥
 no_oid p e v h = none_not _ (sym e ∙ oid_parsed v p h)
 
-pub arcs_push : (ns : List ℕ) (n : ℕ) → pushed (arcs_in ns) n ≡ arcs_in (ns ++ n ∷ [])
-arcs_push [] n = refl
-arcs_push (m ∷ ns) n = refl
+-- bytes that spell no number are none
+pub no_bytes : (p : List ℕ) → numbers_from 0 true p ≡ Some [] → p ≡ []
+no_bytes p e = let r = numbers-sound p 0 true [] (λ q. refl) (λ q. absurd cc) e in ap (λ (x : List ℕ). x ++ p) (sym high-zero) ∙ r.1
 
-pub record SoFar (bytes arcs : List ℕ) (i sofar : ℕ) (fresh : Bool) : Type 0 where
-  pub numbers : List ℕ
-  pub state : Numbering bytes numbers i sofar fresh
-  pub arcs_are : arcs ≡ arcs_in numbers
+pub not_none : (p ns : List ℕ) → numbers_from 0 true p ≡ Some ns → numbers_from 0 true p ≡ None → ⊥
+not_none p ns e f = none_not _ (sym f ∙ e)
 
-pub sofar_low : (bytes arcs : List ℕ) (i sofar : ℕ) (fresh : Bool) (b d : ℕ) (more : List ℕ) → SoFar bytes arcs i sofar fresh → i < length bytes → b ≡ get_or bytes i d → b < 128 → sofar * 128 + b < 2 ^ 64 → more ≡ pushed arcs (sofar * 128 + b) → SoFar bytes more (i + 1) 0 true
-sofar_low bytes arcs i sofar fresh b d more s h e lt small m = record {
-  numbers = s.numbers ++ (sofar * 128 + b) ∷ [];
-  state = numbering_low bytes s.numbers i sofar fresh s.state b d h e lt small;
-  arcs_are = m ∙ ap (λ x. pushed x (sofar * 128 + b)) s.arcs_are ∙ arcs_push s.numbers (sofar * 128 + b);
-}
-
-pub sofar_high : (bytes arcs : List ℕ) (i sofar : ℕ) (fresh : Bool) (b d : ℕ) → SoFar bytes arcs i sofar fresh → i < length bytes → b ≡ get_or bytes i d → 128 ≤ b → b < 256 → (fresh && eqb b 128) ≡ false → SoFar bytes arcs (i + 1) (sofar * 128 + (b - 128)) false
-sofar_high bytes arcs i sofar fresh b d s h e top small n = record {
-  numbers = s.numbers;
-  state = numbering_high bytes s.numbers i sofar fresh s.state b d h e top small n;
-  arcs_are = s.arcs_are;
-}
-
-no_arcs : (ns : List ℕ) → arcs_in ns ≡ [] → ns ≡ []
-no_arcs [] e = refl
-no_arcs (n ∷ ns) e = cc
-
--- arcs that were parsed are an object identifier, unless there are none
-pub parsed_oid : (p arcs : List ℕ) → Parsed p arcs → (arcs ≡ [] → ⊥) → IsOid arcs p
-parsed_oid p arcs h n = rw h.arcs_are (oid_here p h.numbers h.parsed (λ e. n (h.arcs_are ∙ ap arcs_in e)))
-
-pub no_numbers : (p arcs : List ℕ) → Parsed p arcs → arcs ≡ [] → (v : List ℕ) → IsOid v p → ⊥
-no_numbers p arcs h e v i =
-    let z : h.numbers ≡ [] = no_arcs h.numbers (sym h.arcs_are ∙ e) in
-    numbers_some v (by_cases v i.0) (some_is _ _ (sym (oid_parsed v p i) ∙ h.parsed ∙ ap Some z))
+pub no_oid_of_none : (v : List ℕ) → IsOid v [] → ⊥
+no_oid_of_none v h = numbers_some v (by_cases v h.0) (some_is _ _ (sym (oid_parsed v [] h) ∙ numbers-none))
 
 -- the first two arcs are one number
 pub spelled_split : (v : List ℕ) → IsLawful v → spelled_numbers v ≡ (40 * get_or v 0 0 + get_or v 1 0) ∷ drop 2 v

@@ -5,7 +5,7 @@ ghost use Rattle.std.specs.Fmt.{decimal};
 ghost use Rattle.x509_der.specs.ObjectIdentifier.{IsLawful};
 ghost use Rattle.x509_der.specs.ObjectIdentifier.{dotted};
 
-use super::{ObjectIdentifier, OidError, is_lawful};
+use super::{ObjectIdentifier, OidError, from_lawful, is_lawful};
 use std::alloc::Allocator;
 use std::fmt;
 
@@ -15,9 +15,10 @@ impl<A: Allocator> fmt::Display for ObjectIdentifier<A> {
     ghost output = { λ o. Some (dotted o) };
 
     fn fmt<W: fmt::Write>(&self, f: &mut fmt::Formatter<W>) -> fmt::Result {
-        if let [first, rest @ ..] = self.arcs.as_slice() {
+        let mut arcs = self.arcs();
+        if let Some(first) = arcs.next() {
             write!(f, "{first}")?;
-            for arc in rest {
+            for arc in arcs {
                 write!(f, ".{arc}")?;
             }
         }
@@ -43,7 +44,7 @@ fn read_arc(piece: &str) -> Option<u64>
     piece.parse::<u64>().ok()
 }
 
-impl<A: Allocator> ObjectIdentifier<A> {
+impl<A: Allocator + Copy> ObjectIdentifier<A> {
     /// The object identifier of a text: its arcs in decimal with no leading zeros, joined by points.
     ///
     /// # Errors
@@ -63,6 +64,7 @@ impl<A: Allocator> ObjectIdentifier<A> {
         if !is_lawful(&arcs) {
             return Err(OidError::Bad);
         }
-        Ok(ObjectIdentifier { arcs })
+        let identifier = from_lawful(alloc, &arcs)?;
+        Ok(identifier)
     }
 }

@@ -1,14 +1,17 @@
-use Rattle.x509_der.proofs.Oids.{under}
+use Rattle.std.specs.Option.{is_some}
 use Rattle.x509_der.specs.ObjectIdentifier.{is_strictly_under}
-use Rattle.x509_der.specs.facts.Under.{strictly_under, short_test, same_test}
+use Rattle.x509_der.specs.facts.OidContent.{under_behind, not_under}
+use Rattle.x509_der.specs.facts.Under.{strictly_under, same_test}
 use Rattle.x509_der.proofs.oid.ObjectIdentifier.starts_under.Goals as goal
 
-pub returns-then-front-arcs-clause-under : goal.returns-then-front-arcs-clause-under
-returns-then-front-arcs-clause-under g c = rw (c.starts_with.ensures.value, c.as_slice-arcs.ensures.value, ← c.self.view_is) (under c.args.front.now c.self.inside.arcs.items (rw c.as_slice-arcs.ensures.value at c.if-front-arcs.true))
+pub returns-in-None-clause-test : goal.returns-in-None-clause-test
+returns-in-None-clause-test g c =
+    let f = c.args.front.now in
+    let a = c.args.self.now in
+    same_test _ (is_strictly_under f a) (not_under f a c.in-None.ensures) (strictly_under f a)
 
-pub returns-then-front-arcs-clause-test : goal.returns-then-front-arcs-clause-test
-returns-then-front-arcs-clause-test g c =
-    rw (c.starts_with.ensures.value, c.as_slice-arcs.ensures.value, ← c.self.view_is) (same_test _ (is_strictly_under c.args.front.now c.self.inside.arcs.items) (under c.args.front.now c.self.inside.arcs.items (rw c.as_slice-arcs.ensures.value at c.if-front-arcs.true)) (strictly_under c.args.front.now c.self.inside.arcs.items))
-
-pub returns-else-front-arcs-clause-test : goal.returns-else-front-arcs-clause-test
-returns-else-front-arcs-clause-test g c = rw (c.as_slice-arcs.ensures.value, ← c.self.view_is) (short_test c.args.front.now c.self.inside.arcs.items (rw c.as_slice-arcs.ensures.value at c.if-front-arcs.false))
+pub returns-in-Some-clause-test : goal.returns-in-Some-clause-test
+returns-in-Some-clause-test g c =
+    let f = c.args.front.now in
+    let a = c.args.self.now in
+    rw c.is_some.ensures (same_test (is_some c.next.result) (is_strictly_under f a) (under_behind f a c.in-Some.rest c.next.new.self c.next.result c.in-Some.ensures c.next.ensures.steps) (strictly_under f a))
