@@ -26,7 +26,7 @@
 //! # Linking
 //!
 //! The build script links the archive of the repository's `dist/`, or of the folder that the variable
-//! `CIMAROLY_LIB_DIR` names. The archive is for x86-64, and needs `memcpy`, `memmove` and `memset` alone.
+//! `CIMAROLY_LIB_DIR` names. The archive is for x86-64 processors with SSE4.2, and needs `memcpy`, `memmove` and `memset` alone.
 #![no_std]
 
 #[cfg(feature = "alloc")]
