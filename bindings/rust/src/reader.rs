@@ -11,8 +11,9 @@ use crate::told::{Place, SignedPart, Verdict};
 
 /// Reads inputs, in memory that it is lent. Nothing of an input is kept from one call to the next.
 ///
-/// A call needs some 10 to 20 times the input's size and a few thousand bytes; a report needs more.
-/// With too little the answer is [`Error::OutOfMemory`], and never another.
+/// A certificate needs some 15 times its size and a few thousand bytes, a list of many small items up
+/// to 70 times, and a report some 40 times. With too little the answer is [`Error::OutOfMemory`], and
+/// never another.
 ///
 /// ```
 /// use cimaroly::{Block, Error, Kind, Reader, Reason};
