@@ -80,7 +80,8 @@ class C(BindingTest):
         place = self.folder()
         self.ran("make", "-C", f"{BINDINGS}/c", "install", f"PREFIX={place}")
         flags = self.ran("pkg-config", "--cflags", "--libs", "cimaroly", PKG_CONFIG_PATH=f"{place}/lib/pkgconfig").split()
-        self.ran("cc", "-std=c99", f"{BINDINGS}/c/examples/inspect.c", *flags, f"-Wl,-rpath,{place}/lib", "-o", f"{place}/inspect")
+        source = f"{BINDINGS}/c/examples/inspect.c"
+        self.ran("cc", "-std=c99", source, *flags, f"-Wl,-rpath,{place}/lib", "-o", f"{place}/inspect")
         for row in table():
             if row["not_before"] != "-":
                 printed = self.ran(f"{place}/inspect", path_of(row, place))
