@@ -310,9 +310,14 @@ function extensionsOf(der, kind) {
   );
 }
 
+// A salt length, and one that JSON.parse wouldn't tell exactly.
+const SALT_LENGTHS = /"saltLength":\{"at":\[\d+,\d+\],"value":(\d+)\}/g;
+const LARGE_SALT_LENGTH = /"saltLength":\{"at":\[\d+,\d+\],"value":\d{16,}\}/;
+
 /** The object of a report's JSON. A salt length that is no exact number of JavaScript's is a BigInt. */
 export function parseReport(text) {
-  const lengths = text.matchAll(/"saltLength":\{"at":\[\d+,\d+\],"value":(\d+)\}/g);
+  if (!LARGE_SALT_LENGTH.test(text)) return JSON.parse(text);
+  const lengths = text.matchAll(SALT_LENGTHS);
   return JSON.parse(text, (key, value) => {
     if (key !== "saltLength") return value;
     const [, digits] = lengths.next().value;

@@ -9,7 +9,9 @@ const PATIENCE = 60_000;
 
 /** A browser that was started for a test. */
 export class Browser {
-  static async start(program = process.env.CHROMIUM ?? "chromium") {
+  /** Starts it, with further options. */
+  static async start(options = []) {
+    const program = process.env.CHROMIUM ?? "chromium";
     const browser = new Browser();
     browser.folder = await mkdtemp(join(tmpdir(), "cimaroly-page-"));
     const words = [
@@ -22,6 +24,7 @@ export class Browser {
       "--hide-scrollbars",
       `--user-data-dir=${browser.folder}`,
       ...(process.getuid() === 0 ? ["--no-sandbox"] : []),
+      ...options,
       "about:blank",
     ];
     browser.process = spawn(program, words, { stdio: ["ignore", "ignore", "ignore", "pipe", "pipe"] });
