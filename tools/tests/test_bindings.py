@@ -223,6 +223,16 @@ class Snippets(BindingTest):
         printed = self.ran(sys.executable, "main.py", folder=self.place, PYTHONPATH=f"{BINDINGS}/python")
         self.assertEqual(printed, "RSA parameters absent 13 26\nRSA parameters absent 106 119\n3000 deviations\n")
 
+    def test_javascript(self):
+        if not shutil.which("node"):
+            self.skipTest("there is no node")
+        if not os.path.isfile(f"{ROOT}/web/cimaroly.wasm"):
+            self.skipTest("there is no web/cimaroly.wasm")
+        os.symlink(f"{ROOT}/web", f"{self.place}/web")
+        self.write("main.mjs", snippet("js").encode())
+        printed = self.ran("node", "main.mjs", folder=self.place)
+        self.assertEqual(printed, "RSA parameters absent 13 26\nRSA parameters absent 106 119\ndeviations\n")
+
     def test_rust(self):
         program = f"fn main() -> Result<(), Box<dyn std::error::Error>> {{\n{snippet('rust')}Ok(())\n}}\n"
         manifest = f'[package]\nname = "snippet"\nedition = "2021"\n[dependencies]\ncimaroly.path = "{BINDINGS}/rust"\n'
