@@ -25,7 +25,7 @@ BUDGETS = [
     (17, ["x509_names", "x509_names_parts"]),
     (28, ["x509_keys_parts"]),
     (14, ["x509_keys"]),
-    (0, ["picky_asn1_x509_parts"]),
+    (20, ["picky_asn1_x509_parts"]),
     (0, ["picky_asn1_x509"]),
     (18, ["x509_tool_parts", "x509_callers", "refusing"]),
     (7, ["x509_fields"]),

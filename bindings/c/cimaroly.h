@@ -91,8 +91,9 @@ enum cimaroly_deviation {
 
 /*
  * Memory that a call works in. `at` is aligned to 16, as what malloc gives. Sizes are in bytes; what stands behind the
- * last multiple of 16 isn't used. The call writes both fields, and they are as they were when it returns. A call needs
- * some 10 to 20 times the input's size and a few thousand bytes; cimaroly_report needs more.
+ * last multiple of 16 isn't used. The call writes both fields, and they are as they were when it returns. A certificate
+ * needs some 15 times its size and a few thousand bytes, a list of many small items up to 70 times its size, and
+ * cimaroly_report up to three times as much.
  */
 struct cimaroly_memory {
     void *at;

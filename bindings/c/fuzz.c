@@ -12,7 +12,7 @@
 #include "tests/calls.h"
 #include "tests/guard.h"
 
-enum { PLENTY = 1 << 20, MOST_BYTES = 4096, FEATURES = 1 << 14 };
+enum { PLENTY = 1 << 20, MOST_BYTES = 4096, FEATURES = 1 << 16, MOST_AROUND = 16 };
 
 __attribute__((section("__libfuzzer_extra_counters"))) static uint8_t features[FEATURES];
 
@@ -224,53 +224,120 @@ int LLVMFuzzerTestOneInput(const uint8_t *data, size_t size)
     return 0;
 }
 
-/* Where an element of the input ends, or 0. */
-static size_t end_of(const uint8_t *data, size_t size, size_t at, size_t *content)
+/* An element of the input, and the headers around it. */
+struct path {
+    size_t at;
+    size_t content;
+    size_t end;
+    size_t around[MOST_AROUND];
+    size_t depth;
+};
+
+/* Where an element's content stands. False where the bytes at that place are none. */
+static bool find_element(const uint8_t *data, size_t size, size_t at, struct path *path)
 {
     if (size < 2 || at > size - 2)
-        return 0;
-    size_t length = data[at + 1];
-    size_t digits = length > 128 ? length - 128 : 0;
-    *content = at + 2 + digits;
-    if (digits > 2 || *content > size)
-        return 0;
+        return false;
+    size_t digits = data[at + 1] > 128 ? data[at + 1] - (size_t)128 : 0;
+    size_t length = digits > 0 ? 0 : data[at + 1];
+    if (digits > 2 || at + 2 + digits > size)
+        return false;
     for (size_t i = 0; i < digits; i++)
-        length = (i == 0 ? 0 : length << 8) | data[at + 2 + i];
-    return length <= size - *content ? *content + length : 0;
+        length = length << 8 | data[at + 2 + i];
+    path->at = at;
+    path->content = at + 2 + digits;
+    path->end = path->content + length;
+    return path->end <= size;
+}
+
+/* Walks some steps, into an element or behind it; into strings too, of which many hold an element. */
+static bool find_any(const uint8_t *data, size_t size, unsigned steps, struct path *path)
+{
+    struct path next;
+    path->depth = 0;
+    if (!find_element(data, size, 1, path))
+        return false;
+    for (; steps > 0; steps--) {
+        size_t skipped = data[path->at] == 0x03 ? 1 : 0;
+        bool is_inner = (data[path->at] & 0x20) != 0 || data[path->at] == 0x04 || skipped > 0;
+        if (is_inner && path->depth < MOST_AROUND && path->content + skipped < path->end &&
+            find_element(data, path->end, path->content + skipped, &next)) {
+            path->around[path->depth++] = path->at;
+        } else if (!find_element(data, size, path->end, &next)) {
+            return true;
+        }
+        path->at = next.at;
+        path->content = next.content;
+        path->end = next.end;
+        while (path->depth > 0) {
+            /* (what ends around it is left) */
+            struct path outer;
+            if (!find_element(data, size, path->around[path->depth - 1], &outer) || path->at < outer.end)
+                break;
+            path->depth--;
+        }
+    }
+    return true;
+}
+
+/* Makes a length larger or smaller. False where it would have another number of digits. */
+static bool change_length(uint8_t *data, size_t size, size_t at, ptrdiff_t change)
+{
+    struct path path;
+    if (!find_element(data, size, at, &path))
+        return false;
+    size_t length = (size_t)((ptrdiff_t)(path.end - path.content) + change);
+    size_t digits = path.content - at - 2;
+    size_t wanted = length < 128 ? 0 : (length < 256 ? 1 : 2);
+    if (digits != wanted || length > 65535)
+        return false;
+    if (digits == 0)
+        data[at + 1] = (uint8_t)length;
+    for (size_t i = 0; i < digits; i++)
+        data[at + 2 + i] = (uint8_t)(length >> 8 * (digits - 1 - i) & 0xff);
+    return true;
+}
+
+/* Takes an element away, or doubles it, and makes the lengths around it fit. The new size; 0 where they can't. */
+static size_t splice(uint8_t *data, size_t size, size_t room, const struct path *path, bool is_doubled)
+{
+    size_t part = path->end - path->at;
+    if (is_doubled && part > room - size)
+        return 0;
+    for (size_t i = 0; i < path->depth; i++)
+        if (!change_length(data, size + part, path->around[i], is_doubled ? (ptrdiff_t)part : -(ptrdiff_t)part))
+            return 0;
+    if (is_doubled)
+        memmove(data + path->end, data + path->at, size - path->at);
+    else
+        memmove(data + path->at, data + path->end, size - path->end);
+    return is_doubled ? size + part : size - part;
 }
 
 /*
- * Changes a content without its length, exchanges tags, or takes a byte away and makes the lengths around it fit; else
- * what libFuzzer does by itself.
+ * Exchanges a tag, changes a content, or takes an element away or doubles it; else what libFuzzer does by itself, to a
+ * content or to all.
  */
 size_t LLVMFuzzerCustomMutator(uint8_t *data, size_t size, size_t room, unsigned seed)
 {
     static const uint8_t tags[] = {0x01, 0x02, 0x03, 0x04, 0x05, 0x06, 0x0c, 0x13, 0x16, 0x17, 0x18, 0x1e,
                                    0x30, 0x31, 0x80, 0x81, 0x82, 0xa0, 0xa1, 0xa2, 0xa3, 0xa4};
-    size_t at = 1;
-    size_t content = 0;
-    if (seed % 4 == 0 || size < 4)
+    struct path path;
+    unsigned how = seed % 8;
+    unsigned choice = seed / 8 % 128;
+    unsigned value = seed / 1024;
+    if (how == 0 || !find_any(data, size, choice, &path))
         return LLVMFuzzerMutate(data, size, room);
-    for (unsigned steps = seed / 4 % 64; steps > 0; steps--) {
-        size_t end = end_of(data, size, at, &content);
-        if (end == 0)
-            break;
-        /* (into what is constructed, and into strings of octets now and then) */
-        bool is_inner = (data[at] & 0x20) != 0 || (data[at] == 0x04 && (seed / 256 & 1) != 0);
-        size_t next = is_inner && content < end ? content : end;
-        if (end_of(data, size, next, &content) == 0)
-            break;
-        at = next;
+    size_t length = path.end - path.content;
+    if (how <= 3) {
+        size_t spliced = splice(data, size, room, &path, how == 3);
+        return spliced > 0 ? spliced : LLVMFuzzerMutate(data, size, room);
     }
-    size_t end = end_of(data, size, at, &content);
-    if (seed % 4 == 1 || end == 0 || end == content) {
-        data[at] = tags[seed / 1024 % sizeof tags];
-        return size;
-    }
-    if (seed % 4 == 2) {
-        data[content + seed / 1024 % (end - content)] = (uint8_t)(seed / 65536);
-        return size;
-    }
-    LLVMFuzzerMutate(data + content, end - content, end - content);
+    if (how == 4 || length == 0)
+        data[path.at] = tags[value % sizeof tags];
+    else if (how == 5)
+        LLVMFuzzerMutate(data + path.content, length, length);
+    else
+        data[path.content + value % length] = (uint8_t)(value >> 12);
     return size;
 }

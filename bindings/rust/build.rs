@@ -1,4 +1,5 @@
-//! Links `libcimaroly.a`: that of the repository's `dist/`, or of the folder that `CIMAROLY_LIB_DIR` names.
+//! Links `libcimaroly.a`: that of the repository's `dist/`, or of the folder that
+//! `CIMAROLY_LIB_DIR` names.
 
 use std::env;
 use std::path::{Path, PathBuf};

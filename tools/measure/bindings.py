@@ -3,10 +3,10 @@
 
 usage: tools/measure/bindings.py [COUNT]
 
-Over each of three certificates of tools/tests/data every call is done COUNT times (20,000 where none is given; slower ones a quarter
-of that, and from Python a tenth), in five rounds, of which the fastest counts. It prints a Markdown table of microseconds of a
-processor. It wants gcc, OpenSSL's headers (Debian: libssl-dev) and cryptography. The library is that of dist/, or of the folder that
-CIMAROLY_LIB_DIR names.
+Over each of three certificates of tools/tests/data every call is done COUNT times (20,000 where none is given; slower ones a
+quarter of that, and from Python a tenth), in five rounds, of which the fastest counts. It prints a Markdown table of microseconds
+of a processor. It wants gcc, OpenSSL's headers (Debian: libssl-dev) and cryptography. The library is that of dist/, or of the
+folder that CIMAROLY_LIB_DIR names.
 """
 
 import os
@@ -83,7 +83,8 @@ def main():
             sizes.append(len(block.der))
             columns.append(from_c(program, f"{folder}/{it}", count) | from_python(block.der, max(count // 10, 1)))
     print(f"(cryptography {cryptography.__version__}, its OpenSSL {backend.openssl_version_text()})\n")
-    print("| Call | " + " | ".join(f"{it.removeprefix('certificate_')}, {size:,} bytes" for it, size in zip(CERTIFICATES, sizes)) + " |")
+    heads = [f"{it.removeprefix('certificate_')}, {size:,} bytes" for it, size in zip(CERTIFICATES, sizes)]
+    print("| Call | " + " | ".join(heads) + " |")
     print("|---|" + "--:|" * len(sizes))
     for name in columns[0]:
         print(f"| {name} | " + " | ".join(f"{it[name]:.1f}" for it in columns) + " |")

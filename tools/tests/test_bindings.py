@@ -80,7 +80,8 @@ class C(BindingTest):
         place = self.folder()
         self.ran("make", "-C", f"{BINDINGS}/c", "install", f"PREFIX={place}")
         flags = self.ran("pkg-config", "--cflags", "--libs", "cimaroly", PKG_CONFIG_PATH=f"{place}/lib/pkgconfig").split()
-        self.ran("cc", "-std=c99", f"{BINDINGS}/c/examples/inspect.c", *flags, f"-Wl,-rpath,{place}/lib", "-o", f"{place}/inspect")
+        source = f"{BINDINGS}/c/examples/inspect.c"
+        self.ran("cc", "-std=c99", source, *flags, f"-Wl,-rpath,{place}/lib", "-o", f"{place}/inspect")
         for row in table():
             if row["not_before"] != "-":
                 printed = self.ran(f"{place}/inspect", path_of(row, place))
@@ -221,6 +222,16 @@ class Snippets(BindingTest):
         self.write("main.py", snippet("python").encode())
         printed = self.ran(sys.executable, "main.py", folder=self.place, PYTHONPATH=f"{BINDINGS}/python")
         self.assertEqual(printed, "RSA parameters absent 13 26\nRSA parameters absent 106 119\n3000 deviations\n")
+
+    def test_javascript(self):
+        if not shutil.which("node"):
+            self.skipTest("there is no node")
+        if not os.path.isfile(f"{ROOT}/web/cimaroly.wasm"):
+            self.skipTest("there is no web/cimaroly.wasm")
+        os.symlink(f"{ROOT}/web", f"{self.place}/web")
+        self.write("main.mjs", snippet("js").encode())
+        printed = self.ran("node", "main.mjs", folder=self.place)
+        self.assertEqual(printed, "RSA parameters absent 13 26\nRSA parameters absent 106 119\ndeviations\n")
 
     def test_rust(self):
         program = f"fn main() -> Result<(), Box<dyn std::error::Error>> {{\n{snippet('rust')}Ok(())\n}}\n"

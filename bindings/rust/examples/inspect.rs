@@ -1,4 +1,5 @@
-//! Prints the fields and the deviations of a certificate in DER: `cargo run --example inspect -- cert.der`.
+//! Prints the fields and the deviations of a certificate in DER: `cargo run --example inspect --
+//! cert.der`.
 
 use std::process::ExitCode;
 

@@ -25,7 +25,8 @@ fn lent<T>(
     }
 }
 
-/// What a call writes to a buffer, which is as large as it says that it needs. It gives how many items it has written.
+/// What a call writes to a buffer, which is as large as it says that it needs. It gives how many
+/// items it has written.
 fn filled<T: Clone>(
     item: &T,
     first: usize,
@@ -67,7 +68,8 @@ pub fn check(kind: Kind, der: &[u8]) -> Result<Verdict, Error> {
 /// ```
 ///
 /// # Errors
-/// [`Error::Refused`], [`Error::TooLong`], and [`Error::OutOfMemory`] where the allocator refuses memory.
+/// [`Error::Refused`], [`Error::TooLong`], and [`Error::OutOfMemory`] where the allocator refuses
+/// memory.
 pub fn encode(kind: Kind, der: &[u8]) -> Result<Vec<u8>, Error> {
     filled(&0, der.len().saturating_add(64), |out| {
         lent(der, |reader| reader.encode(kind, der, out).map(<[u8]>::len))
@@ -87,7 +89,8 @@ pub fn places(kind: Kind, der: &[u8]) -> Result<Vec<Place>, Error> {
 /// As [`Reader::signed_part`].
 ///
 /// # Errors
-/// [`Error::Refused`]; [`Error::WrongKind`] of another kind; [`Error::OutOfMemory`] where the allocator refuses memory.
+/// [`Error::Refused`]; [`Error::WrongKind`] of another kind; [`Error::OutOfMemory`] where the
+/// allocator refuses memory.
 pub fn signed_part(kind: Kind, der: &[u8]) -> Result<SignedPart<'_>, Error> {
     lent(der, |reader| reader.signed_part(kind, der))
 }
@@ -119,7 +122,8 @@ pub fn private_key(der: &[u8]) -> Result<PrivateKey<'_>, Error> {
 /// As [`Reader::extensions`].
 ///
 /// # Errors
-/// [`Error::Refused`]; [`Error::WrongKind`] of another kind; [`Error::OutOfMemory`] where the allocator refuses memory.
+/// [`Error::Refused`]; [`Error::WrongKind`] of another kind; [`Error::OutOfMemory`] where the
+/// allocator refuses memory.
 pub fn extensions(kind: Kind, der: &[u8]) -> Result<Vec<Extension<'_>>, Error> {
     let mut found = Vec::new();
     filled(&ExtensionPlaces::EMPTY, 16, |out| {

@@ -10,7 +10,8 @@ pub struct Field<'a> {
 }
 
 impl<'a> Field<'a> {
-    /// The bytes of an input from `start` up to `end`, or none where they don't lie in it, or there are none.
+    /// The bytes of an input from `start` up to `end`, or none where they don't lie in it, or there
+    /// are none.
     pub(crate) fn of(der: &'a [u8], start: usize, end: usize) -> Option<Self> {
         let bytes = der.get(start..end)?;
         (!bytes.is_empty()).then_some(Field { bytes, start })

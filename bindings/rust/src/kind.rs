@@ -96,7 +96,8 @@ pub enum Deviation {
     DefaultCriticalityEncoded = 7,
     /// Fields of an authority key identifier whose tags don't ascend.
     AuthorityKeyFieldOrder = 8,
-    /// A general name with an explicit tag in place of an implicit one, or of a directory name the reverse.
+    /// A general name with an explicit tag in place of an implicit one, or of a directory name the
+    /// reverse.
     GeneralNameForm = 9,
     /// An element behind a private key that isn't understood, such as `attributes [0]`.
     SkippedKeyElement = 10,

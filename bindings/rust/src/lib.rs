@@ -1,7 +1,8 @@
 //! X.509 structures in DER, checked, encoded and looked into by proved code.
 //!
-//! This crate calls `libcimaroly.a`, which is built of code whose contracts are proved; of this crate itself nothing is
-//! proved. It takes no memory: a [`Reader`] works in what it is lent, and fields borrow from the input.
+//! This crate calls `libcimaroly.a`, which is built of code whose contracts are proved; of this
+//! crate itself nothing is proved. It takes no memory: a [`Reader`] works in what it is lent, and
+//! fields borrow from the input. What it is lent isn't cleared.
 //!
 //! ```
 //! use cimaroly::{Block, Kind, Reader};
@@ -20,13 +21,15 @@
 //! # Ok::<(), cimaroly::Error>(())
 //! ```
 //!
-//! With the feature `alloc`, which is on by default, there are functions of the same names at the root of the crate, which take memory from the
-//! global allocator, and more of it until it is enough.
+//! With the feature `alloc`, which is on by default, there are functions of the same names at the
+//! root of the crate, which take memory from the global allocator, and more of it until it is
+//! enough.
 //!
 //! # Linking
 //!
-//! The build script links the archive of the repository's `dist/`, or of the folder that the variable
-//! `CIMAROLY_LIB_DIR` names. The archive is for x86-64, and needs `memcpy`, `memmove` and `memset` alone.
+//! The build script links the archive of the repository's `dist/`, or of the folder that the
+//! variable `CIMAROLY_LIB_DIR` names. The archive is for x86-64 processors with SSE4.2, and needs
+//! `memcpy`, `memmove` and `memset` alone.
 #![no_std]
 
 #[cfg(feature = "alloc")]

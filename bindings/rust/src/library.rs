@@ -1,16 +1,17 @@
-//! The calls of `libcimaroly.a`, each behind a safe function of the same name. All that is unsafe stands here.
+//! The calls of `libcimaroly.a`, each behind a safe function of the same name. All that is unsafe
+//! stands here.
 //!
-//! What `cimaroly.h` asks of a caller holds of every call: a pointer is that of a reference or a slice, and so never null;
-//! memory is aligned to 16; what is written is lent exclusively, and so overlaps nothing else; and the library keeps no
-//! pointer.
+//! What `cimaroly.h` asks of a caller holds of every call: a pointer is that of a reference or a
+//! slice, and so never null; memory is aligned to 16; what is written is lent exclusively, and so
+//! overlaps nothing else; and the library keeps no pointer.
 #![allow(unsafe_code)]
 
 use core::mem::{size_of_val, MaybeUninit};
 
 use crate::told::{Counts, Place};
 
-/// 16 bytes of the memory that a [`crate::Reader`] works in. What they hold before a call doesn't matter, and after it
-/// says nothing.
+/// 16 bytes of the memory that a [`crate::Reader`] works in. What they hold before a call doesn't
+/// matter, and after it says nothing.
 #[derive(Clone, Copy, Debug)]
 #[repr(C, align(16))]
 pub struct Block(MaybeUninit<[u8; 16]>);
@@ -103,7 +104,8 @@ pub(crate) struct PrivateKey {
     pub(crate) public_key: Span,
 }
 
-/// Where an extension and its fields stand: an item of the buffer that [`crate::Reader::extensions`] fills.
+/// Where an extension and its fields stand: an item of the buffer that
+/// [`crate::Reader::extensions`] fills.
 #[derive(Clone, Copy, Debug, Default)]
 #[repr(C)]
 pub struct ExtensionPlaces {

@@ -11,8 +11,9 @@ use crate::told::{Place, SignedPart, Verdict};
 
 /// Reads inputs, in memory that it is lent. Nothing of an input is kept from one call to the next.
 ///
-/// A call needs some 10 to 20 times the input's size and a few thousand bytes; a report needs more. With too little the
-/// answer is [`Error::OutOfMemory`], and never another.
+/// A certificate needs some 15 times its size and a few thousand bytes, a list of many small items up
+/// to 70 times, and a report some 40 times. With too little the answer is [`Error::OutOfMemory`], and
+/// never another.
 ///
 /// ```
 /// use cimaroly::{Block, Error, Kind, Reader, Reason};
@@ -35,7 +36,8 @@ impl<'m> Reader<'m> {
         Reader { memory }
     }
 
-    /// Whether the input encodes a value of the kind, and how it deviates from the value's DER encoding.
+    /// Whether the input encodes a value of the kind, and how it deviates from the value's DER
+    /// encoding.
     ///
     /// # Errors
     /// [`Error::Refused`] and [`Error::OutOfMemory`].
@@ -49,11 +51,12 @@ impl<'m> Reader<'m> {
         }
     }
 
-    /// Writes the DER encoding of what the input encodes to the front of `out`. Where the input has no deviation, these
-    /// are its own bytes.
+    /// Writes the DER encoding of what the input encodes to the front of `out`. Where the input has
+    /// no deviation, these are its own bytes.
     ///
     /// # Errors
-    /// [`Error::Refused`], [`Error::OutOfMemory`], [`Error::BufferTooShort`] and [`Error::TooLong`].
+    /// [`Error::Refused`], [`Error::OutOfMemory`], [`Error::BufferTooShort`] and
+    /// [`Error::TooLong`].
     pub fn encode<'o>(
         &mut self,
         kind: Kind,
@@ -154,10 +157,12 @@ impl<'m> Reader<'m> {
         })
     }
 
-    /// The extensions of a certificate or a list of extensions, in the order of the input. `out` is worked in.
+    /// The extensions of a certificate or a list of extensions, in the order of the input. `out` is
+    /// worked in.
     ///
     /// # Errors
-    /// [`Error::Refused`], [`Error::OutOfMemory`] and [`Error::BufferTooShort`]; [`Error::WrongKind`] of another kind.
+    /// [`Error::Refused`], [`Error::OutOfMemory`] and [`Error::BufferTooShort`];
+    /// [`Error::WrongKind`] of another kind.
     pub fn extensions<'a, 'o>(
         &mut self,
         kind: Kind,
@@ -171,9 +176,9 @@ impl<'m> Reader<'m> {
         Ok(Extensions { der, places })
     }
 
-    /// Writes what stands in the input to the front of `out`, as a JSON object (docs/JSON.md of the repository). The
-    /// secret numbers of private keys are left out, unless `secrets` is true. Also where the input is refused: then the
-    /// object says why and where.
+    /// Writes what stands in the input to the front of `out`, as a JSON object (docs/JSON.md of the
+    /// repository). The secret numbers of private keys are left out, unless `secrets` is true. Also
+    /// where the input is refused: then the object says why and where.
     ///
     /// # Errors
     /// [`Error::OutOfMemory`] and [`Error::BufferTooShort`].

@@ -1,5 +1,5 @@
 -- What the exports answer.
-use Rattle.std.specs.Prelude.{◌≡◌, ◌⊎◌, ℕ, List}
+use Rattle.std.specs.Prelude.{◌≡◌, ℕ}
 use Rattle.std.specs.Borrow.{Bor}
 use Rattle.bumpalo.specs.declared.bump.Bump.{Bump}
 use Rattle.std.specs.contracts.prelude.RefAllocator.TheImpl as borrowed

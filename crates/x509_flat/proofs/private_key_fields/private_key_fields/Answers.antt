@@ -1,4 +1,3 @@
-use Rattle.std.proofs.Common.{sym}
 use Rattle.x509_flat.proofs.private_key_fields.private_key_fields.Goals as goal
 
 pub returns-in-Ok : goal.returns-in-Ok
