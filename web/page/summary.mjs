@@ -83,11 +83,17 @@ export function isPrivate(kind) {
   return kind.endsWith("private-key");
 }
 
+// A value as it stands in a name on one line: bytes in hexadecimal, and not too many of them.
+function inLine(label, node, bytes) {
+  const value = valueOf(label, node, bytes);
+  if (value?.kind === "text") return shown(node.value, "name");
+  if (value?.kind !== "octets") return value?.text ?? "";
+  return value.whole.length <= 600 ? `#${value.whole}` : `#${value.whole.slice(0, 599)}:..`;
+}
+
 function attributeLine(node, bytes) {
-  const value = valueOf("", node, bytes);
   const short = SHORT.get(node.id) ?? node.name ?? node.id;
-  if (value?.kind === "text") return `${short}=${shown(node.value, "name")}`;
-  return `${short}=#${value?.text ?? ""}`;
+  return `${short}=${inLine("", node, bytes)}`;
 }
 
 /** A name on one line, as in `C=DE, CN=example.org`; at most so many of its sets. */
@@ -100,9 +106,10 @@ export function nameLine(node, bytes, most = 40) {
 
 function alternativeLine(node, bytes) {
   if (node.field === "directoryName") return `directory (${nameLine(node, bytes)})`;
-  const value = valueOf(node.field, node, bytes);
-  const text = value?.kind === "text" ? shown(node.value, "name") : (value?.text ?? "");
-  return `${FORMS.get(node.field) ?? node.field} ${text}`.trim();
+  if (node.field === "ediPartyName") return `EDI party ${inLine("", node.partyName, bytes)}`;
+  if (node.field !== "otherName") return `${FORMS.get(node.field)} ${inLine(node.field, node, bytes)}`;
+  const form = node["type-id"].value;
+  return `other ${form.name ?? form.id} ${inLine("", node.value, bytes)}`;
 }
 
 /** Alternative names on one line; at most so many of them. */
