@@ -1,7 +1,7 @@
 // The structures of what was taken, where they are several.
 
 import { at, make } from "./dom.mjs";
-import { counted, shown } from "./text.mjs";
+import { clipped, counted, shown } from "./text.mjs";
 
 const PAGE = 100;
 
@@ -25,7 +25,10 @@ export class List {
 
   pick(index) {
     this.current = index;
-    this.build();
+    for (const [offset, { firstChild: button }] of [...at("structure-list").children].entries()) {
+      if (this.from + offset === index) button.setAttribute("aria-current", "true");
+      else button.removeAttribute("aria-current");
+    }
     this.choose(this.structures[index]);
   }
 
@@ -72,5 +75,6 @@ export class List {
 
 function captionWithCount(structure) {
   const count = structure.report.deviations?.length ?? 0;
-  return count > 0 ? `${structure.caption} (${counted(count, "deviation")})` : structure.caption;
+  const caption = clipped(structure.caption, 200);
+  return count > 0 ? `${caption} (${counted(count, "deviation")})` : caption;
 }

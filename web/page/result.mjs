@@ -8,7 +8,7 @@ import { headerLength } from "./elements.mjs";
 import { fieldOver, fieldsOf } from "./fields.mjs";
 import { KINDS, toBase64 } from "../pem.mjs";
 import { summaryOf, titleOf } from "./summary.mjs";
-import { counted, grouped, hexOf, shown } from "./text.mjs";
+import { clipped, counted, grouped, hexOf, shown } from "./text.mjs";
 import { Tree } from "./tree.mjs";
 import { elementsOf } from "./unread.mjs";
 
@@ -108,8 +108,7 @@ export class Result {
     at("origin").textContent = this.origin();
     at("summary").replaceChildren(
       ...rows.flatMap(({ label, text, at: place }) => {
-        const inner = place === undefined ? text : this.linkTo(text, place);
-        return [make("dt", {}, label), make("dd", {}, inner)];
+        return [make("dt", {}, label), make("dd", {}, this.linkTo(clipped(text, 2000), place))];
       }),
     );
   }

@@ -1,6 +1,6 @@
 // What a structure is, in a few lines: whose it is, how long it is valid, which key it has.
 
-import { counted, grouped, shown } from "./text.mjs";
+import { clipped, counted, grouped, shown } from "./text.mjs";
 import { isNode, valueOf } from "./values.mjs";
 
 const TITLES = new Map([
@@ -86,9 +86,8 @@ export function isPrivate(kind) {
 // A value as it stands in a name on one line: bytes in hexadecimal, and not too many of them.
 function inLine(label, node, bytes) {
   const value = valueOf(label, node, bytes);
-  if (value?.kind === "text") return shown(node.value, "name");
-  if (value?.kind !== "octets") return value?.text ?? "";
-  return value.whole.length <= 600 ? `#${value.whole}` : `#${value.whole.slice(0, 599)}:..`;
+  if (value?.kind === "text") return shown(clipped(node.value), "name");
+  return value?.kind === "octets" ? `#${clipped(value.whole)}` : (value?.text ?? "");
 }
 
 function attributeLine(node, bytes) {

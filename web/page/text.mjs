@@ -19,6 +19,11 @@ export function shown(text, frame = "line") {
     .replace(UNSEEN, (it) => `\\u{${it.codePointAt(0).toString(16)}}`);
 }
 
+/** The front of a text that is too long for a line. */
+export function clipped(text, most = 1000) {
+  return text.length <= most ? text : `${text.slice(0, most)}..`;
+}
+
 /** The text between quotation marks. */
 export function quoted(text) {
   return `"${shown(text, "quotes")}"`;

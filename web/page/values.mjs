@@ -1,13 +1,13 @@
 // Values of the report as they are shown: as `cimaroly show` prints them, and whole.
 
 import { elementAt, lastElements } from "./elements.mjs";
-import { counted, grouped, hex, hexOf, quoted, shown } from "./text.mjs";
+import { clipped, counted, grouped, hex, hexOf, quoted, shown } from "./text.mjs";
 
 const WHOLE = 32;
 const FRONT = 16;
 const TEXT_TAGS = new Set([0x0c, 0x12, 0x13, 0x16, 0x1a, 0x1e]);
 const TIME_TAGS = new Set([0x17, 0x18]);
-const LONGEST_TEXT = 4000;
+const MOST_BYTES = 4000;
 const LONGEST_IDENTIFIER = 200;
 const TEXT_FIELDS = new Set(["dNSName", "rfc822Name", "uniformResourceIdentifier"]);
 
@@ -57,10 +57,20 @@ function heldTag(text, bytes, elements) {
 
 function stringValue(label, text, bytes, { start, end }) {
   const elements = lastElements(bytes, start, end);
-  if (isText(label, text, bytes, elements)) return { kind: "text", text: quoted(text), whole: quoted(text) };
+  if (isText(label, text, bytes, elements)) return textValue(text);
   const tag = heldTag(text, bytes, elements);
   if (tag === null || label === "iPAddress") return word(text);
   return tag === 2 || label === "authorityCertSerialNumber" ? { kind: "integer", text, whole: text } : octets(text);
+}
+
+function textValue(text) {
+  return {
+    kind: "text",
+    text: quoted(clipped(text)),
+    get whole() {
+      return quoted(text);
+    },
+  };
 }
 
 function word(text) {
@@ -109,13 +119,10 @@ function dotted(content) {
 function elementValue({ at: [start, end] }, bytes) {
   const element = elementAt(bytes, start, end);
   if (element.tag & 0x20) return null;
-  if (TEXT_TAGS.has(element.tag) || TIME_TAGS.has(element.tag)) {
-    const text = quoted(decoded(bytes, element));
-    return { kind: "text", text: text.slice(0, LONGEST_TEXT), whole: text };
-  }
+  if (TEXT_TAGS.has(element.tag) || TIME_TAGS.has(element.tag)) return textValue(decoded(bytes, element));
   const content = bytes.subarray(element.content, end);
   if (element.tag === 6 && content.length <= LONGEST_IDENTIFIER) return word(dotted(content));
-  const value = octets(hex(content.subarray(0, LONGEST_TEXT)));
+  const value = octets(hex(content.subarray(0, MOST_BYTES)));
   return content.length > WHOLE ? { ...value, text: `${content.length} bytes, ${shortHex(value.whole)}` } : value;
 }
 

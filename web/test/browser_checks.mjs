@@ -226,6 +226,9 @@ async function several(context) {
     assert.deepEqual(await page.run(results), ["ok", "refused", "deviations", "refused"]);
     await page.run(`document.querySelectorAll(".structure")[2].click()`);
     assert.equal(await page.run(text("verdict")), "Not in DER: 1 deviation");
+    const current = `document.querySelectorAll(".structure")[2].getAttribute("aria-current")`;
+    assert.equal(await page.run(current), "true");
+    assert.equal(await page.run(count(".structure[aria-current]")), 1);
     await page.run(`document.querySelectorAll(".structure")[1].click()`);
     assert.match(await page.run(text("refusal-title")), /has headers, as encrypted keys do/);
   });
