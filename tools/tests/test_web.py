@@ -12,7 +12,7 @@ ROOT = os.path.dirname(os.path.dirname(HERE))
 WEB = f"{ROOT}/web"
 
 # How many seconds the tests may take: browsers are slow on machines with much else to do.
-PATIENCE = 1200
+PATIENCE = 2400
 
 
 def text_of(path):

@@ -101,7 +101,9 @@ async function goToDeviations(context) {
       const places = await page.run(texts(".deviation .place"));
       assert.deepEqual(places.sort(), told.map((it) => it.at.join("..")).sort(), name);
       for (let index = 0; index < places.length; index += 1) {
-        const [place, marked] = await page.run(inPage.goTo(index));
+        const [place, marked, label] = await page.run(inPage.goTo(index));
+        const { field } = told.find((it) => it.at.join("..") === place);
+        if (field !== "") assert.ok(field.endsWith(label), `${name}: ${label} is selected for ${field}`);
         assert.equal(marked, place, name);
       }
     }

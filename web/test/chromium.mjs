@@ -5,7 +5,8 @@ import { mkdtemp, rm } from "node:fs/promises";
 import { tmpdir } from "node:os";
 import { join } from "node:path";
 
-const PATIENCE = 60_000;
+// (a machine may have much else to do)
+const PATIENCE = 240_000;
 
 /** A browser that was started for a test. */
 export class Browser {

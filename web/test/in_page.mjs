@@ -65,14 +65,15 @@ export const ACTIVE = `(() => {
   return document.getElementById(tree.getAttribute("aria-activedescendant")).querySelector(".label").textContent;
 })()`;
 
-/** Goes to a deviation: its place, and the place that is marked then. */
+/** Goes to a deviation: its place, the place that is marked then, and the field that is selected. */
 export const goTo = (index) => `(() => {
   const link = document.querySelectorAll(".deviation")[${index}];
   link.click();
   const pointed = document.querySelectorAll(".cells .pointed");
   const marked = pointed.length > 0 ? pointed : document.querySelectorAll(".cells .lit");
   const bytes = Array.from(marked, (it) => Number(it.dataset.byte));
-  return [link.querySelector(".place").textContent, [bytes[0], bytes[bytes.length - 1] + 1].join("..")];
+  const place = link.querySelector(".place").textContent;
+  return [place, [bytes[0], bytes[bytes.length - 1] + 1].join(".."), ${ACTIVE}];
 })()`;
 
 /** Pastes a text. */
