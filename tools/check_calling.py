@@ -1,5 +1,5 @@
 #!/usr/bin/env python3
-"""Checks that the code in README and docs/ is that of the crates, which the gate proves.
+"""Checks that the code in README and docs/ is that of the crates, which the gate proves, or of docs/BINDINGS.md, which it runs.
 
 usage: tools/check_calling.py
 
@@ -15,7 +15,7 @@ import sys
 ROOT = os.path.dirname(os.path.dirname(os.path.abspath(__file__)))
 # The pages, and the files whose code each shows.
 PAGES = {
-    "README.md": ["crates/x509_callers/src/*.rt"],
+    "README.md": ["crates/x509_callers/src/*.rt", "docs/BINDINGS.md"],
     "docs/CALLING.md": ["crates/x509_callers/src/*.rt"],
     "docs/CONTRIBUTING.md": [
         "crates/x509_keys_parts/src/aes_auth_enc.rt",

@@ -24,7 +24,7 @@ BUDGETS = [
     (10, ["x509_prim", "x509_prim_parts"]),
     (17, ["x509_names", "x509_names_parts"]),
     (28, ["x509_keys_parts"]),
-    (13, ["x509_keys"]),
+    (14, ["x509_keys"]),
     (0, ["picky_asn1_x509_parts"]),
     (0, ["picky_asn1_x509"]),
     (18, ["x509_tool_parts", "x509_callers", "refusing"]),

@@ -7,8 +7,9 @@
 #        tools/dist.sh --after-ci SUMS  --check right after rt ci, which has built anew the programs in out/, and the
 #                                       libraries that aren't among SUMS (tools/plant.py --before-ci)
 #        tools/dist.sh --build NAME     proves and builds an artifact where that isn't done, and prints its path
-# SOURCES has the toolchain's line, and the checksum of each artifact's sources (tools/sources.sh). What is built has a record
-# beside it, FILE.sources: the checksum of its sources and its own. The last line of a comparison is 'N passed, M failed'.
+# SOURCES has the line of the toolchain that built it, and the checksum of each artifact's sources (tools/sources.sh). Where another
+# toolchain builds other bytes of the same sources, that is said, and is no fault. What is built has a record beside it,
+# FILE.sources: the checksum of its sources and its own. The last line of a comparison is 'N passed, M failed'.
 set -eu
 export LC_ALL=C
 unset CDPATH
@@ -16,38 +17,40 @@ cd "$(dirname "$0")/.."
 
 sum() { sha256sum <"$1" | cut -d ' ' -f 1; }
 
-# What can be built, a line each: its name, its crate, and the file that the build leaves. Before the name of what isn't in dist/
-# stands a hyphen.
-builds() { sed 's/#.*//; /^ *$/d; s/^\([^ ]*\) \([^ ]*\) /\1 \2 crates\/\2\//' tools/artifacts.txt; }
-
-# The artifacts in dist/.
-artifacts() { builds | sed '/^-/d'; }
+# The artifacts, a line each: the name from dist/, the crate, and the file that its build leaves; or a hyphen and a file to copy.
+artifacts() { sed 's/#.*//; /^ *$/d; / - /!s/^\([^ ]*\) \([^ ]*\) /\1 \2 crates\/\2\//' tools/artifacts.txt; }
 
 # The record of a file that is built of the sources of a crate as they stand here.
 record() { printf '%s %s\n' "$(tools/sources.sh "$1")" "$(sum "$2")"; }
 
 is_built() { [ -f "$2" ] && [ -f "$2.sources" ] && [ "$(cat "$2.sources")" = "$(record "$1" "$2")" ]; }
 
-# Proves and builds what a crate makes: a program by its stored run, or a static library.
-make_crate() {
-    if [ -f "crates/$1/src/main.rt" ]; then
+# Proves and builds the file of a crate: a program by its stored run, a static library, or what is made of that.
+make_file() {
+    case $2 in
+    *.a) python3 tools/build_library.py "$1" ${stood+--stood "$stood"} >&2 ;;
+    *.so)
+        archive=crates/$1/out/lib$1.a
+        (build "$1" "$archive") && tools/shared_object.sh "$archive" "$2" >&2
+        ;;
+    *.wasm) python3 tools/build_wasm.py ${stood+--stood "$stood"} "$2" >&2 ;;
+    *)
         # shellcheck disable=SC2046
         (cd "crates/$1" && cat stdin 2>/dev/null | rt run -- $(cat args 2>/dev/null) >&2)
-    else
-        python3 tools/build_library.py "$1" ${stood+--stood "$stood"} >&2
-    fi
+        ;;
+    esac
 }
 
 # Builds the file of a crate where that isn't done.
 build() {
-    if is_built "$1" "$2"; then return; fi
+    if [ "$1" = - ] || is_built "$1" "$2"; then return; fi
     if ! command -v rt >/dev/null; then
         echo "the toolchain's command rt isn't on the PATH: README says what is needed" >&2
         return 1
     fi
     before=$(tools/sources.sh "$1")
-    if ! make_crate "$1"; then
-        echo "crates/$1 was not proved and built" >&2
+    if ! make_file "$1" "$2"; then
+        echo "$2 was not proved and built" >&2
         return 1
     elif [ "$(tools/sources.sh "$1")" != "$before" ]; then
         echo "a source of crates/$1 changed while it was built" >&2
@@ -63,7 +66,7 @@ make_dist() {
     rt version >dist/SOURCES
     artifacts | while read -r name crate file; do
         cp "$file" "dist/$name"
-        printf '%s  %s\n' "$(tools/sources.sh "$crate")" "$name" >>dist/SOURCES
+        if [ "$crate" != - ]; then printf '%s  %s\n' "$(tools/sources.sh "$crate")" "$name" >>dist/SOURCES; fi
         (cd dist && sha256sum "$name") >>dist/SHA256SUMS
     done
 }
@@ -74,18 +77,27 @@ fault_of() {
         echo "dist/$1 is missing"
     elif ! grep -qxF "$(sum "dist/$1")  $1" dist/SHA256SUMS; then
         echo "dist/$1: its checksum isn't the one in dist/SHA256SUMS"
+    elif [ "$2" = - ]; then
+        cmp -s "dist/$1" "$3" || echo "dist/$1 has other bytes than $3"
     elif ! grep -qxF "$(tools/sources.sh "$2")  $1" dist/SOURCES; then
         echo "dist/SOURCES: $1 was built of other sources than stand here"
     elif [ "$4" = --sums ]; then
         return
     elif ! build "$2" "$3" </dev/null; then
         echo "$3 can't be built, so dist/$1 wasn't compared with it"
-    elif ! cmp -s "dist/$1" "$3"; then
+    elif cmp -s "dist/$1" "$3"; then
+        return
+    elif is_same_toolchain; then
         echo "dist/$1 has other bytes than $3, which was built here"
+    else
+        echo "dist/$1 can't be compared with $3: $(rt version) builds other bytes than $(head -n 1 dist/SOURCES)" >&2
     fi
 }
 
-# What dist/ holds beside the artifacts, and another toolchain than the one here.
+# Whether the toolchain here is the one that dist/ was built with. Another may build other bytes of the same sources.
+is_same_toolchain() { [ "$(rt version)" = "$(head -n 1 dist/SOURCES)" ]; }
+
+# What dist/ holds beside the artifacts, and a want of the toolchain.
 strays() {
     for file in dist/*; do
         name=${file#dist/}
@@ -98,8 +110,6 @@ strays() {
         return
     elif ! command -v rt >/dev/null; then
         echo "dist/ wasn't compared with a build: the toolchain's command rt isn't on the PATH"
-    elif [ "$(rt version)" != "$(head -n 1 dist/SOURCES)" ]; then
-        echo "dist/SOURCES names another toolchain than $(rt version)"
     fi
 }
 
@@ -130,14 +140,14 @@ case ${1-} in
     stood=$2
     # (all is built first, so that dist/ can be made of it where it differs)
     artifacts | while read -r _name crate file; do
-        if [ -f "$file" ]; then record "$crate" "$file" >"$file.sources"; fi
+        if [ "$crate" != - ] && [ -f "$file" ]; then record "$crate" "$file" >"$file.sources"; fi
         build "$crate" "$file" </dev/null || true
     done
     compare --check
     ;;
 --build)
-    builds | while read -r name crate file; do
-        if [ "${name#-}" = "$2" ]; then
+    artifacts | while read -r name crate file; do
+        if [ "$name" = "$2" ]; then
             build "$crate" "$file" </dev/null
             echo "$file"
         fi

@@ -22,7 +22,7 @@ runs() {
 }
 
 # shellcheck disable=SC2046
-set -- $(sed -n "s/^-\{0,1\}$name \([^ ]*\) \(.*\)/\1 \2/p" "$root/tools/artifacts.txt") "$@"
+set -- $(sed -n "s/^$name \([^ ]*\) \(.*\)/\1 \2/p" "$root/tools/artifacts.txt") "$@"
 crate=$1
 built=$root/crates/$crate/$2
 shift 2

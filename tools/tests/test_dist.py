@@ -8,11 +8,11 @@ import tempfile
 import unittest
 
 ROOT = os.path.dirname(os.path.dirname(os.path.dirname(os.path.abspath(__file__))))
-SCRIPTS = ("bin/x509_tool", "tools/launch.sh", "tools/dist.sh", "tools/sources.sh", "tools/artifacts.txt")
+SCRIPTS = ("bin/x509_tool", "tools/launch.sh", "tools/dist.sh", "tools/sources.sh")
 # What 'rt run' builds: a script that says what it was built of.
 RT = """#!/bin/sh
 case $1 in
-version) echo "a toolchain"; exit ;;
+version) echo "${RT_VERSION:-a toolchain}"; exit ;;
 run) ;;
 *) exit 2 ;;
 esac
@@ -51,6 +51,7 @@ class DistTest(unittest.TestCase):
         for it in SCRIPTS:
             os.makedirs(os.path.dirname(f"{self.root}/{it}"), exist_ok=True)
             shutil.copy(f"{ROOT}/{it}", f"{self.root}/{it}")
+        write(f"{self.root}/tools/artifacts.txt", "# what is shipped\nx509_tool x509_tool out/x509_tool\n")
         write(f"{self.root}/crates.txt", "low: thiserror\nx509_tool: low # the program\nother: low\n")
         write(f"{self.root}/crates/low/src/lib.rt", "low")
         write(f"{self.root}/crates/low/specs/Lib.antt", "low")
@@ -86,6 +87,10 @@ class DistTest(unittest.TestCase):
     def test_the_shipped_program_runs_at_once(self):
         shutil.rmtree(f"{self.root}/crates/x509_tool/out")
         self.assertEqual(self.ran(["bin/x509_tool", "a", "b c"], has_rt=False), ("first a b c\n", ""))
+
+    def test_a_link_to_it_runs(self):
+        os.symlink(f"{self.root}/bin/x509_tool", f"{self.bin}/linked")
+        self.assertEqual(self.ran(["linked", "a"], has_rt=True), ("first a\n", ""))
 
     def test_what_makes_no_other_program(self):
         """A touched source, a proof, another crate, and a comment or a line of another crate in crates.txt."""
@@ -143,6 +148,18 @@ class DistTest(unittest.TestCase):
         self.assertEqual(self.ran(["tools/dist.sh", "--sums"])[0], "1 passed, 0 failed\n")
         self.assertIn("other bytes", self.ran(["tools/dist.sh", "--check"], 1)[0])
 
+    def test_another_toolchain(self):
+        """It may build other bytes of the same sources, which is said; checksums and sources are compared all the same."""
+        other = {"RT_VERSION": "another toolchain"}
+        self.assertEqual(self.ran(["tools/dist.sh", "--check"], **other), ("1 passed, 0 failed\n", ""))
+        self.change("dist/x509_tool", "#!/bin/sh\necho built by a toolchain\n")
+        self.write_sums()
+        output, error = self.ran(["tools/dist.sh", "--check"], **other)
+        self.assertEqual(output, "1 passed, 0 failed\n")
+        self.assertIn("another toolchain builds other bytes than a toolchain", error)
+        self.change("dist/SHA256SUMS", "")
+        self.assertIn("its checksum", self.ran(["tools/dist.sh", "--check"], 1, **other)[0])
+
     def test_a_machine_that_cannot_run_it(self):
         # (an executable with the number of another processor in its header)
         with open(sys.executable, "rb") as it:
@@ -170,6 +187,27 @@ class DistTest(unittest.TestCase):
         self.change("crates/x509_tool/out/x509_tool", "other")
         self.assertIn("other bytes", self.ran(["tools/dist.sh", "--after-ci", ""], 1)[0])
         self.assertFalse(self.is_built())
+
+    def test_what_the_gate_sees(self):
+        """A changed byte of what is shipped, and a source that was changed without making dist/ anew, end its comparison."""
+        shutil.rmtree(f"{self.root}/crates/x509_tool/out")
+        shutil.copytree(f"{self.root}/dist", f"{self.root}/crates/x509_tool/out")
+        self.change("dist/x509_tool", "#!/bin/sh\necho wrong\n")
+        self.assertIn("dist/x509_tool: its checksum", self.ran(["tools/dist.sh", "--after-ci", ""], 1)[0])
+        self.write_sums()
+        self.assertIn("dist/x509_tool has other bytes", self.ran(["tools/dist.sh", "--after-ci", ""], 1)[0])
+        self.ran(["tools/dist.sh"])
+        self.change("crates/low/src/lib.rt", "changed")
+        self.assertIn("built of other sources", self.ran(["tools/dist.sh", "--after-ci", ""], 1)[0])
+
+    def test_a_copied_file(self):
+        """It is of no crate, and compared with what it is a copy of."""
+        self.change("header.h", "a header\n")
+        self.change("tools/artifacts.txt", "x509_tool x509_tool out/x509_tool\nheader.h - header.h\n")
+        self.ran(["tools/dist.sh"])
+        self.assertEqual(self.ran(["tools/dist.sh", "--check"])[0], "2 passed, 0 failed\n")
+        self.change("header.h", "another header\n")
+        self.assertIn("dist/header.h has other bytes than header.h", self.ran(["tools/dist.sh", "--sums"], 1)[0])
 
     def test_what_else_stands_in_dist(self):
         self.change("dist/more", "more")

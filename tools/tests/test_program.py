@@ -5,16 +5,20 @@ The program is that of dist/, or the one that the variable X509_TOOL names.
 
 import contextlib
 import os
+import pty
 import resource
+import shutil
 import subprocess
 import tempfile
+import termios
 import threading
 import time
 import unittest
 
 import program_rows as rows
 
-ROOT = os.path.dirname(os.path.dirname(os.path.dirname(os.path.abspath(__file__))))
+HERE = os.path.dirname(os.path.abspath(__file__))
+ROOT = os.path.dirname(os.path.dirname(HERE))
 SHIPPED = f"{ROOT}/dist/x509_tool"
 PROGRAM = os.path.abspath(os.environ.get("X509_TOOL") or SHIPPED)
 LINES = {1: "refused", 2: "usage: x509_tool TYPE", 3: "out of memory", 5: "input or output failed"}
@@ -185,6 +189,70 @@ class ProgramTest(unittest.TestCase):
             self.skipTest("its interpreter needs more memory to start")
         text, _ = rows.long_row(8_000_000)
         self.stops(self.run_on(["extensions"], text.encode(), preexec_fn=limit_memory), 3)
+
+
+@unittest.skipUnless(shutil.which("cc"), "there is no C compiler")
+class RefusedMemoryTest(unittest.TestCase):
+    """Each request for memory refused in turn."""
+
+    def test_each_request(self):
+        if not os.access(PROGRAM, os.X_OK):
+            self.skipTest(f"there is no program {PROGRAM}")
+        with tempfile.TemporaryDirectory() as room:
+            shim = f"{room}/refuse_memory.so"
+            subprocess.run(["cc", "-shared", "-fPIC", "-o", shim, f"{HERE}/refuse_memory.c"], check=True)
+            for name, text, encoding, counts in (rows.ACCEPTED[0], rows.ACCEPTED[-1]):
+                whole = (0, f"{encoding}\n{counts}\n".encode(), b"")
+                found = [ended_without(shim, number, name, text.encode()) for number in range(1, 40)]
+                count = found.index(whole)
+                with self.subTest(name):
+                    self.assertGreater(count, 8)
+                    self.assertEqual(found[:count], count * [(3, b"", b"out of memory\n")])
+                    self.assertEqual(found[count:], (39 - count) * [whole])
+
+
+def ended_without(shim, number, name, given):
+    """What a run gives to which one request for memory is refused."""
+    environment = {**os.environ, "LD_PRELOAD": shim, "REFUSED_REQUEST": str(number)}
+    ran = subprocess.run([PROGRAM, name], input=given, env=environment, capture_output=True, check=False)
+    return ran.returncode, ran.stdout, ran.stderr
+
+
+MOST_READS = 1 << 24
+
+
+@unittest.skipUnless(os.environ.get("X509_LONG_TESTS"), "it takes a minute: X509_LONG_TESTS=1 runs it")
+class ManyReadsTest(unittest.TestCase):
+    """An input that doesn't end is given up after 2^24 reads: a terminal gives a line a read."""
+
+    def status_of(self, count):
+        """The status where the input has this many empty lines."""
+        if not os.access(PROGRAM, os.X_OK):
+            self.skipTest(f"there is no program {PROGRAM}")
+        front, back = pty.openpty()
+        how = termios.tcgetattr(back)
+        how[3] &= ~termios.ECHO
+        termios.tcsetattr(back, termios.TCSANOW, how)
+        with subprocess.Popen([PROGRAM, "name"], stdin=back, stdout=subprocess.DEVNULL, stderr=subprocess.DEVNULL) as it:
+            os.close(back)
+            # (once the program has ended, writing fails)
+            with contextlib.suppress(OSError):
+                while count:
+                    count -= os.write(front, b"\n" * min(count, 2048))
+                os.write(front, b"\x04")
+            try:
+                status = it.wait(timeout=600)
+            except subprocess.TimeoutExpired:
+                it.kill()
+                self.fail("it had not ended after ten minutes")
+            finally:
+                os.close(front)
+        return status
+
+    def test_the_last_read_that_may_be(self):
+        # (the end of the input takes a read too)
+        self.assertEqual(self.status_of(MOST_READS - 1), 2)
+        self.assertEqual(self.status_of(MOST_READS), 5)
 
 
 def limit_memory():

@@ -5,14 +5,21 @@ use anyhow::Error;
 use cimaroly_parts::cli::run;
 use cimaroly_parts::{Status, Stop};
 use std::env;
+use std::io::ErrorKind;
 use std::process::ExitCode;
+
+/// What is said where an argument is no text.
+const NO_TEXT: &str =
+    "an argument is no text in UTF-8: a file with such a name can be given as standard input, as in \
+    cimaroly show - < FILE";
 
 /// Does what the command line asks for.
 fn outcome(rt: &HostRuntime) -> Result<Status, Stop> {
     let arguments = match env::args(rt) {
         Ok(arguments) => arguments,
+        Err(error) if matches!(error.kind(), ErrorKind::OutOfMemory) => return Err(Stop::memory()),
         Err(_not_text) => {
-            return Err(Stop::usage(Error::msg("an argument is no text in UTF-8")));
+            return Err(Stop::usage(Error::msg(NO_TEXT)));
         }
     };
     let words: Vec<String> = arguments.collect(rt.alloc())?;

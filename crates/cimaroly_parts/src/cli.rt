@@ -3,6 +3,7 @@
 use crate::files;
 use crate::progress::Progress;
 use cimaroly_work::{Action, Format, Session, Settings, Status, Stop, Tally};
+use clap::error::ErrorKind;
 use clap::{Arg, ArgAction, ArgMatches, Command};
 use std::alloc::{AllocError, Global};
 use std::fs::File;
@@ -118,7 +119,7 @@ fn der_command<'a>(alloc: Global) -> Result<Command<'a>, AllocError> {
 /// `cimaroly tree`.
 fn tree_command<'a>(alloc: Global) -> Result<Command<'a>, AllocError> {
     Command::new(alloc, "tree")
-        .about("Shows the elements of anything, with places, tags and first bytes")
+        .about("Shows the elements of anything, with places, tags and first bytes, secret or not")
         .arg(paths(alloc, "FILE", "Files; - is standard input"))
 }
 
@@ -267,6 +268,7 @@ where
 {
     match command(rt.alloc())?.try_get_matches_from(words) {
         Ok(matches) => dispatch(rt, &matches),
+        Err(error) if matches!(error.kind(), ErrorKind::OutOfMemory) => Err(Stop::memory()),
         Err(error) => {
             error.print(rt)?;
             if !error.use_stderr() {

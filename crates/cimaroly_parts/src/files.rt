@@ -1,10 +1,10 @@
 //! Files and folders.
 
 use crate::progress::Progress;
-use crate::run::input;
+use crate::run::{input, tell_notes};
 use cimaroly_work::{Session, Status, Stop};
 use std::fs::{self, File};
-use std::io::{self, BufReader, Write};
+use std::io::{self, BufReader, ErrorKind, Write};
 use std::rt::Files;
 use std::time::Clock;
 use x509_report_parts::shown::ShownBytes;
@@ -31,18 +31,25 @@ where
     input(rt, session, path, reader, progress)
 }
 
-/// What stands in a folder: the paths, in their order.
-fn listed<R>(rt: &R, path: &str) -> io::Result<Vec<String>>
+/// What stands in a folder: the paths, in their order, and how many names are no text in UTF-8, by which nothing can be
+/// opened.
+fn listed<R>(rt: &R, path: &str) -> io::Result<(Vec<String>, usize)>
 where
     R: Files + AllocGlobal + Clone + Drop,
 {
     let mut paths = Vec::new(rt.alloc());
+    let mut nameless: usize = 0;
     for entry in fs::read_dir(rt, path)? {
-        let entry = entry?;
-        paths.push(String::from_str(rt.alloc(), entry.path().as_str())?)?;
+        match entry {
+            Ok(entry) => paths.push(String::from_str(rt.alloc(), entry.path().as_str())?)?,
+            Err(error) if matches!(error.kind(), ErrorKind::InvalidFilename) => {
+                nameless = nameless.saturating_add(1);
+            }
+            Err(error) => return Err(error),
+        }
     }
     paths.sort()?;
-    Ok(paths)
+    Ok((paths, nameless))
 }
 
 /// What a path leads to.
@@ -95,12 +102,24 @@ fn told<R: Eprint, W: Write>(
     }
 }
 
-/// Puts what stands in a folder on a list, the first at its end.
-fn push_folder<R>(rt: &R, pending: &mut Vec<(String, bool)>, path: &str) -> Result<(), Stop>
+/// Puts what stands in a folder on a list, the first at its end, and tells standard error where something can't be opened.
+fn push_folder<R, W: Write>(
+    rt: &R,
+    session: &mut Session<'_, W>,
+    pending: &mut Vec<(String, bool)>,
+    path: &str,
+) -> Result<(), Stop>
 where
-    R: Files + AllocGlobal + Clone + Drop,
+    R: Files + Eprint + AllocGlobal + Clone + Drop,
 {
-    let mut paths = listed(rt, path)?;
+    let (mut paths, nameless) = listed(rt, path)?;
+    if nameless > 0 {
+        session.tally.note(Status::Failed);
+        let folder = ShownBytes(path.as_bytes());
+        eprintln!(rt;
+            "cimaroly: {folder}: names that are no text in UTF-8, and can't be opened: {nameless}"
+        )?;
+    }
     for _ in 0..paths.len() {
         if let Some(inner) = paths.pop() {
             if pending.push((inner, true)).is_err() {
@@ -139,11 +158,12 @@ where
         let outcome = match target_of(rt, next.as_str(), is_inner) {
             Target::Folder => {
                 session.is_one_of_many = true;
-                push_folder(rt, &mut pending, next.as_str())
+                push_folder(rt, session, &mut pending, next.as_str())
             }
             Target::File => file(rt, session, next.as_str(), progress),
             Target::Other => Ok(()),
         };
+        tell_notes(rt, session)?;
         told(rt, session, next.as_str(), outcome)?;
     }
     Ok(())

@@ -3,10 +3,13 @@
 use crate::progress::Progress;
 use cimaroly_work::input::{FRONT, Form, LONGEST, decoded, form_of, read_front, read_rest};
 use cimaroly_work::{NOTHING, Session, Stop};
-use std::io::{BufRead, Read, Write};
+use std::io::{self, BufRead, Read, Write};
 use std::time::Clock;
 use x509_inspect::Source;
 use x509_pem::{Block, Fault, PemError, PemReader};
+
+/// What is said of an input that is no PEM, and too long to be a structure (`LONGEST`).
+const TOO_LONG: &str = "it is no PEM, and has 64 MiB or more";
 
 /// Works on a PEM block that was read.
 fn block<W: Write>(
@@ -62,6 +65,19 @@ fn next_block<R: BufRead + Drop, W: Write>(
     }
 }
 
+/// Tells standard error what is noted for it.
+pub(crate) fn tell_notes<T: Eprint, W: Write>(
+    rt: &T,
+    session: &mut Session<'_, W>,
+) -> io::Result<()> {
+    if session.notes.is_empty() {
+        return Ok(());
+    }
+    eprint!(rt; "{}", session.notes)?;
+    session.notes.clear();
+    Ok(())
+}
+
 /// Works on all PEM blocks of an input.
 fn blocks<R: BufRead + Drop, W: Write, T: Clock + Eprint>(
     rt: &T,
@@ -76,6 +92,7 @@ fn blocks<R: BufRead + Drop, W: Write, T: Clock + Eprint>(
         if !next_block(session, path, &mut reader)? {
             break;
         }
+        tell_notes(rt, session)?;
         progress.tick(rt, &session.tally)?;
     }
     if session.tally.structures() > before {
@@ -118,12 +135,13 @@ pub(crate) fn input<R: BufRead + Drop, W: Write, T: Clock + Eprint>(
         let whole = front.as_slice().chain(input);
         return blocks(rt, session, path, whole, progress);
     }
-    read_rest(&mut front, &mut input)?;
+    let is_all = read_rest(&mut front, &mut input)?;
     let source = Source {
         file: path,
         block: None,
     };
     match form {
+        _ if !is_all => session.refuse(source, TOO_LONG)?,
         Form::Hexadecimal => hexadecimal(session, source, front.as_slice())?,
         _ => session.bare(source, front.as_slice())?,
     }

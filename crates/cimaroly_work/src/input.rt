@@ -7,7 +7,7 @@ use std::io::{self, Read};
 /// How many bytes the form of an input is told by.
 pub const FRONT: usize = 65536;
 
-/// How many bytes an input may have that is no PEM, and a PEM block's text.
+/// How many bytes an input that is no PEM stays below, and a PEM block's text may have.
 pub const LONGEST: usize = 1 << 26;
 
 /// In which form an input is.
@@ -80,14 +80,14 @@ pub fn read_front<R: Read>(alloc: Global, input: &mut R) -> io::Result<Vec<u8>> 
     Ok(front)
 }
 
-/// Reads the rest of an input behind its front.
+/// Reads the rest of an input behind its front, up to some more than `LONGEST` bytes. Answers whether it has fewer.
 ///
 /// # Errors
-/// The input failed, it is too long, or memory is refused.
-pub fn read_rest<R: Read>(front: &mut Vec<u8>, input: &mut R) -> Result<(), Stop> {
+/// The input failed, or memory is refused.
+pub fn read_rest<R: Read>(front: &mut Vec<u8>, input: &mut R) -> io::Result<bool> {
     let mut limited = input.take(LONGEST as u64);
     limited.read_to_end(front)?;
-    Ok(())
+    Ok(front.len() < LONGEST)
 }
 
 /// The bytes that hexadecimal digits with white space between them stand for; `None` where these aren't such.

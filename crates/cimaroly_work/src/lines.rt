@@ -10,7 +10,7 @@ use x509_report_parts::shown::ShownBytes;
 const TOLD: usize = 16;
 
 /// Writes where a structure comes from, up to the colon behind it.
-pub(crate) fn write_source(out: &mut String, source: Source<'_>) -> Result<(), AllocError> {
+fn write_source(out: &mut String, source: Source<'_>) -> Result<(), AllocError> {
     write!(out, "{}", ShownBytes(source.file.as_bytes()))?;
     match source.block {
         Some((line, label)) => write!(out, ":{line}: {}: ", ShownBytes(label)),
@@ -18,12 +18,19 @@ pub(crate) fn write_source(out: &mut String, source: Source<'_>) -> Result<(), A
     }
 }
 
-/// Writes where a structure comes from and as what it is read, up to the colon behind it.
-pub(crate) fn write_structure(
+/// Writes the line that says what was made of something that isn't read as a type.
+pub(crate) fn write_note(
     out: &mut String,
     source: Source<'_>,
-    kind: Kind,
+    outcome: &str,
+    reason: &str,
 ) -> Result<(), AllocError> {
+    write_source(out, source)?;
+    writeln!(out, "{outcome}: {reason}")
+}
+
+/// Writes where a structure comes from and as what it is read, up to the colon behind it.
+fn write_structure(out: &mut String, source: Source<'_>, kind: Kind) -> Result<(), AllocError> {
     write!(out, "{}", ShownBytes(source.file.as_bytes()))?;
     if let Some((line, _)) = source.block {
         write!(out, ":{line}")?;

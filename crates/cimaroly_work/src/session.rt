@@ -1,6 +1,7 @@
 //! The work on structures, one after another, and what is printed of it.
 
-use crate::settings::{Format, Settings};
+use crate::lines::write_note;
+use crate::settings::{Action, Format, Settings};
 use crate::status::Tally;
 use crate::stop::Stop;
 use std::alloc::Global;
@@ -23,6 +24,8 @@ pub struct Session<'w, W: Write> {
     pub tally: Tally,
     pub(crate) text: String,
     pub(crate) line: Vec<u8>,
+    /// What standard error is to be told, where standard output is for encodings alone.
+    pub notes: String,
     /// The DER encoding that is to be written at the end.
     pub(crate) encoding: Option<Vec<u8>>,
     /// Whether a report tells where its structure comes from.
@@ -39,6 +42,7 @@ impl<'w, W: Write> Session<'w, W> {
             tally: Tally::new(),
             text: String::new(alloc),
             line: Vec::new(alloc),
+            notes: String::new(alloc),
             encoding: None,
             is_one_of_many: false,
         }
@@ -83,11 +87,16 @@ impl<'w, W: Write> Session<'w, W> {
                 self.put_line(line)
             }
             Format::Text => {
-                crate::lines::write_source(&mut self.text, source)?;
-                writeln!(self.text, "{outcome}: {reason}")?;
+                write_note(&mut self.text, source, outcome, reason)?;
                 self.put_text()
             }
-            Format::Quiet | Format::Pem => Ok(()),
+            Format::Quiet | Format::Pem => {
+                if self.settings.action == Action::Encode {
+                    write!(self.notes, "cimaroly: ")?;
+                    write_note(&mut self.notes, source, outcome, reason)?;
+                }
+                Ok(())
+            }
         }
     }
 

@@ -1,7 +1,7 @@
 //! What the program's work came to.
 
-ghost use Rattle.std.specs.Prelude.{◌≡◌, ◌≤◌, ◌⊎◌};
-ghost use Rattle.cimaroly_work.specs.Statuses.{code_of, rank_of};
+ghost use Rattle.std.specs.Prelude.{◌≡◌};
+ghost use Rattle.cimaroly_work.specs.Statuses.{code_of, rank_of, IsWorse};
 
 use std::fmt::{self, Display, Write};
 
@@ -53,9 +53,7 @@ impl Status {
 
     /// The worse of two: of deviations, refusals, wrong usage, failed input or output, and want of memory the later.
     pub fn worse(self, other: Status) -> Status
-        ensures one { (result ≡ self) ⊎ (result ≡ other) }
-        ensures first { rank_of self ≤ rank_of result }
-        ensures second { rank_of other ≤ rank_of result }
+        ensures { IsWorse self other result }
     {
         if self.rank() < other.rank() {
             other
@@ -93,7 +91,10 @@ impl Tally {
     }
 
     /// One more structure with so many deviations.
-    pub fn add(&mut self, deviations: usize) {
+    pub fn add(&mut self, deviations: usize)
+        ensures none { deviations ≡ 0 → self.new.status ≡ self.old.status }
+        ensures some { (deviations ≡ 0 → ⊥) → IsWorse self.old.status Status.Deviations self.new.status }
+    {
         if deviations == 0 {
             self.der = self.der.saturating_add(1);
         } else {
@@ -103,18 +104,24 @@ impl Tally {
     }
 
     /// One more structure that is refused.
-    pub fn refuse(&mut self) {
+    pub fn refuse(&mut self)
+        ensures { IsWorse self.old.status Status.Refused self.new.status }
+    {
         self.refused = self.refused.saturating_add(1);
         self.status = self.status.worse(Status::Refused);
     }
 
     /// One more block that is passed over.
-    pub fn pass_over(&mut self) {
+    pub fn pass_over(&mut self)
+        ensures { self.new.status ≡ self.old.status }
+    {
         self.passed_over = self.passed_over.saturating_add(1);
     }
 
     /// Something came to this.
-    pub fn note(&mut self, status: Status) {
+    pub fn note(&mut self, status: Status)
+        ensures { IsWorse self.old.status status self.new.status }
+    {
         self.status = self.status.worse(status);
     }
 
@@ -137,9 +144,10 @@ impl Display for Tally {
             self.der, self.deviating
         )?;
         write!(f, "{} refused", self.refused)?;
-        if self.passed_over > 0 {
-            write!(f, "; {} blocks passed over", self.passed_over)?;
+        match self.passed_over {
+            0 => Ok(()),
+            1 => f.write_str("; 1 block passed over"),
+            count => write!(f, "; {count} blocks passed over"),
         }
-        Ok(())
     }
 }

@@ -209,17 +209,15 @@ impl<W: Write> Session<'_, W> {
         }
     }
 
-    /// Counts the refusal of what was to be encoded: the caller is told by the error.
+    /// Counts the refusal of what was to be encoded, and notes it for standard error.
     fn refuse_encoding(&mut self, source: Source<'_>, line: RefusalLine<'_>) -> Result<(), Stop> {
         if line.refused.error == ReadError::OutOfMemory {
             return Err(Stop::memory());
         }
         self.tally.refuse();
-        let file = ShownBytes(source.file.as_bytes());
-        Err(Stop {
-            status: Status::Refused,
-            error: Some(Error::msg(format_args!("{file}: refused: {line}"))),
-        })
+        write!(self.notes, "cimaroly: ")?;
+        write_refused(&mut self.notes, source, line)?;
+        Ok(())
     }
 
     /// Writes a PEM block (RFC 7468, 2): lines of 64 symbols.

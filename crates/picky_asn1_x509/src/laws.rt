@@ -20,8 +20,8 @@ use picky_asn1_x509_parts::Attribute;
 pub use picky_asn1_x509_parts::laws::{
     attribute_fields, authority_key_identifier_fields, authority_key_identifier_marks,
     basic_constraints_fields, basic_constraints_takes_no_memory, extended_key_usage_fields,
-    extension_fields, extension_readable, key_usage_setters, last_field_counts, neighbours_ascend,
-    request_attribute_readable,
+    extension_fields, extension_readable, extension_views_compared, key_usage_setters,
+    last_field_counts, neighbours_ascend, request_attribute_readable,
 };
 use std::alloc::Allocator;
 pub use x509_der::laws::{

@@ -85,6 +85,39 @@ impl<A: Allocator> Clone for ExtensionView<'_, A> {
     }
 }
 
+/// A view whose `==` answers true exactly where two of them lend the same value.
+pub(crate) trait SameLent<A: Allocator>: Eq {
+    ghost use Rattle.std.specs.Prelude.{◌≡◌};
+    ghost use Rattle.std.specs.Bool.{Decides};
+    ghost use Rattle.picky_asn1_x509_parts.specs.declared.extension.ExtensionValue.{ExtensionValue};
+
+    /// The value that a view lends.
+    ghost lent: { Self → ExtensionValue A };
+
+    /// `==` decides whether two views lend the same value.
+    ghost decides: { (x y : Self) → Decides (Self.eq x y) (lent x ≡ lent y) };
+}
+
+impl<'a, A: Allocator> SameLent<A> for ExtensionView<'a, A> {
+    ghost use Rattle.std.proofs.Common.{rules};
+    ghost use Rattle.std.specs.Cmp.Lexicographic.{bytes_decides, pointwise_decides};
+    ghost use Rattle.x509_names.specs.facts.EdiPartyNames.{parties_decide};
+    ghost use Rattle.x509_names.specs.facts.OtherNames.{others_decide};
+    ghost use Rattle.x509_names.specs.facts.SameGeneralNames.{general_names_decide};
+    ghost use Rattle.picky_asn1_x509_parts.specs.Extensions.{viewed};
+    ghost use Rattle.picky_asn1_x509_parts.specs.facts.SameExtensions.{views_decide};
+
+    ghost lent = { viewed };
+
+    ghost decides = { views_decide ⟦<ExtensionView<'a, A> as PartialEq>⟧.eq
+        {G = ⟦<GeneralName<A> as PartialEq>⟧.eq} {C = ⟦<BasicConstraints as PartialEq>⟧.eq}
+        (λ v w. Prim.search (rules)) (general_names_decide ⟦<GeneralName<A> as PartialEq>⟧.eq
+        {N = ⟦<Name<A> as PartialEq>⟧.eq} (λ x y. Prim.search (rules)) others_decide (pointwise_decides
+        (pointwise_decides (λ x y. Prim.search (rules, bytes_decides))))
+        (parties_decide {E = ⟦<DirectoryString<A> as PartialEq>⟧.eq}
+        (λ x y. Prim.search (rules, bytes_decides)))) (λ x y. Prim.search (rules)) };
+}
+
 impl<A: Allocator + Copy> CloneEq for ExtensionValue<A> {
     fn clone_eq(&self) -> Result<Self, AllocError> {
         match self {

@@ -22,6 +22,7 @@ mod names;
 mod no_memory;
 mod numbers;
 mod raw_algorithms;
+mod signed_parts;
 mod tables;
 mod times;
 

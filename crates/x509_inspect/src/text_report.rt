@@ -41,6 +41,31 @@ impl<T: Reported> Display for FieldOf<'_, T> {
     }
 }
 
+/// A line that ends with what is written, in brackets behind a space; with nothing, where nothing is written.
+#[derive(Drop)]
+struct Bracketed<'w, W: Write> {
+    out: &'w mut W,
+    has_begun: bool,
+}
+
+impl<W: Write> Write for Bracketed<'_, W> {
+    fn write_str(&mut self, text: &str) -> fmt::Result {
+        if !self.has_begun {
+            self.has_begun = true;
+            self.out.write_str(" (")?;
+        }
+        self.out.write_str(text)
+    }
+}
+
+impl<W: Write> Bracketed<'_, W> {
+    /// Ends the line.
+    fn finish(&mut self) -> fmt::Result {
+        self.out
+            .write_str(if self.has_begun { ")\n" } else { "\n" })
+    }
+}
+
 /// How many deviations, in words.
 fn write_count<W: Write>(out: &mut W, count: usize) -> fmt::Result {
     match count {
@@ -58,7 +83,7 @@ pub(crate) fn signed_span(bytes: &[u8]) -> Span {
 }
 
 impl<T: Reported> TextReport<'_, T> {
-    /// Writes the line of a deviation.
+    /// Writes the line of a deviation, with the fields around it, where there are any.
     fn write_deviation<W: Write>(&self, out: &mut W, place: &Place) -> fmt::Result {
         let Place { kind, start, end } = *place;
         let field = FieldOf {
@@ -67,7 +92,13 @@ impl<T: Reported> TextReport<'_, T> {
             place: Span { start, end },
             separator: ", ",
         };
-        writeln!(out, "  deviation   {kind}, at {start}..{end} ({field})")
+        write!(out, "  deviation   {kind}, at {start}..{end}")?;
+        let mut around = Bracketed {
+            out,
+            has_begun: false,
+        };
+        write!(around, "{field}")?;
+        around.finish()
     }
 
     /// Writes the lines of the deviations.

@@ -13,7 +13,7 @@ use x509_report_parts::{JsonSink, shielded};
 pub struct Source<'a> {
     /// The path of the file; `-` is standard input.
     pub file: &'a str,
-    /// The line of the PEM block's end, and its label, where the bytes are those of one.
+    /// The line that begins the PEM block, and its label, where the bytes are those of one.
     pub block: Option<(u64, &'a [u8])>,
 }
 

@@ -1,5 +1,8 @@
 //! The types that are known.
 
+ghost use Rattle.std.specs.Prelude.{◌≡◌, ◌↔◌, IsTrue, IfSome, IfNone, Some, None};
+ghost use Rattle.x509_inspect_parts.specs.Kinds.{kind_name, label_of, is_signed_kind, IsLabelled};
+
 /// A type that bytes are read as.
 #[derive(Clone, Copy, Debug, PartialEq, Eq)]
 pub enum Kind {
@@ -27,6 +30,13 @@ pub enum Kind {
     RawAlgorithm,
 }
 
+/// Whether a label is a text.
+fn is(label: &[u8], text: &str) -> bool
+    ensures { IsTrue result ↔ (label.now ≡ text.now) }
+{
+    label == text.as_bytes()
+}
+
 impl Kind {
     /// All types, those that are met the most first.
     pub const ALL: [Kind; 11] = [
@@ -44,7 +54,9 @@ impl Kind {
     ];
 
     /// The name, as `--type` takes it.
-    pub fn name(self) -> &'static str {
+    pub fn name(self) -> &'static str
+        ensures { result.now ≡ kind_name self }
+    {
         match self {
             Kind::Certificate => "certificate",
             Kind::Request => "request",
@@ -60,32 +72,56 @@ impl Kind {
         }
     }
 
-    /// The type of a name.
-    pub fn from_name(name: &str) -> Option<Kind> {
-        for kind in &Kind::ALL {
-            if kind.name() == name {
-                return Some(*kind);
-            }
-        }
-        None
-    }
-
-    /// The type that a PEM label says (RFC 7468, 4; the others are OpenSSL's).
-    pub fn from_label(label: &[u8]) -> Option<Kind> {
-        match label {
-            b"CERTIFICATE" | b"X509 CERTIFICATE" => Some(Kind::Certificate),
-            b"CERTIFICATE REQUEST" | b"NEW CERTIFICATE REQUEST" => Some(Kind::Request),
-            b"PRIVATE KEY" => Some(Kind::PrivateKey),
-            b"PUBLIC KEY" => Some(Kind::PublicKey),
-            b"RSA PRIVATE KEY" => Some(Kind::RsaPrivateKey),
-            b"RSA PUBLIC KEY" => Some(Kind::RsaPublicKey),
-            b"EC PRIVATE KEY" => Some(Kind::EcPrivateKey),
+    /// The type of a name, if it is one of theirs.
+    pub fn from_name(name: &str) -> Option<Kind>
+        ensures some { IfSome result (λ kind. name.now ≡ kind_name kind) }
+        ensures none { IfNone result ((kind : Kind) → name.now ≡ kind_name kind → ⊥) }
+    {
+        match name {
+            "certificate" => Some(Kind::Certificate),
+            "request" => Some(Kind::Request),
+            "private-key" => Some(Kind::PrivateKey),
+            "public-key" => Some(Kind::PublicKey),
+            "rsa-private-key" => Some(Kind::RsaPrivateKey),
+            "rsa-public-key" => Some(Kind::RsaPublicKey),
+            "ec-private-key" => Some(Kind::EcPrivateKey),
+            "name" => Some(Kind::Name),
+            "extensions" => Some(Kind::Extensions),
+            "algorithm" => Some(Kind::Algorithm),
+            "raw-algorithm" => Some(Kind::RawAlgorithm),
             _ => None,
         }
     }
 
+    /// The type that a PEM label says (RFC 7468, 4; the others are OpenSSL's).
+    pub fn from_label(label: &[u8]) -> Option<Kind>
+        ensures some { IfSome result (λ kind. IsLabelled kind label.now) }
+        ensures none { IfNone result ((kind : Kind) → IsLabelled kind label.now → ⊥) }
+    {
+        if is(label, "CERTIFICATE") || is(label, "X509 CERTIFICATE") {
+            Some(Kind::Certificate)
+        } else if is(label, "CERTIFICATE REQUEST") || is(label, "NEW CERTIFICATE REQUEST") {
+            Some(Kind::Request)
+        } else if is(label, "PRIVATE KEY") {
+            Some(Kind::PrivateKey)
+        } else if is(label, "PUBLIC KEY") {
+            Some(Kind::PublicKey)
+        } else if is(label, "RSA PRIVATE KEY") {
+            Some(Kind::RsaPrivateKey)
+        } else if is(label, "RSA PUBLIC KEY") {
+            Some(Kind::RsaPublicKey)
+        } else if is(label, "EC PRIVATE KEY") {
+            Some(Kind::EcPrivateKey)
+        } else {
+            None
+        }
+    }
+
     /// The label of its PEM block, if it has one.
-    pub fn label(self) -> Option<&'static str> {
+    pub fn label(self) -> Option<&'static str>
+        ensures some { IfSome result (λ label. label_of self ≡ Some label.now) }
+        ensures none { IfNone result (label_of self ≡ None) }
+    {
         match self {
             Kind::Certificate => Some("CERTIFICATE"),
             Kind::Request => Some("CERTIFICATE REQUEST"),
@@ -99,7 +135,9 @@ impl Kind {
     }
 
     /// Whether its first field is what its signature covers.
-    pub fn is_signed(self) -> bool {
+    pub fn is_signed(self) -> bool
+        ensures { result ≡ is_signed_kind self }
+    {
         matches!(self, Kind::Certificate | Kind::Request)
     }
 }

@@ -29,4 +29,5 @@ pub use Rattle.x509_keys_parts.specs.facts.SameAlgorithms
 pub mod SamePrivateKeys
 pub use Rattle.x509_keys_parts.specs.facts.SameDigests
 pub use Rattle.x509_keys_parts.specs.facts.ShaVariantFacts
+pub mod Skipping
 pub mod SubjectPublicKeyInfos

@@ -16,10 +16,11 @@ ghost use Rattle.x509_keys.specs.facts.PrivateKeyInfos.{info_is, info_one, info_
 use crate::ec_private_key::ECPrivateKey;
 use crate::private_key_value::PrivateKeyValue;
 use crate::rsa_private_key::RsaPrivateKey;
+use crate::skipping::{PassedOver, Skipping, read_skipping};
 use std::alloc::{AllocError, Allocator, Global};
 use x509_der::parts::{
     AnyDefinedBy, DefinedBy, Explicit1, Field, Found, Join, LentBits, Optional, Reader, Refusal,
-    SEQUENCE_TAG, Sequence, Tag, Tagged, View, clone_three, read_viewed_or,
+    SEQUENCE_TAG, Sequence, Tag, Tagged, View, clone_three,
 };
 use x509_der::{
     BitString, BitStringAsn1, CloneEq, Deviation, FromDer, IntegerAsn1, ObjectIdentifier,
@@ -356,7 +357,7 @@ fn is_version(version: u8) -> bool
 }
 
 /// The deviation of an element that is skipped.
-fn deviation_of<A: Allocator>(skipped: &Option<RawIn<SkippedTags, A>>) -> Option<Deviation>
+fn deviation_of(skipped: &Option<PassedOver<'_>>) -> Option<Deviation>
     ensures { if_found result ≡ skipped_kinds skipped.now }
 {
     match skipped {
@@ -384,19 +385,19 @@ fn known_bits<A: Allocator>(bits: &Option<BitString<A>>)
     }
 }
 
-/// The fields in the SEQUENCE.
-type Inner<A> = Join<
-    u8,
-    Join<
-        DefinedBy<AlgorithmIdentifier<A>, PrivateKeyValue<A>>,
-        Join<Optional<RawIn<SkippedTags, A>>, Optional<Tagged<Explicit1, BitStringAsn1<A>>>>,
-    >,
->;
+/// The algorithm, and the key that it says.
+type Key<A> = DefinedBy<AlgorithmIdentifier<A>, PrivateKeyValue<A>>;
 
-/// The fields, owned.
-type Fields<A> = Tagged<Sequence, Inner<A>>;
+/// The public key under its tag, where there is one.
+type PublicKeyField<A> = Optional<Tagged<Explicit1, BitStringAsn1<A>>>;
 
-impl<A: Allocator + Copy> View<Fields<A>> for PrivateKeyInfo<A> {
+/// The fields in the SEQUENCE. What is read keeps their laws, and lends the element that is skipped.
+type Inner<A> = Join<u8, Join<Key<A>, Join<Optional<RawIn<SkippedTags, A>>, PublicKeyField<A>>>>;
+
+/// The fields that are read.
+type Fields<'a, A> = Skipping<'a, u8, Key<A>, PublicKeyField<A>>;
+
+impl<'a, A: Allocator + Copy> View<Fields<'a, A>> for PrivateKeyInfo<A> {
     ghost base = { info_base };
 
     ghost view = { info_meaning };
@@ -413,8 +414,8 @@ impl<A: Allocator + Copy> View<Fields<A>> for PrivateKeyInfo<A> {
           λ c h. refl,
         )) info_is info_one };
 
-    fn meaning(parts: Fields<A>) -> Option<(Self, Found)> {
-        let Join(version, Join(key, Join(Optional(skipped), public_key))) = parts.into_inner();
+    fn meaning(parts: Fields<'a, A>) -> Option<(Self, Found)> {
+        let Join(version, Join(key, Join(Optional(skipped), public_key))) = parts;
         let found = Found::of(deviation_of(&skipped));
         let DefinedBy(private_key_algorithm, private_key) = key;
         let info = PrivateKeyInfo {
@@ -427,8 +428,8 @@ impl<A: Allocator + Copy> View<Fields<A>> for PrivateKeyInfo<A> {
     }
 }
 
-impl<A: Allocator + Copy> Refusal<Fields<A>> for PrivateKeyInfo<A> {
-    fn refusal(_parts: &Fields<A>) -> ReadError
+impl<'a, A: Allocator + Copy> Refusal<Fields<'a, A>> for PrivateKeyInfo<A> {
+    fn refusal(_parts: &Fields<'a, A>) -> ReadError
         ensures memory { result ≡ OutOfMemory → ⊥ }
         ensures name { result ≡ BadVersion }
     {
@@ -439,9 +440,9 @@ impl<A: Allocator + Copy> Refusal<Fields<A>> for PrivateKeyInfo<A> {
 impl<A: Allocator + Copy> Field<A> for PrivateKeyInfo<A> {
     ghost shape = { private_key_info };
 
-    ghost lawful = { λ h. seen_lawful info_meaning info_base ⟦<PrivateKeyInfo<A> as View<Fields<A>>>⟧.keeps };
+    ghost lawful = { λ h. seen_lawful info_meaning info_base ⟦<PrivateKeyInfo<A> as View<Fields<'static, A>>>⟧.keeps };
 
-    ghost elements = { λ h. seen_element info_meaning info_base (⟦<Fields<A> as Field<A>>⟧.elements tt)
+    ghost elements = { λ h. seen_element info_meaning info_base (⟦<Tagged<Sequence, Inner<A>> as Field<A>>⟧.elements tt)
         info_is };
 
     ghost agrees = { info_agrees };
@@ -458,7 +459,7 @@ impl<A: Allocator + Copy> Field<A> for PrivateKeyInfo<A> {
     }
 
     fn read(alloc: A, reader: &mut Reader<'_, A>) -> Result<Self, ReadError> {
-        read_viewed_or::<Self, Fields<A>, Self, A>(alloc, reader)
+        read_skipping::<Self, u8, Key<A>, SkippedTags, PublicKeyField<A>, A>(alloc, reader)
     }
 }
 

@@ -62,7 +62,7 @@ fn held<A: Allocator, S: Sink>(
         }
         ExtensionView::ExtendedKeyUsage(usage) => purposes(sink, label, span, inside, usage),
         ExtensionView::Generic(octets) => {
-            sink.field(label, span, Value::Octets(octets.0.as_slice()))
+            sink.field(label, span, Value::Kept(octets.0.as_slice()))
         }
         ExtensionView::CrlNumber(number) => {
             sink.field(label, span, Value::Integer(number.0.as_bytes()))

@@ -1,6 +1,6 @@
 //! Where elements stand: a cursor over bytes that were read before.
 
-ghost use Rattle.std.specs.Prelude.{◌≡◌, ◌≤◌, ◌<◌, ◌+◌, ◌^◌, length, IfSome, MatchOption};
+ghost use Rattle.std.specs.Prelude.{◌≡◌, ◌≤◌, ◌<◌, ◌+◌, ◌^◌, ◌↔◌, length, drop, IsTrue, IfSome, MatchOption};
 
 use x509_der::parts::first_element;
 
@@ -15,7 +15,9 @@ pub struct Span {
 
 impl Span {
     /// Whether another span lies in this one.
-    pub fn contains(&self, other: Span) -> bool {
+    pub fn contains(&self, other: Span) -> bool
+        ensures { IsTrue result ↔ ((self.now.start ≤ other.start) × (other.end ≤ self.now.end)) }
+    {
         self.start <= other.start && other.end <= self.end
     }
 }
@@ -120,7 +122,10 @@ impl<'a> Cursor<'a> {
 
     /// The same behind a number of bytes, as of a BIT STRING behind the count of unused bits; at the end where there are
     /// fewer.
-    pub fn behind(&self, count: usize) -> Self {
+    pub fn behind(&self, count: usize) -> Self
+        ensures rest { result.rest.now ≡ drop count self.now.rest.now }
+        ensures at { count ≤ length self.now.rest.now → result.at ≡ self.now.at + count }
+    {
         if count > self.rest.len() {
             return Cursor {
                 rest: &[],

@@ -163,10 +163,12 @@ impl<A: Allocator + Copy> JsonSink<A> {
             Value::Words(words) => self.words(words),
             Value::Identifier(content) => self.identified(content),
             Value::Number(number) => self.writer.u64(number),
-            Value::Integer(bytes) | Value::Octets(bytes) | Value::Raw(bytes) => {
-                self.printed(&Hex(bytes))
-            }
-            Value::Sized(_, bytes) | Value::Bits(_, bytes) => self.printed(&Hex(bytes)),
+            Value::Integer(bytes)
+            | Value::Octets(bytes)
+            | Value::Raw(bytes)
+            | Value::Kept(bytes)
+            | Value::Sized(_, bytes)
+            | Value::Bits(_, bytes) => self.printed(&Hex(bytes)),
             Value::Flag(flag) => self.writer.boolean(flag),
             Value::Time(moment) => self.printed(&Stamp(moment)),
             Value::Address(bytes) => self.printed(&Address(bytes)),
@@ -179,6 +181,11 @@ impl<A: Allocator + Copy> JsonSink<A> {
         match value {
             Value::Sized(count, bytes) | Value::Bits(count, bytes) => self.bits(count, bytes),
             Value::Hidden(count) => self.count("hidden", count),
+            Value::Kept(bytes) => {
+                self.count("length", bytes.len() as u64)?;
+                self.writer.key("value")?;
+                self.value(value)
+            }
             _ => {
                 self.writer.key("value")?;
                 self.value(value)

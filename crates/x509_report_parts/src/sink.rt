@@ -61,6 +61,8 @@ pub enum Value<'a> {
     Sized(u64, &'a [u8]),
     /// Bytes.
     Octets(&'a [u8]),
+    /// Bytes that stand for something that isn't known, told with their number.
+    Kept(&'a [u8]),
     /// How many bits, and these in bytes.
     Bits(u64, &'a [u8]),
     /// An element that isn't looked into, with its header.

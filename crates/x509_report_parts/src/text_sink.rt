@@ -21,6 +21,10 @@ const VALUES: usize = 34;
 /// In which column the starts of places end.
 const PLACES: usize = 84;
 
+/// As many spaces as are written at a time, which go up to the column of places.
+const SPACES: &str =
+    "                                                                                    ";
+
 /// A writer that counts the characters which it passes on.
 #[derive(Drop)]
 struct Counted<'w, W: Write> {
@@ -44,10 +48,7 @@ impl<W: Write> Counted<'_, W> {
     /// Writes spaces up to a column, and at least some.
     fn pad(&mut self, column: usize, least: usize) -> fmt::Result {
         let missing = column.saturating_sub(self.count).max(least);
-        for _ in 0..missing {
-            self.write_str(" ")?;
-        }
-        Ok(())
+        self.write_str(SPACES.get(..missing).unwrap_or(SPACES))
     }
 }
 
@@ -104,6 +105,15 @@ fn write_octets<W: Write>(out: &mut W, bytes: &[u8]) -> fmt::Result {
     write!(out, "{}", ShortHex(bytes))
 }
 
+/// Writes bytes behind their number.
+fn write_kept<W: Write>(out: &mut W, bytes: &[u8]) -> fmt::Result {
+    match bytes.len() {
+        0 => out.write_str("0 bytes"),
+        1 => write!(out, "1 byte, {}", Hex(bytes)),
+        count => write!(out, "{count} bytes, {}", ShortHex(bytes)),
+    }
+}
+
 /// Writes a number of a key: in decimal where it has at most 64 bits, and else its size in bits, and its bytes.
 fn write_number<W: Write>(out: &mut W, count: u64, bytes: &[u8]) -> fmt::Result {
     let digits = match bytes {
@@ -147,6 +157,7 @@ fn write_value<W: Write>(out: &mut W, value: Value<'_>, identifiers: Identifiers
         Value::Sized(count, bytes) => write_number(out, count, bytes),
         Value::Bits(count, bytes) => write_bits(out, count, bytes),
         Value::Octets(bytes) | Value::Raw(bytes) => write_octets(out, bytes),
+        Value::Kept(bytes) => write_kept(out, bytes),
         Value::Flag(flag) => write!(out, "{flag}"),
         Value::Time(moment) => write!(out, "{}", Stamp(moment)),
         Value::Address(bytes) => write!(out, "{}", Address(bytes)),

@@ -7,6 +7,11 @@ use std::fmt::{self, Display, Write};
 use x509_der::Arcs;
 use x509_oid_names::name_of;
 
+/// The hexadecimal digits.
+const DIGITS: [&'static str; 16] = [
+    "0", "1", "2", "3", "4", "5", "6", "7", "8", "9", "a", "b", "c", "d", "e", "f",
+];
+
 /// Bytes in lower-case hexadecimal with colons between them, as in `0a:ff`.
 #[derive(Clone, Copy, Drop)]
 pub struct Hex<'a>(pub &'a [u8]);
@@ -19,7 +24,8 @@ impl Display for Hex<'_> {
                 f.write_str(":")?;
             }
             is_first = false;
-            write!(f, "{byte:02x}")?;
+            f.write_str(DIGITS[usize::from(*byte / 16)])?;
+            f.write_str(DIGITS[usize::from(*byte % 16)])?;
         }
         Ok(())
     }
@@ -94,7 +100,7 @@ pub fn name_in(content: &[u8]) -> Option<&'static str> {
         room[count] = arc;
         count += 1;
     }
-    name_of(&room[..count])
+    name_of(room.get(..count)?)
 }
 
 /// An address of the internet protocol: of four bytes with dots, of sixteen as RFC 5952 writes it, and of any other length

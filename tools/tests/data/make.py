@@ -83,6 +83,7 @@ def by_openssl(room):
         "public_key_ec.pem": openssl("pkey", "-in", ec, "-pubout"),
         "public_key_ed25519.pem": openssl("pkey", "-in", ed, "-pubout"),
         "rsa_public_key.pem": openssl("rsa", "-in", rsa, "-RSAPublicKey_out"),
+        "certificate_deviations.pem": pem("CERTIFICATE", deviating(room, rsa)),
     }
 
 
@@ -162,6 +163,45 @@ HOSTILE = [
 ]
 # The same where the attribute isn't looked into.
 HOSTILE_OTHERS = [(0x0C, "\x1b]0;title\x07".encode()), (0x14, b"teletex \xff\x9b"), (0x0C, b"no utf-8 \xff")]
+
+
+def person(*pairs):
+    """A name of attributes of several types."""
+    return sequence(*(element(0x31, sequence(oid(kind), element(tag, text.encode()))) for kind, tag, text in pairs))
+
+
+def deviating(room, signing_key):
+    """A certificate as a server's, with four kinds of deviations in seven places, whose signature is right."""
+    key = f"{room}/p256"
+    openssl("genpkey", "-algorithm", "EC", "-pkeyopt", "ec_paramgen_curve:P-256", "-out", key)
+    country, organization = ("2.5.4.6", 0x13, "DE"), ("2.5.4.10", 0x0C, "Example Gründe GmbH")
+    names = sequence(
+        element(0xA2, element(0x16, b"example.org")),
+        element(0x82, b"www.example.org"),
+        element(0xA6, element(0x16, b"https://example.org/imprint")),
+        element(0x87, bytes([192, 0, 2, 7])),
+    )
+    authority = sequence(element(0x82, bytes.fromhex("4bd1a07e")), element(0x80, os.urandom(20)))
+    extensions = [
+        extension("2.5.29.35", authority),
+        extension("2.5.29.14", element(4, os.urandom(20))),
+        extension("2.5.29.15", bytes.fromhex("03020780"), element(1, b"\xff")),
+        extension("2.5.29.19", sequence(), element(1, b"\x00")),
+        extension("2.5.29.37", sequence(oid("1.3.6.1.5.5.7.3.1"), oid("1.3.6.1.5.5.7.3.2")), element(1, b"\x00")),
+        extension("2.5.29.17", names),
+    ]
+    fields = sequence(
+        bytes.fromhex("a003020102"),
+        element(2, b"\x5a" + os.urandom(15)),
+        RSA_BARE,
+        person(country, organization, ("2.5.4.3", 0x0C, "Example Issuing CA 1")),
+        sequence(element(0x17, b"261126090000Z"), element(0x17, b"271126090000Z")),
+        person(country, organization, ("2.5.4.3", 0x0C, "example.org")),
+        openssl("pkey", "-in", key, "-pubout", "-outform", "DER"),
+        element(0xA3, sequence(*extensions)),
+    )
+    signature = openssl("dgst", "-sha256", "-sign", signing_key, data=fields)
+    return sequence(fields, RSA_BARE, element(3, b"\x00", signature))
 
 
 def by_hand():

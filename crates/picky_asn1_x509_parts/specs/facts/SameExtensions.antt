@@ -9,10 +9,11 @@ use Rattle.x509_der.specs.facts.BitString.{bits_decide}
 use Rattle.x509_der.specs.facts.SameEq.{and_decides}
 use Rattle.x509_names.specs.declared.general_name.GeneralName.{GeneralName}
 use Rattle.picky_asn1_x509_parts.specs.Constraints.{Constraints}
-use Rattle.picky_asn1_x509_parts.specs.Extensions.{ExtensionFields, made}
+use Rattle.picky_asn1_x509_parts.specs.Extensions.{ExtensionFields, made, viewed}
 use Rattle.picky_asn1_x509_parts.specs.KeyAuthorities.{KeyAuthority}
 use Rattle.picky_asn1_x509_parts.specs.facts.SameAuthorities.{authority_eq, authorities_decide}
 use Rattle.picky_asn1_x509_parts.specs.declared.extension.ExtensionValue.{ExtensionValue}
+use Rattle.picky_asn1_x509_parts.specs.declared.extension.ExtensionView.{ExtensionView}
 use Rattle.picky_asn1_x509_parts.specs.declared.extension.ExtensionValue.TheVariants as value
 
 -- the same variant, with the same in it
@@ -98,3 +99,7 @@ same_extension {A} G C g d x y =
 pub extensions_decide : {A : Type 0} (test : ExtensionFields A → ExtensionFields A → Bool) {G : GeneralName A → GeneralName A → Bool} {C : Constraints → Constraints → Bool} → ((i j : List ℕ) (b c : Bool) (v w : ExtensionValue A) → test (made i b v) (made j c w) ≡ (pointwise nat_eq i j && (beq b c && value_eq G C v w))) → ((x y : GeneralName A) → Decides (G x y) (x ≡ y)) → ((x y : Constraints) → Decides (C x y) (x ≡ y)) → (x y : ExtensionFields A) → Decides (test x y) (x ≡ y)
 extensions_decide test {G = G} {C = C} t g c x y =
     rw (t x.extn_id y.extn_id x.critical y.critical x.extn_value y.extn_value) (same_extension G C g c x y)
+
+-- of two views, the same variant, with the same in it
+pub views_decide : {A : Type 0} (test : ExtensionView A → ExtensionView A → Bool) {G : GeneralName A → GeneralName A → Bool} {C : Constraints → Constraints → Bool} → ((x y : ExtensionView A) → test x y ≡ value_eq G C (viewed x) (viewed y)) → ((x y : GeneralName A) → Decides (G x y) (x ≡ y)) → ((x y : Constraints) → Decides (C x y) (x ≡ y)) → (x y : ExtensionView A) → Decides (test x y) (viewed x ≡ viewed y)
+views_decide test {G = G} {C = C} t g c x y = rw (t x y) (same_value G C g c (viewed x) (viewed y))

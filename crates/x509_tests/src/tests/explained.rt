@@ -4,55 +4,17 @@
 //! Each encoding is damaged in each of its elements: its tag by one of several bytes (`1f`), which stands in the place of
 //! no field, so that an optional field is absent, and its length by an indefinite one (`80`). Then come a few contents.
 
+use super::damages::{Damaged, each_refused, is_refused};
 use picky_asn1_x509::{
     AlgorithmIdentifier, AuthorityKeyIdentifier, BasicConstraints, Certificate,
     CertificationRequest, DigestInfo, ECPrivateKey, Extension, Name, PrivateKeyInfo, RsaPrivateKey,
     SubjectPublicKeyInfo, TbsCertificate, Validity,
 };
-use std::alloc::Global;
-use std::process::Abort;
 use x509_der::ReadError::{
     BadBits, BadBoolean, BadLength, BadNumber, BadOid, BadText, BadTime, BadVersion,
     ExtensionsNeedV3, LeftOver, Truncated, UniqueIdNeedsV2, Unsupported, WrongTag,
 };
-use x509_der::{FromDer, ReadError, Refused, read_explained};
-
-/// The byte that is damaged, what stands in its place, and the error with its place.
-type Damage = (usize, u8, ReadError, usize);
-
-/// An encoding in hexadecimal, and damages of it, each by itself.
-type Damaged = (&'static str, &'static [Damage]);
-
-/// The bytes are refused as is stated.
-fn is_refused<T: FromDer<Global>>(rt: &impl Abort, alloc: Global, bytes: &[u8], stated: Refused) {
-    let found = read_explained::<T, Global>(alloc, bytes).err();
-    assert!(rt; found == Some(stated), "{found:?} and not {stated:?}");
-}
-
-/// The encoding is read, and each damage of it is refused as is stated.
-fn each_refused<T: FromDer<Global>>(rt: &impl Abort, alloc: Global, table: &Damaged) {
-    let mut bytes = hex::decode(alloc, table.0).expect(rt, table.0);
-    let is_read = read_explained::<T, Global>(alloc, &bytes).is_ok();
-    assert!(rt; is_read, "{} is refused", table.0);
-    for damage in table.1 {
-        let whole = bytes.get(damage.0).copied().expect(rt, table.0);
-        if let Some(byte) = bytes.get_mut(damage.0) {
-            *byte = damage.1;
-        }
-        is_refused::<T>(
-            rt,
-            alloc,
-            &bytes,
-            Refused {
-                error: damage.2,
-                at: damage.3,
-            },
-        );
-        if let Some(byte) = bytes.get_mut(damage.0) {
-            *byte = whole;
-        }
-    }
-}
+use x509_der::{ReadError, Refused};
 
 /// Damages of `BasicConstraints`.
 const CONSTRAINTS: Damaged = (

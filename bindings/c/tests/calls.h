@@ -1,0 +1,112 @@
+/* Every call of cimaroly.h in one form, so that a test can go over them. */
+#ifndef CIMAROLY_TESTS_CALLS_H
+#define CIMAROLY_TESTS_CALLS_H
+
+#include "cimaroly.h"
+
+#include <string.h>
+
+/* An input, and the buffer that a call may write to. */
+struct given {
+    uint32_t kind;
+    const uint8_t *der;
+    size_t der_size;
+    uint8_t *out;
+    size_t out_size;
+};
+
+/* What a call writes beside its buffer. */
+struct told {
+    size_t status;
+    size_t count;
+    union {
+        struct cimaroly_verdict verdict;
+        struct cimaroly_signed part;
+        struct cimaroly_certificate certificate;
+        struct cimaroly_request request;
+        struct cimaroly_private_key private_key;
+        uint8_t bytes[sizeof(struct cimaroly_certificate)];
+    } of;
+};
+
+enum { ANY_KIND = 0, SIGNED_KINDS = 100, EXTENSIONS_KINDS = 101 };
+
+/* A call over lent memory, its form over malloc, the size of what its buffer takes, or 0, and which kind it is for. */
+struct call {
+    const char *name;
+    uint32_t (*lent)(struct cimaroly_memory *memory, struct given given, struct told *told);
+    uint32_t (*over_malloc)(struct given given, struct told *told);
+    size_t unit;
+    uint32_t kind;
+};
+
+#define GIVEN_BUFFER(type) (type *)(void *)given.out, given.out_size / sizeof(type), &told->count
+#define GIVEN_KIND_AND_INPUT given.kind, given.der, given.der_size
+#define GIVEN_INPUT given.der, given.der_size
+#define DEFINE_CALL(name, ...)                                                                                       \
+    static inline uint32_t lent_##name(struct cimaroly_memory *memory, struct given given, struct told *told)        \
+    {                                                                                                                \
+        return cimaroly_##name(memory, __VA_ARGS__);                                                                 \
+    }                                                                                                                \
+    static inline uint32_t malloc_##name(struct given given, struct told *told)                                      \
+    {                                                                                                                \
+        return cimaroly_##name##_malloc(__VA_ARGS__);                                                                \
+    }
+
+DEFINE_CALL(check, GIVEN_KIND_AND_INPUT, &told->of.verdict)
+DEFINE_CALL(encode, GIVEN_KIND_AND_INPUT, GIVEN_BUFFER(uint8_t))
+DEFINE_CALL(places, GIVEN_KIND_AND_INPUT, GIVEN_BUFFER(struct cimaroly_place))
+DEFINE_CALL(signed_part, GIVEN_KIND_AND_INPUT, &told->of.part)
+DEFINE_CALL(certificate_fields, GIVEN_INPUT, &told->of.certificate)
+DEFINE_CALL(request_fields, GIVEN_INPUT, &told->of.request)
+DEFINE_CALL(private_key_fields, GIVEN_INPUT, &told->of.private_key)
+DEFINE_CALL(extensions, GIVEN_KIND_AND_INPUT, GIVEN_BUFFER(struct cimaroly_extension))
+DEFINE_CALL(report, GIVEN_KIND_AND_INPUT, false, GIVEN_BUFFER(uint8_t))
+
+#define CALL(name, unit, kind) {#name, lent_##name, malloc_##name, unit, kind}
+
+enum call_number { CHECK, ENCODE, PLACES, SIGNED_PART, CERTIFICATE_FIELDS, REQUEST_FIELDS, PRIVATE_KEY_FIELDS,
+                   EXTENSION_PLACES, REPORT, CALLS };
+
+static const struct call calls[CALLS] = {
+    CALL(check, 0, ANY_KIND),
+    CALL(encode, 1, ANY_KIND),
+    CALL(places, sizeof(struct cimaroly_place), ANY_KIND),
+    CALL(signed_part, 0, SIGNED_KINDS),
+    CALL(certificate_fields, 0, CIMAROLY_CERTIFICATE),
+    CALL(request_fields, 0, CIMAROLY_REQUEST),
+    CALL(private_key_fields, 0, CIMAROLY_PRIVATE_KEY),
+    CALL(extensions, sizeof(struct cimaroly_extension), EXTENSIONS_KINDS),
+    CALL(report, 1, ANY_KIND),
+};
+
+/* Whether a call can be asked about a kind. */
+static inline bool is_for(const struct call *call, uint32_t kind)
+{
+    switch (call->kind) {
+    case ANY_KIND:
+        return true;
+    case SIGNED_KINDS:
+        return kind == CIMAROLY_CERTIFICATE || kind == CIMAROLY_REQUEST;
+    case EXTENSIONS_KINDS:
+        return kind == CIMAROLY_CERTIFICATE || kind == CIMAROLY_EXTENSIONS;
+    default:
+        return kind == call->kind;
+    }
+}
+
+/* Asks a call over lent memory. What it doesn't write is set to one value. */
+static inline void ask(const struct call *call, struct cimaroly_memory *memory, struct given given, struct told *told)
+{
+    memset(told, 0xA5, sizeof *told);
+    told->status = call->lent(memory, given, told);
+}
+
+/* Whether two calls told the same, beside their buffers. */
+static inline bool is_same_told(const struct told *told, const struct told *other)
+{
+    return told->status == other->status && told->count == other->count &&
+           memcmp(told->of.bytes, other->of.bytes, sizeof told->of.bytes) == 0;
+}
+
+#endif

@@ -1,0 +1,367 @@
+/*
+ * Goes over the rows of bindings/tests/table.tsv with every call: what is told is what the table states, with each size
+ * of lent memory it is that or "out of memory", and nothing is written past a buffer or in front of one.
+ *
+ * usage: test_cimaroly FOLDER [SHARE]   FOLDER is that of the repository, SHARE by which share of it lent memory grows
+ *        from one try to the next: by an eighth, where none is given. The last line is 'N passed, M failed'.
+ */
+#include "calls.h"
+#include "guard.h"
+#include "table.h"
+
+enum { PLENTY = 1 << 20, ROOM = 1 << 16 };
+
+static size_t passed;
+static size_t failed;
+static size_t share = 8;
+
+static void expect(bool is_so, const struct row *row, const char *call, const char *what)
+{
+    if (is_so) {
+        passed++;
+        return;
+    }
+    failed++;
+    printf("%s: %s: %s\n", row->cells[NAME], call, what);
+}
+
+/* A number up to the text behind it, which is passed over; or 0. */
+static size_t number(const char **text)
+{
+    char *end;
+    size_t value = (size_t)strtoull(*text, &end, 10);
+    *text = end;
+    while (**text != '\0' && strchr("@.=, ", **text) != NULL)
+        (*text)++;
+    return value;
+}
+
+static struct cimaroly_span span(const char **text)
+{
+    struct cimaroly_span found;
+    found.start = number(text);
+    found.end = number(text);
+    return found;
+}
+
+static bool is_span(struct cimaroly_span span, struct cimaroly_span other)
+{
+    return span.start == other.start && span.end == other.end;
+}
+
+static uint32_t stated_status(const struct row *row)
+{
+    return is_text(row->cells[RESULT], "refused") ? CIMAROLY_REFUSED : CIMAROLY_OK;
+}
+
+/* The deviations that a row states. */
+static size_t stated_places(const struct row *row, struct cimaroly_place *places)
+{
+    size_t count = 0;
+    const char *text = row->cells[DEVIATIONS];
+    if (is_text(text, "-"))
+        return 0;
+    for (; *text != '\0'; count++) {
+        places[count].deviation = number(&text);
+        places[count].start = number(&text);
+        places[count].end = number(&text);
+    }
+    return count;
+}
+
+static void check_is_right(const struct row *row, const struct told *told)
+{
+    struct cimaroly_verdict verdict = told->of.verdict;
+    struct cimaroly_place places[16];
+    size_t count = stated_places(row, places);
+    const char *error = row->cells[ERROR];
+    for (size_t i = 0; i < count; i++)
+        verdict.counts[places[i].deviation - 1]--;
+    for (size_t i = 0; i < 10; i++)
+        expect(verdict.counts[i] == 0, row, "check", "a count");
+    if (!is_text(error, "-")) {
+        size_t reason = number(&error);
+        size_t at = number(&error);
+        expect(verdict.error == reason, row, "check", "the error");
+        expect(verdict.at == at, row, "check", "the error's place");
+    }
+    expect((verdict.error != 0) == (told->status == CIMAROLY_REFUSED), row, "check", "an error where there is none");
+    expect(verdict.headers > 0 || row->der_size == 0, row, "check", "the headers");
+}
+
+static void encode_is_right(const struct row *row, const struct told *told, const uint8_t *out)
+{
+    bool is_same = is_text(row->cells[ENCODING], "same");
+    size_t size = 0;
+    uint8_t *stated = is_same ? NULL : decode_hex(row->cells[ENCODING], &size);
+    if (is_same)
+        size = row->der_size;
+    expect(told->count == size && memcmp(out, is_same ? row->der : stated, size) == 0, row, "encode", "the bytes");
+    free(stated);
+}
+
+static void places_are_right(const struct row *row, const struct told *told, const uint8_t *out)
+{
+    struct cimaroly_place stated[16];
+    size_t count = stated_places(row, stated);
+    expect(told->count == count && memcmp(out, stated, count * sizeof *stated) == 0, row, "places", "the places");
+}
+
+static void signed_part_is_right(const struct row *row, const struct told *told)
+{
+    struct cimaroly_signed part = told->of.part;
+    struct cimaroly_place places[16];
+    const char *text = row->cells[SIGNED];
+    size_t count = stated_places(row, places);
+    expect(is_span(part.part, span(&text)), row, "signed_part", "its place");
+    for (size_t i = 0; i < count; i++) {
+        bool is_inside = part.part.start <= places[i].start && places[i].end <= part.part.end;
+        (is_inside ? part.inside : part.outside)[places[i].deviation - 1]--;
+    }
+    for (size_t i = 0; i < 10; i++)
+        expect(part.inside[i] == 0 && part.outside[i] == 0, row, "signed_part", "a count");
+}
+
+/* The names of fields, in the order of the structures. */
+static const char *const field_names[][14] = {
+    {"tbs_certificate", "version", "serial_number", "signature", "issuer", "validity", "subject",
+     "subject_public_key_info", "issuer_unique_id", "subject_unique_id", "extensions", "signature_algorithm",
+     "signature_value", NULL},
+    {"certification_request_info", "version", "subject", "subject_public_key_info", "attributes",
+     "signature_algorithm", "signature", NULL},
+    {"version", "private_key_algorithm", "private_key", "skipped", "public_key", NULL},
+};
+
+/* The place of a field that a row states, or no place. */
+static struct cimaroly_span stated_field(const struct row *row, const char *name)
+{
+    struct cimaroly_span none = {0, 0};
+    size_t size = strlen(name);
+    const char *text = row->cells[FIELDS];
+    while (text != NULL && *text != '\0') {
+        if (strncmp(text, name, size) == 0 && text[size] == '=') {
+            text += size + 1;
+            return span(&text);
+        }
+        text = strchr(text, ' ');
+        text = text != NULL ? text + 1 : NULL;
+    }
+    return none;
+}
+
+static void fields_are_right(const struct row *row, const struct told *told, const char *call)
+{
+    const char *const *names = field_names[row->kind - CIMAROLY_CERTIFICATE];
+    struct cimaroly_span fields[13];
+    memcpy(fields, told->of.bytes, sizeof fields);
+    for (size_t i = 0; names[i] != NULL; i++)
+        expect(is_span(fields[i], stated_field(row, names[i])), row, call, names[i]);
+}
+
+static void extensions_are_right(const struct row *row, const struct told *told, const uint8_t *out)
+{
+    struct cimaroly_span found[4];
+    const char *text = row->cells[EXTENSIONS];
+    size_t count = 0;
+    for (text = strchr(text, '='); text != NULL; text = strchr(text, '='), count++) {
+        text++;
+        if (count < told->count)
+            memcpy(found, out + count * sizeof found, sizeof found);
+        for (size_t i = 0; i < 4; i++)
+            expect(count < told->count && is_span(found[i], span(&text)), row, "extensions", "a place");
+    }
+    expect(told->count == count, row, "extensions", "their number");
+}
+
+static void report_is_right(const struct row *row, const struct told *told, uint8_t *out)
+{
+    char stated[64];
+    snprintf(stated, sizeof stated, "\"result\":\"%s\"", row->cells[RESULT]);
+    out[told->count] = '\0';
+    expect(out[0] == '{' && out[told->count - 1] == '}', row, "report", "an object");
+    expect(strstr((char *)out, stated) != NULL, row, "report", "the result");
+    expect(told->count == strlen((char *)out), row, "report", "the size");
+}
+
+/* What a call with plenty of memory and room tells is what the row states. */
+static void is_as_stated(const struct row *row, enum call_number which, const struct told *told, uint8_t *out)
+{
+    uint32_t status = which == REPORT ? (uint32_t)CIMAROLY_OK : stated_status(row);
+    expect(told->status == status, row, calls[which].name, "the status");
+    if (told->status != CIMAROLY_OK && which != CHECK)
+        return;
+    switch (which) {
+    case CHECK:
+        check_is_right(row, told);
+        break;
+    case ENCODE:
+        encode_is_right(row, told, out);
+        break;
+    case PLACES:
+        places_are_right(row, told, out);
+        break;
+    case SIGNED_PART:
+        signed_part_is_right(row, told);
+        break;
+    case EXTENSION_PLACES:
+        extensions_are_right(row, told, out);
+        break;
+    case REPORT:
+        report_is_right(row, told, out);
+        break;
+    default:
+        fields_are_right(row, told, calls[which].name);
+    }
+}
+
+static struct given given_of(const struct row *row, uint8_t *out, size_t out_size)
+{
+    struct given given = {row->kind, row->der, row->der_size, out, out_size};
+    return given;
+}
+
+/* With so much lent memory the answer is the one with plenty of it, or that the memory was too little. */
+static size_t is_same_with(const struct row *row, const struct call *call, const struct told *right, const uint8_t *out,
+                             size_t size)
+{
+    size_t used = right->status == CIMAROLY_OK ? right->count * call->unit : 0;
+    struct guarded lent = guarded_room(size);
+    struct guarded buffer = guarded_room(used);
+    struct cimaroly_memory memory = {lent.at, size};
+    struct told told;
+    ask(call, &memory, given_of(row, buffer.at, used), &told);
+    expect(memory.at == lent.at && memory.size == size, row, call->name, "the memory isn't given back");
+    expect(is_front_whole(lent) && is_front_whole(buffer), row, call->name, "bytes in front of a buffer");
+    if (told.status == CIMAROLY_OUT_OF_MEMORY) {
+        expect(is_filling(buffer.at, used), row, call->name, "the buffer, with too little memory");
+        expect(call->unit == 0 || told.count == 0, row, call->name, "the count, with too little memory");
+    } else {
+        expect(is_same_told(&told, right), row, call->name, "another answer, with less memory");
+        expect(memcmp(buffer.at, out, used) == 0, row, call->name, "other bytes, with less memory");
+    }
+    guarded_free(lent);
+    guarded_free(buffer);
+    return told.status;
+}
+
+/* From no memory up to plenty, in steps of 16 bytes and then larger ones. */
+static void memory_is_kept_to(const struct row *row, const struct call *call, const struct told *right, const uint8_t *out)
+{
+    size_t status = CIMAROLY_OUT_OF_MEMORY;
+    for (size_t size = 0; size < PLENTY; size += size < 16 * share ? 16 : size / share / 16 * 16)
+        status = is_same_with(row, call, right, out, size);
+    expect(status == right->status, row, call->name, "out of memory, with 1 MB");
+}
+
+/* In a buffer that is too short nothing is written, and the size that is needed is told. */
+static void short_buffer_is_kept(const struct row *row, const struct call *call, const struct told *right)
+{
+    if (call->unit == 0 || right->status != CIMAROLY_OK || right->count == 0)
+        return;
+    struct guarded lent = guarded_room(PLENTY);
+    for (size_t room = 0; room < right->count; room += right->count > 8 ? right->count / 8 : 1) {
+        struct guarded buffer = guarded_room(room * call->unit);
+        struct cimaroly_memory memory = {lent.at, PLENTY};
+        struct told told;
+        ask(call, &memory, given_of(row, buffer.at, room * call->unit), &told);
+        expect(told.status == CIMAROLY_BUFFER_TOO_SHORT, row, call->name, "the status, with a short buffer");
+        expect(told.count == right->count, row, call->name, "the size, with a short buffer");
+        expect(is_filling(buffer.at, room * call->unit), row, call->name, "a short buffer was written");
+        guarded_free(buffer);
+    }
+    guarded_free(lent);
+}
+
+/* The form over malloc tells the same. */
+static void malloc_tells_the_same(const struct row *row, const struct call *call, const struct told *right,
+                                  const uint8_t *out)
+{
+    struct guarded buffer = guarded_room(ROOM);
+    struct told told;
+    memset(&told, GUARD_FILL, sizeof told);
+    told.status = call->over_malloc(given_of(row, buffer.at, ROOM), &told);
+    expect(is_same_told(&told, right), row, call->name, "another answer, over malloc");
+    expect(right->status != CIMAROLY_OK || call->unit == 0 || memcmp(buffer.at, out, right->count * call->unit) == 0,
+           row, call->name, "other bytes, over malloc");
+    guarded_free(buffer);
+}
+
+static void test_call(const struct row *row, enum call_number which)
+{
+    const struct call *call = &calls[which];
+    struct guarded lent = guarded_room(PLENTY);
+    struct guarded buffer = guarded_room(ROOM);
+    struct guarded copy = guarded_room(row->der_size);
+    struct cimaroly_memory memory = {lent.at, PLENTY};
+    struct row kept = *row;
+    /* the input ends where what follows can't be read */
+    memcpy(copy.at, row->der, row->der_size);
+    kept.der = copy.at;
+    struct told right;
+    ask(call, &memory, given_of(&kept, buffer.at, ROOM), &right);
+    if (is_for(call, row->kind)) {
+        memory_is_kept_to(&kept, call, &right, buffer.at);
+        short_buffer_is_kept(&kept, call, &right);
+        malloc_tells_the_same(&kept, call, &right, buffer.at);
+        is_as_stated(&kept, which, &right, buffer.at);
+    } else if (call->kind == SIGNED_KINDS || call->kind == EXTENSIONS_KINDS) {
+        expect(right.status == CIMAROLY_UNKNOWN_KIND, row, call->name, "a kind that it isn't for");
+    }
+    expect(memcmp(copy.at, row->der, row->der_size) == 0, row, call->name, "the input was written");
+    guarded_free(lent);
+    guarded_free(buffer);
+    guarded_free(copy);
+}
+
+/* Numbers of no kind. */
+static void test_unknown_kinds(const uint8_t *der)
+{
+    static const uint32_t kinds[] = {0, 12, 256, UINT32_MAX};
+    struct row row = {{NULL}, 0, NULL, 0};
+    char name[] = "a number of no kind";
+    struct guarded buffer = guarded_room(ROOM);
+    struct guarded lent = guarded_room(PLENTY);
+    row.cells[NAME] = name;
+    for (size_t i = 0; i < sizeof kinds / sizeof *kinds; i++) {
+        struct given given = {kinds[i], der, 0, buffer.at, ROOM};
+        for (size_t which = 0; which < CALLS; which++) {
+            struct cimaroly_memory memory = {lent.at, PLENTY};
+            if (calls[which].kind != ANY_KIND && calls[which].kind < SIGNED_KINDS)
+                continue;
+            struct told told;
+            ask(&calls[which], &memory, given, &told);
+            expect(told.status == CIMAROLY_UNKNOWN_KIND, &row, calls[which].name, "the status");
+            expect(is_filling(buffer.at, ROOM), &row, calls[which].name, "the buffer");
+        }
+    }
+    guarded_free(buffer);
+    guarded_free(lent);
+}
+
+int main(int argc, char **argv)
+{
+    char path[4096];
+    size_t size = 0;
+    struct row row = {{NULL}, 0, NULL, 0};
+    if (argc != 2 && argc != 3)
+        stop("usage", "test_cimaroly FOLDER [SHARE]");
+    if (argc == 3)
+        share = (size_t)strtoul(argv[2], NULL, 10);
+    snprintf(path, sizeof path, "%s/bindings/tests/table.tsv", argv[1]);
+    char *text = (char *)read_file(path, &size);
+    if (text == NULL)
+        stop("can't be read", path);
+    char *table = strchr(text, '\n');
+    if (table == NULL)
+        stop("is empty", path);
+    table++;
+    while (next_row(&table, argv[1], &row)) {
+        for (size_t which = 0; which < CALLS; which++)
+            test_call(&row, (enum call_number)which);
+        free(row.der);
+    }
+    test_unknown_kinds((const uint8_t *)text);
+    free(text);
+    printf("%zu passed, %zu failed\n", passed, failed);
+    return failed > 0 || passed == 0;
+}

@@ -1,0 +1,232 @@
+"""Structures that were read, and what there is to ask of them."""
+
+from __future__ import annotations
+
+import json
+from collections.abc import Mapping
+from functools import cached_property
+from typing import Any, NamedTuple, Optional, Union
+
+from . import _library
+from ._kinds import KINDS, Deviation, Kind
+from ._pem import Block, PemError, is_pem, pem_blocks
+
+Data = Union[bytes, bytearray, memoryview, str]
+"""DER or PEM. A `str` is PEM."""
+
+
+class Verdict(NamedTuple):
+    """What a check finds of bytes that aren't refused."""
+
+    counts: Mapping[Deviation, int]
+    """How often each deviation stands there that does."""
+    headers: int
+    """How many headers of elements were decoded."""
+
+    @property
+    def is_der(self) -> bool:
+        """Whether the bytes are the DER encoding of what they encode."""
+        return not self.counts
+
+
+class Place(NamedTuple):
+    """A deviation, and the bytes that it covers."""
+
+    deviation: Deviation
+    start: int
+    end: int
+
+
+class Field(NamedTuple):
+    """A field with its tag and its length: the bytes `start` up to `end` of the structure."""
+
+    start: int
+    end: int
+    data: bytes
+
+
+class Extension(NamedTuple):
+    """An extension (RFC 5280, 4.1)."""
+
+    identifier: str
+    """`extnID`, with dots."""
+    critical: bool
+    value: bytes
+    """What `extnValue` holds."""
+    start: int
+    end: int
+
+
+class SignedPart(NamedTuple):
+    """What the signature of a certificate or a request covers."""
+
+    start: int
+    end: int
+    data: bytes
+    """The bytes that go to the verifier of signatures."""
+    inside: Mapping[Deviation, int]
+    """How often each deviation stands in them that does: if none does, they are in DER."""
+    outside: Mapping[Deviation, int]
+    """How often each deviation stands outside of them that does."""
+
+
+def _counted(counts: Any) -> dict[Deviation, int]:
+    found = counts[:]
+    return {Deviation(number): count for number, count in enumerate(found, 1) if count} if any(found) else {}
+
+
+def _identifier(content: bytes) -> str:
+    """An object identifier with dots (X.690, 8.19)."""
+    arcs, arc = [], 0
+    for byte in content:
+        arc = arc << 7 | byte & 127
+        if byte < 128:
+            arcs.append(arc)
+            arc = 0
+    first = min(arcs[0] // 40, 2)
+    return ".".join(map(str, (first, arcs[0] - 40 * first, *arcs[1:])))
+
+
+def _content(der: bytes, span: Any) -> bytes:
+    """The content of an element that was read."""
+    size = der[span.start + 1]
+    header = 2 if size < 128 else size - 126
+    return der[span.start + header : span.end]
+
+
+class Structure:
+    """A structure that was read. It keeps the bytes, and asks the library again for what is told of them."""
+
+    def __init__(self, der: bytes, kind: Kind = "certificate") -> None:
+        """Reads bytes in DER. Raises `Refused`."""
+        found = _library.check(kind, der)
+        self._der, self._kind = der, kind
+        self._verdict = Verdict(_counted(found.counts), found.headers)
+
+    @property
+    def der(self) -> bytes:
+        """The bytes that were read."""
+        return self._der
+
+    @property
+    def kind(self) -> Kind:
+        """As what they were read."""
+        return self._kind
+
+    @property
+    def verdict(self) -> Verdict:
+        """How often each deviation stands there, and how many headers were decoded."""
+        return self._verdict
+
+    @property
+    def is_der(self) -> bool:
+        """Whether the bytes are the DER encoding of what they encode: no deviation stands there."""
+        return self._verdict.is_der
+
+    @cached_property
+    def deviations(self) -> tuple[Place, ...]:
+        """Each deviation with its place, by start and then by number."""
+        if self.is_der:
+            return ()
+        return tuple(Place(Deviation(it.deviation), it.start, it.end) for it in _library.places(self._kind, self._der))
+
+    @cached_property
+    def fields(self) -> Mapping[str, Field]:
+        """The fields of a certificate, a request or a private key that are there, by their names in `cimaroly.h`.
+
+        Raises `ValueError` for another kind.
+        """
+        found = _library.fields(self._kind, self._der)
+        return {name: Field(it.start, it.end, self._der[it.start : it.end]) for name, it in found.items()}
+
+    @cached_property
+    def extensions(self) -> tuple[Extension, ...]:
+        """The extensions of a certificate or a list of extensions. Raises `ValueError` for another kind."""
+        return tuple(map(self._extension, _library.extensions(self._kind, self._der)))
+
+    def _extension(self, it: _library.Extension) -> Extension:
+        der = self._der
+        critical = it.critical.end > 0 and der[it.critical.end - 1] != 0
+        value = _content(der, it.extn_value)
+        return Extension(_identifier(_content(der, it.extn_id)), critical, value, it.whole.start, it.whole.end)
+
+    @cached_property
+    def signed_part(self) -> SignedPart:
+        """What the signature of a certificate or a request covers. Raises `ValueError` for another kind."""
+        found = _library.signed_part(self._kind, self._der)
+        start, end = found.part.start, found.part.end
+        return SignedPart(start, end, self._der[start:end], _counted(found.inside), _counted(found.outside))
+
+    def encode(self) -> bytes:
+        """The DER encoding: where no deviation stands there, the bytes that were read."""
+        return _library.encode(self._kind, self._der)
+
+    def report(self, *, secrets: bool = False) -> dict[str, Any]:
+        """What stands there, as docs/JSON.md tells. The secret numbers of private keys are left out, unless asked for."""
+        told: dict[str, Any] = json.loads(_library.report(self._kind, self._der, secrets))
+        return told
+
+    def __repr__(self) -> str:
+        total = sum(self._verdict.counts.values())
+        how = "in DER" if total == 0 else f"{total} deviation{'s' if total > 1 else ''}"
+        return f"<{self._kind}, {len(self._der)} bytes, {how}>"
+
+    def __eq__(self, other: object) -> bool:
+        return isinstance(other, Structure) and (self._kind, self._der) == (other._kind, other._der)
+
+    def __hash__(self) -> int:
+        return hash((self._kind, self._der))
+
+
+def _known(kind: str) -> None:
+    if kind not in KINDS:
+        raise ValueError(f"no kind {kind!r}: there are {', '.join(KINDS)}")
+
+
+def _blocks(data: Data, kind: Optional[Kind]) -> list[Block]:
+    """The blocks of a PEM text that are of a kind, or of any."""
+    found = list(pem_blocks(data))
+    fitting = [it for it in found if (it.kind is not None if kind is None else it.kind == kind)]
+    if not fitting:
+        labels = ", ".join(sorted({it.label for it in found})) or "none"
+        raise PemError(f"no PEM block of {'a known kind' if kind is None else 'kind ' + kind} (blocks: {labels})")
+    return fitting
+
+
+def _der(data: Data, kind: Kind) -> bytes:
+    _known(kind)
+    if isinstance(data, str):
+        return _blocks(data, kind)[0].der
+    found = bytes(data)
+    return _blocks(found, kind)[0].der if is_pem(found) else found
+
+
+def check(data: Data, kind: Kind = "certificate") -> Verdict:
+    """Whether bytes encode a structure of a kind, and how they deviate from its DER encoding.
+
+    Of PEM the first block is taken that the kind fits. Raises `Refused`, `PemError` where there is no such block, and
+    `MemoryError`.
+    """
+    found = _library.check(kind, _der(data, kind))
+    return Verdict(_counted(found.counts), found.headers)
+
+
+def read(data: Data, kind: Kind = "certificate") -> Structure:
+    """Reads one structure. Of PEM the first block is taken that the kind fits.
+
+    Raises `Refused`, `PemError` where there is no such block, and `MemoryError`.
+    """
+    return Structure(_der(data, kind), kind)
+
+
+def read_all(data: Data, kind: Optional[Kind] = None) -> list[Structure]:
+    """Reads every PEM block as the kind that its label says, or those of one kind; of DER its one structure, which is a
+    certificate where no kind is given.
+
+    Raises what `read` does. Who wants to go on behind a refused block takes the blocks from `pem_blocks`.
+    """
+    if kind is not None:
+        _known(kind)
+    if isinstance(data, str) or is_pem(bytes(data)):
+        return [Structure(it.der, it.kind) for it in _blocks(data, kind) if it.kind is not None]
+    return [Structure(bytes(data), kind or "certificate")]

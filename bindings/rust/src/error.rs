@@ -1,0 +1,151 @@
+//! Why a call gives no answer.
+
+use core::fmt;
+
+/// Why a call gives no answer.
+#[derive(Clone, Copy, Debug, PartialEq, Eq)]
+#[non_exhaustive]
+pub enum Error {
+    /// The input encodes no value of the kind.
+    Refused(Refused),
+    /// The memory that was lent is too little: nothing is known of the input.
+    OutOfMemory,
+    /// The buffer is too short, and is as it was.
+    BufferTooShort {
+        /// How many bytes or items are needed.
+        needed: usize,
+    },
+    /// What is to be written has 2^64 bytes or more.
+    TooLong,
+    /// The call isn't for this kind.
+    WrongKind,
+}
+
+impl fmt::Display for Error {
+    fn fmt(&self, f: &mut fmt::Formatter<'_>) -> fmt::Result {
+        match self {
+            Error::Refused(refused) => refused.fmt(f),
+            Error::OutOfMemory => f.write_str("the memory that was lent is too little"),
+            Error::BufferTooShort { needed } => {
+                write!(f, "the buffer is too short: {needed} are needed")
+            }
+            Error::TooLong => f.write_str("the encoding has 2^64 bytes or more"),
+            Error::WrongKind => f.write_str("the call isn't for this kind"),
+        }
+    }
+}
+
+impl core::error::Error for Error {}
+
+/// Why and where an input is refused.
+#[derive(Clone, Copy, Debug, PartialEq, Eq)]
+pub struct Refused {
+    /// Why.
+    pub reason: Reason,
+    /// The byte, from 0, that could not be read.
+    pub at: usize,
+}
+
+impl fmt::Display for Refused {
+    fn fmt(&self, f: &mut fmt::Formatter<'_>) -> fmt::Result {
+        write!(f, "{} at byte {}", self.reason, self.at)
+    }
+}
+
+impl core::error::Error for Refused {}
+
+/// Why an input is refused.
+#[derive(Clone, Copy, Debug, PartialEq, Eq, Hash)]
+pub enum Reason {
+    /// Memory was refused.
+    OutOfMemory = 1,
+    /// An element is cut short.
+    Truncated = 2,
+    /// Bytes are left over.
+    LeftOver = 3,
+    /// Another tag than one that can stand there.
+    WrongTag = 4,
+    /// A length that isn't in the fewest bytes, or is indefinite.
+    BadLength = 5,
+    /// An INTEGER that is padded, empty or out of range.
+    BadNumber = 6,
+    /// A BOOLEAN that is neither 00 nor FF.
+    BadBoolean = 7,
+    /// A BIT STRING whose unused bits are more than seven, or set.
+    BadBits = 8,
+    /// An object identifier that is malformed.
+    BadOid = 9,
+    /// A character that its string can't have.
+    BadText = 10,
+    /// A time that is malformed, or none of the calendar.
+    BadTime = 11,
+    /// A version that isn't known.
+    BadVersion = 12,
+    /// An algorithm, or a choice, that isn't known.
+    Unsupported = 13,
+    /// A unique identifier in a certificate of version 1.
+    UniqueIdNeedsV2 = 14,
+    /// Extensions in a certificate that isn't of version 3.
+    ExtensionsNeedV3 = 15,
+}
+
+impl Reason {
+    /// Every reason, in the order of their numbers.
+    pub const ALL: [Reason; 15] = [
+        Reason::OutOfMemory,
+        Reason::Truncated,
+        Reason::LeftOver,
+        Reason::WrongTag,
+        Reason::BadLength,
+        Reason::BadNumber,
+        Reason::BadBoolean,
+        Reason::BadBits,
+        Reason::BadOid,
+        Reason::BadText,
+        Reason::BadTime,
+        Reason::BadVersion,
+        Reason::Unsupported,
+        Reason::UniqueIdNeedsV2,
+        Reason::ExtensionsNeedV3,
+    ];
+
+    /// The number, from 1 to 15.
+    #[must_use]
+    pub const fn number(self) -> usize {
+        self as usize
+    }
+
+    /// The reason of a number.
+    #[must_use]
+    pub fn from_number(number: usize) -> Option<Reason> {
+        Reason::ALL.get(number.checked_sub(1)?).copied()
+    }
+
+    /// The name, in plain words.
+    #[must_use]
+    pub const fn name(self) -> &'static str {
+        match self {
+            Reason::OutOfMemory => "out of memory",
+            Reason::Truncated => "truncated element",
+            Reason::LeftOver => "bytes left over",
+            Reason::WrongTag => "wrong tag",
+            Reason::BadLength => "malformed length",
+            Reason::BadNumber => "malformed number",
+            Reason::BadBoolean => "malformed truth value",
+            Reason::BadBits => "malformed bit string",
+            Reason::BadOid => "malformed object identifier",
+            Reason::BadText => "character not allowed",
+            Reason::BadTime => "malformed time",
+            Reason::BadVersion => "unknown version",
+            Reason::Unsupported => "unsupported algorithm or choice",
+            Reason::UniqueIdNeedsV2 => "unique identifier without version 2",
+            Reason::ExtensionsNeedV3 => "extensions without version 3",
+        }
+    }
+}
+
+impl fmt::Display for Reason {
+    fn fmt(&self, f: &mut fmt::Formatter<'_>) -> fmt::Result {
+        f.write_str(self.name())
+    }
+}

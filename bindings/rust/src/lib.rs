@@ -1,0 +1,53 @@
+//! X.509 structures in DER, checked, encoded and looked into by proved code.
+//!
+//! This crate calls `libcimaroly.a`, which is built of code whose contracts are proved; of this crate itself nothing is
+//! proved. It takes no memory: a [`Reader`] works in what it is lent, and fields borrow from the input.
+//!
+//! ```
+//! use cimaroly::{Block, Kind, Reader};
+//!
+//! // an algorithm identifier without its parameters
+//! let der = b"\x30\x0a\x06\x08\x2a\x86\x48\x86\xf7\x0d\x02\x09";
+//! let mut memory = [Block::UNINIT; 1024];
+//! let mut reader = Reader::new(&mut memory);
+//!
+//! let verdict = reader.check(Kind::RawAlgorithm, der)?;
+//! assert!(!verdict.is_der());
+//!
+//! let mut out = [0; 64];
+//! let encoding = reader.encode(Kind::RawAlgorithm, der, &mut out)?;
+//! assert_eq!(encoding, b"\x30\x0c\x06\x08\x2a\x86\x48\x86\xf7\x0d\x02\x09\x05\x00");
+//! # Ok::<(), cimaroly::Error>(())
+//! ```
+//!
+//! With the feature `alloc`, which is on by default, there are functions of the same names at the root of the crate, which take memory from the
+//! global allocator, and more of it until it is enough.
+//!
+//! # Linking
+//!
+//! The build script links the archive of the repository's `dist/`, or of the folder that the variable
+//! `CIMAROLY_LIB_DIR` names. The archive is for x86-64, and needs `memcpy`, `memmove` and `memset` alone.
+#![no_std]
+
+#[cfg(feature = "alloc")]
+extern crate alloc;
+
+#[cfg(feature = "alloc")]
+mod allocated;
+mod error;
+mod fields;
+mod kind;
+mod library;
+mod reader;
+mod told;
+
+#[cfg(feature = "alloc")]
+pub use crate::allocated::{
+    certificate, check, encode, extensions, places, private_key, report, request, signed_part,
+};
+pub use crate::error::{Error, Reason, Refused};
+pub use crate::fields::{Certificate, Extension, Field, PrivateKey, Request};
+pub use crate::kind::{Deviation, Kind};
+pub use crate::library::{Block, ExtensionPlaces};
+pub use crate::reader::{Extensions, Reader};
+pub use crate::told::{Counts, Place, SignedPart, Verdict};

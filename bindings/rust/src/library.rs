@@ -1,0 +1,307 @@
+//! The calls of `libcimaroly.a`, each behind a safe function of the same name. All that is unsafe stands here.
+//!
+//! What `cimaroly.h` asks of a caller holds of every call: a pointer is that of a reference or a slice, and so never null;
+//! memory is aligned to 16; what is written is lent exclusively, and so overlaps nothing else; and the library keeps no
+//! pointer.
+#![allow(unsafe_code)]
+
+use core::mem::{size_of_val, MaybeUninit};
+
+use crate::told::{Counts, Place};
+
+/// 16 bytes of the memory that a [`crate::Reader`] works in. What they hold before a call doesn't matter, and after it
+/// says nothing.
+#[derive(Clone, Copy, Debug)]
+#[repr(C, align(16))]
+pub struct Block(MaybeUninit<[u8; 16]>);
+
+impl Block {
+    /// A block for an array: `[Block::UNINIT; 1024]` are 16 KB.
+    pub const UNINIT: Block = Block(MaybeUninit::uninit());
+}
+
+/// `struct cimaroly_memory`.
+#[repr(C)]
+struct Memory {
+    at: *mut Block,
+    size: usize,
+}
+
+impl Memory {
+    fn of(blocks: &mut [Block]) -> Self {
+        Memory { at: blocks.as_mut_ptr(), size: size_of_val(blocks) }
+    }
+}
+
+/// `struct cimaroly_span`.
+#[derive(Clone, Copy, Debug, Default)]
+#[repr(C)]
+pub(crate) struct Span {
+    pub(crate) start: usize,
+    pub(crate) end: usize,
+}
+
+/// `struct cimaroly_verdict`.
+#[derive(Default)]
+#[repr(C)]
+pub(crate) struct Verdict {
+    pub(crate) counts: Counts,
+    pub(crate) headers: usize,
+    pub(crate) error: usize,
+    pub(crate) at: usize,
+}
+
+/// `struct cimaroly_signed`.
+#[derive(Default)]
+#[repr(C)]
+pub(crate) struct Signed {
+    pub(crate) part: Span,
+    pub(crate) inside: Counts,
+    pub(crate) outside: Counts,
+}
+
+/// `struct cimaroly_certificate`.
+#[derive(Default)]
+#[repr(C)]
+pub(crate) struct Certificate {
+    pub(crate) tbs_certificate: Span,
+    pub(crate) version: Span,
+    pub(crate) serial_number: Span,
+    pub(crate) signature: Span,
+    pub(crate) issuer: Span,
+    pub(crate) validity: Span,
+    pub(crate) subject: Span,
+    pub(crate) subject_public_key_info: Span,
+    pub(crate) issuer_unique_id: Span,
+    pub(crate) subject_unique_id: Span,
+    pub(crate) extensions: Span,
+    pub(crate) signature_algorithm: Span,
+    pub(crate) signature_value: Span,
+}
+
+/// `struct cimaroly_request`.
+#[derive(Default)]
+#[repr(C)]
+pub(crate) struct Request {
+    pub(crate) certification_request_info: Span,
+    pub(crate) version: Span,
+    pub(crate) subject: Span,
+    pub(crate) subject_public_key_info: Span,
+    pub(crate) attributes: Span,
+    pub(crate) signature_algorithm: Span,
+    pub(crate) signature: Span,
+}
+
+/// `struct cimaroly_private_key`.
+#[derive(Default)]
+#[repr(C)]
+pub(crate) struct PrivateKey {
+    pub(crate) version: Span,
+    pub(crate) private_key_algorithm: Span,
+    pub(crate) private_key: Span,
+    pub(crate) skipped: Span,
+    pub(crate) public_key: Span,
+}
+
+/// Where an extension and its fields stand: an item of the buffer that [`crate::Reader::extensions`] fills.
+#[derive(Clone, Copy, Debug, Default)]
+#[repr(C)]
+pub struct ExtensionPlaces {
+    pub(crate) whole: Span,
+    pub(crate) extn_id: Span,
+    pub(crate) critical: Span,
+    pub(crate) extn_value: Span,
+}
+
+impl ExtensionPlaces {
+    /// Places for an array.
+    pub const EMPTY: ExtensionPlaces = ExtensionPlaces {
+        whole: Span { start: 0, end: 0 },
+        extn_id: Span { start: 0, end: 0 },
+        critical: Span { start: 0, end: 0 },
+        extn_value: Span { start: 0, end: 0 },
+    };
+}
+
+/// `enum cimaroly_status`.
+pub(crate) mod status {
+    pub(crate) const OK: u32 = 0;
+    pub(crate) const REFUSED: u32 = 1;
+    pub(crate) const OUT_OF_MEMORY: u32 = 2;
+    pub(crate) const BUFFER_TOO_SHORT: u32 = 3;
+    pub(crate) const TOO_LONG: u32 = 5;
+}
+
+mod c {
+    use super::{
+        Certificate, ExtensionPlaces, Memory, Place, PrivateKey, Request, Signed, Verdict,
+    };
+
+    extern "C" {
+        pub(super) fn cimaroly_check(
+            memory: *mut Memory,
+            kind: u32,
+            der: *const u8,
+            der_size: usize,
+            verdict: *mut Verdict,
+        ) -> u32;
+        pub(super) fn cimaroly_encode(
+            memory: *mut Memory,
+            kind: u32,
+            der: *const u8,
+            der_size: usize,
+            out: *mut u8,
+            out_size: usize,
+            size: *mut usize,
+        ) -> u32;
+        pub(super) fn cimaroly_places(
+            memory: *mut Memory,
+            kind: u32,
+            der: *const u8,
+            der_size: usize,
+            places: *mut Place,
+            room: usize,
+            count: *mut usize,
+        ) -> u32;
+        pub(super) fn cimaroly_signed_part(
+            memory: *mut Memory,
+            kind: u32,
+            der: *const u8,
+            der_size: usize,
+            part: *mut Signed,
+        ) -> u32;
+        pub(super) fn cimaroly_certificate_fields(
+            memory: *mut Memory,
+            der: *const u8,
+            der_size: usize,
+            fields: *mut Certificate,
+        ) -> u32;
+        pub(super) fn cimaroly_request_fields(
+            memory: *mut Memory,
+            der: *const u8,
+            der_size: usize,
+            fields: *mut Request,
+        ) -> u32;
+        pub(super) fn cimaroly_private_key_fields(
+            memory: *mut Memory,
+            der: *const u8,
+            der_size: usize,
+            fields: *mut PrivateKey,
+        ) -> u32;
+        pub(super) fn cimaroly_extensions(
+            memory: *mut Memory,
+            kind: u32,
+            der: *const u8,
+            der_size: usize,
+            extensions: *mut ExtensionPlaces,
+            room: usize,
+            count: *mut usize,
+        ) -> u32;
+        pub(super) fn cimaroly_report(
+            memory: *mut Memory,
+            kind: u32,
+            der: *const u8,
+            der_size: usize,
+            secrets: bool,
+            out: *mut u8,
+            out_size: usize,
+            size: *mut usize,
+        ) -> u32;
+    }
+}
+
+pub(crate) fn check(memory: &mut [Block], kind: u32, der: &[u8], told: &mut Verdict) -> u32 {
+    let mut memory = Memory::of(memory);
+    // SAFETY: the head of this module says why.
+    unsafe { c::cimaroly_check(&mut memory, kind, der.as_ptr(), der.len(), told) }
+}
+
+pub(crate) fn encode(
+    memory: &mut [Block],
+    kind: u32,
+    der: &[u8],
+    out: &mut [u8],
+    size: &mut usize,
+) -> u32 {
+    let mut memory = Memory::of(memory);
+    let (at, room) = (out.as_mut_ptr(), out.len());
+    // SAFETY: as above; `out` has room for `room` bytes.
+    unsafe { c::cimaroly_encode(&mut memory, kind, der.as_ptr(), der.len(), at, room, size) }
+}
+
+pub(crate) fn places(
+    memory: &mut [Block],
+    kind: u32,
+    der: &[u8],
+    out: &mut [Place],
+    count: &mut usize,
+) -> u32 {
+    let mut memory = Memory::of(memory);
+    let (at, room) = (out.as_mut_ptr(), out.len());
+    // SAFETY: as above; `out` has room for `room` places, of which any numbers are one.
+    unsafe { c::cimaroly_places(&mut memory, kind, der.as_ptr(), der.len(), at, room, count) }
+}
+
+pub(crate) fn signed_part(memory: &mut [Block], kind: u32, der: &[u8], told: &mut Signed) -> u32 {
+    let mut memory = Memory::of(memory);
+    // SAFETY: as above.
+    unsafe { c::cimaroly_signed_part(&mut memory, kind, der.as_ptr(), der.len(), told) }
+}
+
+pub(crate) fn certificate(memory: &mut [Block], der: &[u8], told: &mut Certificate) -> u32 {
+    let mut memory = Memory::of(memory);
+    // SAFETY: as above.
+    unsafe { c::cimaroly_certificate_fields(&mut memory, der.as_ptr(), der.len(), told) }
+}
+
+pub(crate) fn request(memory: &mut [Block], der: &[u8], told: &mut Request) -> u32 {
+    let mut memory = Memory::of(memory);
+    // SAFETY: as above.
+    unsafe { c::cimaroly_request_fields(&mut memory, der.as_ptr(), der.len(), told) }
+}
+
+pub(crate) fn private_key(memory: &mut [Block], der: &[u8], told: &mut PrivateKey) -> u32 {
+    let mut memory = Memory::of(memory);
+    // SAFETY: as above.
+    unsafe { c::cimaroly_private_key_fields(&mut memory, der.as_ptr(), der.len(), told) }
+}
+
+pub(crate) fn extensions(
+    memory: &mut [Block],
+    kind: u32,
+    der: &[u8],
+    out: &mut [ExtensionPlaces],
+    count: &mut usize,
+) -> u32 {
+    let mut memory = Memory::of(memory);
+    let (at, room) = (out.as_mut_ptr(), out.len());
+    // SAFETY: as above; `out` has room for `room` items, of which any numbers are one.
+    unsafe { c::cimaroly_extensions(&mut memory, kind, der.as_ptr(), der.len(), at, room, count) }
+}
+
+pub(crate) fn report(
+    memory: &mut [Block],
+    kind: u32,
+    der: &[u8],
+    secrets: bool,
+    out: &mut [u8],
+    size: &mut usize,
+) -> u32 {
+    let mut memory = Memory::of(memory);
+    let (at, room) = (out.as_mut_ptr(), out.len());
+    let der_size = der.len();
+    // SAFETY: as above; `out` has room for `room` bytes.
+    unsafe {
+        c::cimaroly_report(&mut memory, kind, der.as_ptr(), der_size, secrets, at, room, size)
+    }
+}
+
+/// So many blocks of the global allocator, or none where it refuses them.
+#[cfg(feature = "alloc")]
+pub(crate) fn blocks(count: usize) -> Option<alloc::vec::Vec<Block>> {
+    let mut blocks = alloc::vec::Vec::new();
+    blocks.try_reserve_exact(count).ok()?;
+    // SAFETY: there is room for so many, and a block needn't be initialized.
+    unsafe { blocks.set_len(count) };
+    Some(blocks)
+}

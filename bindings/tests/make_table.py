@@ -1,0 +1,605 @@
+#!/usr/bin/env python3
+"""Makes table.tsv: inputs, and what every binding must tell of them.
+
+usage: bindings/tests/make_table.py
+
+No answer comes from Cimaroly. OpenSSL says where elements stand (asn1parse), and what a certificate's names and times are; the
+package cryptography, which bytes are signed, and which extensions there are. By hand, from X.690 and the RFCs, stands below what
+each input is: which deviations it has and over which element, what its DER encoding is, and why and at which byte it is refused.
+
+The table needs to be made again only where a row is added. It wants openssl and cryptography 42 or later. README.md of this
+folder tells what the columns are.
+"""
+
+import datetime
+import functools
+import importlib.util
+import ipaddress
+import json
+import os
+import re
+import subprocess
+import sys
+
+from cryptography import x509
+from cryptography.hazmat.primitives import serialization
+from cryptography.hazmat.primitives.asymmetric import ed25519, rsa
+from cryptography.x509.oid import AuthorityInformationAccessOID, ExtendedKeyUsageOID, NameOID, ObjectIdentifier
+
+HERE = os.path.dirname(os.path.abspath(__file__))
+ROOT = os.path.dirname(os.path.dirname(HERE))
+TESTS = f"{ROOT}/tools/tests"
+DATA = f"{TESTS}/data"
+
+
+def module_at(path, name):
+    """The module of a file that stands elsewhere in the repository."""
+    spec = importlib.util.spec_from_file_location(name, path)
+    module = importlib.util.module_from_spec(spec)
+    spec.loader.exec_module(module)
+    return module
+
+
+sys.dont_write_bytecode = True
+make = module_at(f"{DATA}/make.py", "make")
+rows = module_at(f"{TESTS}/program_rows.py", "program_rows")
+
+COLUMNS = [
+    "name",
+    "kind",
+    "input",
+    "result",
+    "deviations",
+    "encoding",
+    "error",
+    "signed",
+    "fields",
+    "extensions",
+    "subject",
+    "not_before",
+    "not_after",
+    "values",
+]
+
+# What OpenSSL made, which is in DER.
+IN_DER = {
+    "certificate_rsa.pem": "certificate",
+    "certificate_pss.pem": "certificate",
+    "certificate_ec.pem": "certificate",
+    "certificate_ed25519.pem": "certificate",
+    "request_rsa.pem": "request",
+    "request_ec.pem": "request",
+    "private_key_rsa.pem": "private-key",
+    "private_key_ec.pem": "private-key",
+    "private_key_ed25519.pem": "private-key",
+    "public_key_rsa.pem": "public-key",
+    "public_key_ec.pem": "public-key",
+    "public_key_ed25519.pem": "public-key",
+    "rsa_private_key.pem": "rsa-private-key",
+    "rsa_public_key.pem": "rsa-public-key",
+    "ec_private_key.pem": "ec-private-key",
+    # and by hand
+    "set_of_two.pem": "certificate",
+    "hostile_names.pem": "certificate",
+    "hostile_others.pem": "certificate",
+    "name.hex": "name",
+    "extensions.hex": "extensions",
+    "algorithm.hex": "algorithm",
+}
+
+# Steps to an element: the number of a part, from 0, or into the content of an OCTET STRING.
+CONTENT = "content"
+# The fields of a certificate that has a version: its signature, and its first extension.
+SIGNATURE, EXTENSION = (0, 2), (0, 7, 0, 0)
+HASH_WITH_NULL = make.sequence(make.oid("2.16.840.1.101.3.4.2.1"), make.NULL)
+ORDERED = make.sequence(make.element(0x80, bytes(20)), make.element(0x82, b"\x05"))
+ALTERNATIVE = make.sequence(make.element(0x82, b"example.org"))
+
+# A file with deviations: as what it is read, the number of each deviation with the steps to the element that it stands over
+# (README's table says what each is), and the DER encoding of the value.
+DEVIATIONS = {
+    "deviation_1_rsa_parameters.pem": (
+        "certificate",
+        [(1, SIGNATURE), (1, (1,))],
+        make.certificate(signature=make.RSA, outer=make.RSA),
+    ),
+    "deviation_2_raw_algorithm.hex": (
+        "raw-algorithm",
+        [(2, ())],
+        make.sequence(make.oid("1.2.840.113549.2.9"), make.NULL),
+    ),
+    "deviation_3_hash_parameters.pem": (
+        "certificate",
+        [(3, (*it, *steps)) for it in (SIGNATURE, (1,)) for steps in ((1, 0, 0), (1, 1, 0, 1))],
+        make.certificate(signature=make.pss(HASH_WITH_NULL, b"\x20")),
+    ),
+    # (the salt's length of 2^64 - 1)
+    "deviation_4_salt.pem": (
+        "certificate",
+        [(4, (*SIGNATURE, 1)), (4, (1, 1))],
+        make.certificate(signature=make.pss(HASH_WITH_NULL, b"\x00" + b"\xff" * 8)),
+    ),
+    "deviation_5_version.pem": ("certificate", [(5, (0,))], make.certificate(version=b"")),
+    "deviation_6_extensions.pem": ("certificate", [(6, (0,))], make.certificate()),
+    "deviation_7_critical.pem": (
+        "certificate",
+        [(7, EXTENSION)],
+        make.certificate(extensions=[make.extension("2.5.29.19", make.sequence())]),
+    ),
+    "deviation_8_authority.pem": (
+        "certificate",
+        [(8, (*EXTENSION, 1, CONTENT))],
+        make.certificate(extensions=[make.extension("2.5.29.35", ORDERED)]),
+    ),
+    "deviation_9_general_name.pem": (
+        "certificate",
+        [(9, (*EXTENSION, 1, CONTENT, 0))],
+        make.certificate(extensions=[make.extension("2.5.29.17", ALTERNATIVE)]),
+    ),
+    "deviation_10_private_key.hex": (
+        "private-key",
+        [(10, ())],
+        make.sequence(make.element(2, b"\x00"), make.ED25519, make.element(4, make.element(4, bytes(range(32))))),
+    ),
+}
+
+# Over which elements the deviations of the program's rows stand, where a row has some, in the order of the rows.
+PLACES = [
+    [(2, ())],
+    [(2, ())],
+    [(1, ())],
+    [(3, (1, 0, 0)), (3, (1, 1, 0, 1))],
+    [(7, (0,))],
+    [(8, (0, 1, CONTENT))],
+    [(1, (0,))],
+    [(10, ())],
+    [(10, ())],
+    [(1, (1,))],
+    # (the signature inside is complete, the one outside isn't)
+    [(5, (0,)), (1, (1,))],
+    [(6, (0,)), (1, (1,))],
+]
+
+# What of the program's refused rows follows from the grammar: the error's number (docs/CALLING.md) and the byte.
+REASONS = {
+    "": (2, 0),
+    "300a06082a864886f70d02": (2, 0),
+    # the identifier of a hash function without its NULL, which is wanted here
+    "300b0609608648016503040201": (2, 13),
+    "3100": (4, 0),
+    "300000": (3, 2),
+    # behind the value of an extension
+    "300d300b0603551d13040430000500": (3, 13),
+    # a second element behind a private key
+    "3015020100300506032b657004030401aaa000810200bb": (3, 19),
+    # no attributes
+    "301d30110201003000300a300506032b6570030100300506032b6570030100": (2, 21),
+    "30800000": (5, 0),
+    # extensions in a certificate of version 1
+    f"305b3049{rows.SERIAL}a30d300b30090603551d1304023000{rows.SIGNED}": (15, 2),
+}
+
+# A certificate with all that may be left out, and another without.
+FULL = (
+    "3078306ca003020102020101300506032b65703000301e170d3139313031373137343132385a170d3232313031363137343132385a300d310b3009060355"
+    "040313026162300a300506032b65700301008102070082020780a316301430120603551d130101ff040830060101ff020105300506032b6570030100"
+)
+# (the fields of its signed part; what stands around them in a certificate of version 1)
+SHORT = "020101300506032b65703000301e170d3139313031373137343132385a170d3232313031363137343132385a3000300a300506032b6570030100"
+OUTER = "300506032b6570030100"
+
+# Further inputs in DER.
+FURTHER = [
+    ("full_certificate", "certificate", FULL),
+    ("version_1", "certificate", f"3046303a{SHORT}{OUTER}"),
+    (
+        "request_attribute",
+        "request",
+        "303230260201003000300a300506032b6570030100a013301106092a864886f70d010907310413027077" + OUTER,
+    ),
+    ("private_key_with_public_key", "private-key", "3013020101300506032b657004020400a103030100"),
+    ("empty_name", "name", "3000"),
+    ("empty_extensions", "extensions", "3000"),
+    ("critical_extension", "extensions", "301430120603551d130101ff040830060101ff020105"),
+    ("unknown_algorithm", "raw-algorithm", "300c06032a030404050102030405"),
+]
+
+# An encoding of a kind, and damages of it, each by itself: the byte that is changed, what stands there then, the error's number
+# (docs/CALLING.md), and the byte that it stands at: the first of the element, or of the primitive content, that can't be read,
+# the first that is left over, or the first of the structure whose fields don't go together.
+DAMAGES = [
+    (
+        "certificate",
+        FULL,
+        [
+            ("another_tag", 0, 0x31, 4, 0),
+            ("indefinite_length", 1, 0x80, 5, 0),
+            ("longer_than_the_input", 1, 0x79, 2, 0),
+            ("last_field_cut_short", 1, 0x77, 2, 119),
+            ("no_version", 8, 0x05, 12, 6),
+            ("version_2_with_extensions", 8, 0x01, 15, 2),
+            ("serial_number_of_another_tag", 9, 0x04, 4, 9),
+            ("unknown_signature_algorithm", 18, 0x7F, 13, 14),
+            ("arc_without_end", 18, 0xF0, 9, 16),
+            ("no_digit_in_a_time", 25, 0x78, 11, 25),
+            ("month_13", 28, 0x33, 11, 25),
+            ("time_without_z", 37, 0x59, 11, 25),
+            ("star_in_a_printable_string", 66, 0x2A, 10, 66),
+            ("nine_unused_bits", 79, 0x09, 8, 79),
+            ("truth_value_of_one", 101, 0x01, 7, 101),
+            ("path_length_below_0", 111, 0x80, 6, 111),
+        ],
+    ),
+    ("name", "300d310b3009060355040313026162", [("indefinite_attribute", 5, 0x80, 5, 4), ("padded_arc", 8, 0x80, 9, 8)]),
+    (
+        "rsa-private-key",
+        "301b020100020101020102020103020104020105020106020107020108",
+        [("number_of_another_tag", 5, 0x1F, 4, 5)],
+    ),
+    ("ec-private-key", "30180201010401aaa00a06082a8648ce3d030107a10403020004", [("version_2", 4, 0x02, 12, 0)]),
+    ("private-key", "300e020100300506032b657004020400", [("version_3", 4, 0x02, 12, 0), ("key_cut_short", 15, 0x01, 2, 14)]),
+]
+
+# What else is refused: the kind, the bytes, the error's number and its byte, where these follow from the grammar.
+REFUSED = [
+    # RFC 5280, 4.1.2.8
+    ("unique_identifier_in_version_1", "certificate", f"304a303e{SHORT}81020700{OUTER}", 14, 2),
+    ("no_bytes", "certificate", "", 2, 0),
+    ("a_tag_alone", "certificate", "30", None, None),
+    ("a_tag_of_two_bytes", "certificate", "1f0100", 4, 0),
+    # docs/DIFFERENCES.md: a length of paths above 255
+    ("path_length_300", "extensions", "301530130603551d130101ff040930070101ff0202012c", 6, 21),
+    # X.690, 10.1: not the fewest digits
+    ("a_needless_length_digit", "name", "308100", 5, 0),
+]
+
+# The fields of what has fields, by their names in cimaroly.h: the steps to the structure, and its fields in their order, each
+# with the tag that an optional one has.
+FIELDS = {
+    "certificate": {
+        (): ["tbs_certificate", "signature_algorithm", "signature_value"],
+        (0,): [
+            ("version", "cont [ 0 ]"),
+            "serial_number",
+            "signature",
+            "issuer",
+            "validity",
+            "subject",
+            "subject_public_key_info",
+            ("issuer_unique_id", "cont [ 1 ]"),
+            ("subject_unique_id", "cont [ 2 ]"),
+            ("extensions", "cont [ 3 ]"),
+        ],
+    },
+    "request": {
+        (): ["certification_request_info", "signature_algorithm", "signature"],
+        (0,): ["version", "subject", "subject_public_key_info", "attributes"],
+    },
+    "private-key": {
+        (): ["version", "private_key_algorithm", "private_key", ("skipped", "cont [ 0 ]"), ("public_key", "cont [ 1 ]")],
+    },
+}
+
+
+# A key that is the same each time, whose signatures are too.
+KEY = ed25519.Ed25519PrivateKey.from_private_bytes(bytes(range(32)))
+
+
+def name_with(*values):
+    return x509.Name([x509.NameAttribute(kind, value) for kind, value in values])
+
+
+def extensions_by_cryptography():
+    """Extensions of many kinds, with whether they are critical."""
+    issuer = name_with((NameOID.COUNTRY_NAME, "AT"), (NameOID.COMMON_NAME, "Root"))
+    names = [
+        x509.DNSName("example.org"),
+        x509.RFC822Name("someone@example.org"),
+        x509.UniformResourceIdentifier("https://example.org/"),
+        x509.IPAddress(ipaddress.ip_address("192.0.2.1")),
+        x509.IPAddress(ipaddress.ip_address("2001:db8::1")),
+        x509.DirectoryName(issuer),
+        x509.RegisteredID(ObjectIdentifier("1.2.3.4.5")),
+        x509.OtherName(ObjectIdentifier("1.3.6.1.4.1.311.20.2.3"), b"\x0c\x01a"),
+    ]
+    points = [x509.DistributionPoint([x509.UniformResourceIdentifier("http://example.org/crl")], None, None, None)]
+    responder = x509.UniformResourceIdentifier("http://example.org/ocsp")
+    access = x509.AccessDescription(AuthorityInformationAccessOID.OCSP, responder)
+    usage = [True, True, False, False, True, False, False, True, False]
+    net = ipaddress.ip_network("192.0.2.0/24")
+    policy = x509.PolicyInformation(ObjectIdentifier("2.5.29.32.0"), ["https://example.org/cps"])
+    return [
+        (x509.SubjectAlternativeName(names), False),
+        (x509.IssuerAlternativeName(names[:3]), False),
+        (x509.KeyUsage(*usage), True),
+        (x509.ExtendedKeyUsage([ExtendedKeyUsageOID.SERVER_AUTH, ObjectIdentifier("1.2.3.4294967296")]), False),
+        (x509.BasicConstraints(ca=True, path_length=3), True),
+        (x509.NameConstraints([x509.DNSName("example.org")], [x509.IPAddress(net)]), True),
+        (x509.CertificatePolicies([policy]), False),
+        (x509.PolicyConstraints(0, 3), True),
+        (x509.InhibitAnyPolicy(2), True),
+        (x509.CRLDistributionPoints(points), False),
+        (x509.FreshestCRL(points), False),
+        (x509.AuthorityInformationAccess([access]), False),
+        (x509.SubjectKeyIdentifier(bytes(20)), False),
+        (x509.AuthorityKeyIdentifier(bytes(range(20)), [x509.DirectoryName(issuer)], 2**100 + 1), False),
+        (x509.TLSFeature([x509.TLSFeatureType.status_request]), False),
+        (x509.OCSPNoCheck(), False),
+        (x509.UnrecognizedExtension(ObjectIdentifier("1.2.3.4.5.6"), b""), True),
+    ]
+
+
+def certificate_by_cryptography(first, last, extensions):
+    subject = name_with(
+        *((NameOID.COUNTRY_NAME, "DE"), (NameOID.ORGANIZATION_NAME, "Käse, Brot & Co."), (NameOID.COMMON_NAME, "example.org")),
+        *((NameOID.SERIAL_NUMBER, "0815"), (NameOID.DOMAIN_COMPONENT, "example"), (NameOID.EMAIL_ADDRESS, "a@example.org")),
+    )
+    builder = x509.CertificateBuilder(subject_name=subject, issuer_name=subject, public_key=KEY.public_key())
+    builder = builder.serial_number(2**158 + 3).not_valid_before(first).not_valid_after(last)
+    for value, is_critical in extensions:
+        builder = builder.add_extension(value, is_critical)
+    return builder.sign(KEY, None).public_bytes(serialization.Encoding.DER)
+
+
+def request_by_cryptography():
+    builder = x509.CertificateSigningRequestBuilder(name_with((NameOID.COMMON_NAME, "request")))
+    for value, is_critical in extensions_by_cryptography()[:5]:
+        builder = builder.add_extension(value, is_critical)
+    return builder.sign(KEY, None).public_bytes(serialization.Encoding.DER)
+
+
+def by_cryptography():
+    """What the package cryptography makes, the same each time: a name, a kind, and the bytes."""
+    first, last = datetime.datetime(1999, 12, 31, 23, 59, 59), datetime.datetime(2049, 12, 31)
+    late, never = datetime.datetime(2050, 1, 1), datetime.datetime(9999, 12, 31, 23, 59, 59)
+    numbers = rsa.RSAPublicNumbers(65537, 2**2047 + 1)
+    public = numbers.public_key()
+    return [
+        ("many_extensions", "certificate", certificate_by_cryptography(first, last, extensions_by_cryptography())),
+        ("generalized_times", "certificate", certificate_by_cryptography(late, never, [])),
+        ("request_with_extensions", "request", request_by_cryptography()),
+        (
+            "rsa_public_key_2048",
+            "public-key",
+            public.public_bytes(serialization.Encoding.DER, serialization.PublicFormat.SubjectPublicKeyInfo),
+        ),
+        (
+            "private_key_by_cryptography",
+            "private-key",
+            KEY.private_bytes(serialization.Encoding.DER, serialization.PrivateFormat.PKCS8, serialization.NoEncryption()),
+        ),
+    ]
+
+
+def openssl(*words, data):
+    """What OpenSSL prints."""
+    return subprocess.run(["openssl", *words], input=data, capture_output=True, check=True).stdout
+
+
+@functools.lru_cache(maxsize=None)
+def elements(der):
+    """Start, size of the header, end, depth and tag of each element."""
+    found = []
+    for line in openssl("asn1parse", "-inform", "DER", data=der).decode("utf-8", "replace").splitlines():
+        told = re.match(r" *(\d+):d=(\d+) +hl=(\d+) +l= *(\d+) +(?:cons|prim): +(.*)", line)
+        # (a line feed in a text begins a line that tells of none)
+        if told:
+            start, depth, header, length = map(int, told.groups()[:4])
+            found.append((start, header, start + header + length, depth, told.group(5).split(":")[0].strip()))
+    return found
+
+
+def parts_of(found, outer):
+    """The elements right inside of one."""
+    return [it for it in found if outer[0] < it[0] and it[2] <= outer[2] and it[3] == outer[3] + 1]
+
+
+def span_of(der, steps, start=0):
+    """Start and end of the element that steps lead to, from the first one."""
+    found = elements(der)
+    here = found[0]
+    for number, step in enumerate(steps):
+        if step == CONTENT:
+            inner = here[0] + here[1]
+            return span_of(der[inner : here[2]], steps[number + 1 :], start + inner)
+        here = parts_of(found, here)[step]
+    return start + here[0], start + here[2]
+
+
+def fields_of(der, kind):
+    """Start and end of each field that stands there, by its name."""
+    spans = {}
+    for steps, names in FIELDS.get(kind, {}).items():
+        found = elements(der)
+        here = found[0]
+        for step in steps:
+            here = parts_of(found, here)[step]
+        left = parts_of(found, here)
+        for it in names:
+            name, tag = it if isinstance(it, tuple) else (it, None)
+            if tag is None or (left and left[0][4] == tag):
+                spans[name] = (left[0][0], left[0][2])
+                del left[0]
+        assert not left, left
+    return spans
+
+
+def extensions_of(der, kind):
+    """Of each extension its identifier, and start and end of it and of its fields; of one that is left out 0 and 0."""
+    found = elements(der)
+    if kind == "certificate":
+        tagged = [it for it in parts_of(found, parts_of(found, found[0])[0]) if it[4] == "cont [ 3 ]"]
+        if not tagged:
+            return []
+        (here,) = parts_of(found, tagged[0])
+    else:
+        here = found[0]
+    told = []
+    for it in parts_of(found, here):
+        fields = parts_of(found, it)
+        critical = fields[1] if len(fields) == 3 else (0, 0, 0)
+        spans = [(part[0], part[2]) for part in (it, fields[0], critical, fields[-1])]
+        told.append((identifier(der[fields[0][0] + 2 : fields[0][2]]), spans))
+    return told
+
+
+def identifier(content):
+    """The arcs of an object identifier, with dots (X.690, 8.19)."""
+    arcs, arc = [], 0
+    for byte in content:
+        arc = arc * 128 + byte % 128
+        if byte < 128:
+            arcs.append(arc)
+            arc = 0
+    first = min(arcs[0] // 40, 2)
+    return ".".join(map(str, (first, arcs[0] - 40 * first, *arcs[1:])))
+
+
+def name_of(der, which):
+    """The relative names of a name, each a list of pairs: an attribute's long name by OpenSSL, and its value."""
+    options = "lname,sep_multiline,utf8,space_eq,esc_ctrl"
+    text = openssl("x509", "-inform", "DER", "-noout", f"-{which}", "-nameopt", options, data=der).decode()
+    sets = []
+    for line in filter(str.strip, text.splitlines()[1:]):
+        sets.append([it.split(" = ", 1) for it in re.split(r" \+ (?=[A-Za-z0-9.]+ = )", line.strip())])
+    return sets
+
+
+def told_by_openssl(der):
+    """Names, times and the serial number of a certificate that OpenSSL reads."""
+    text = openssl(
+        *("x509", "-inform", "DER", "-noout", "-startdate", "-enddate", "-dateopt", "iso_8601"),
+        *("-subject", "-nameopt", "esc_2253,esc_ctrl,esc_msb,utf8,sep_comma_plus_space,sname", "-serial"),
+        data=der,
+    ).decode()
+    said = dict(line.split("=", 1) for line in text.splitlines())
+    values = {"serialNumber": said["serial"].lower(), "subject": name_of(der, "subject"), "issuer": name_of(der, "issuer")}
+    return {
+        "subject": said["subject"],
+        "not_before": said["notBefore"].replace(" ", "T"),
+        "not_after": said["notAfter"].replace(" ", "T"),
+        "values": json.dumps(values, ensure_ascii=True, separators=(",", ":")),
+    }
+
+
+def same_by_cryptography(der, kind, row):
+    """Whether the package cryptography finds the same bytes signed, and the same extensions."""
+    if kind == "certificate":
+        read = x509.load_der_x509_certificate(der)
+        signed = read.tbs_certificate_bytes
+        known = [(it.oid.dotted_string, it.critical) for it in read.extensions]
+        mine = [(it, spans[2] != (0, 0) and der[spans[2][1] - 1] == 255) for it, spans in extensions_of(der, kind)]
+        assert known == mine, (known, mine)
+    else:
+        signed = x509.load_der_x509_csr(der).tbs_certrequest_bytes
+    start, end = map(int, row["signed"].split(".."))
+    assert der[start:end] == signed
+
+
+def written(spans):
+    return " ".join(f"{name}={start}..{end}" for name, (start, end) in spans.items())
+
+
+def row_of(name, kind, given, der, places, encoding):
+    """The row of an input that is read."""
+    row = dict.fromkeys(COLUMNS, "-") | {"name": name, "kind": kind, "input": given}
+    spans = sorted((span_of(der, steps), number) for number, steps in places)
+    row["result"] = "deviations" if places else "ok"
+    row["deviations"] = " ".join(f"{number}@{start}..{end}" for (start, end), number in spans) or "-"
+    row["encoding"] = "same" if encoding == der else encoding.hex()
+    assert (row["encoding"] == "same") == (not places), name
+    row["fields"] = written(fields_of(der, kind)) or "-"
+    if kind in ("certificate", "request"):
+        row["signed"] = "{}..{}".format(*span_of(der, (0,)))
+    if kind in ("certificate", "extensions"):
+        told = [f"{it}={','.join(f'{start}..{end}' for start, end in spans)}" for it, spans in extensions_of(der, kind)]
+        row["extensions"] = " ".join(told) or "none"
+    return row
+
+
+def refused_row(name, kind, given, number, at):
+    error = "-" if number is None else f"{number}@{at}"
+    return dict.fromkeys(COLUMNS, "-") | {"name": name, "kind": kind, "input": given, "result": "refused", "error": error}
+
+
+def bytes_of(name):
+    """The bytes of a file of tools/tests/data."""
+    with open(f"{DATA}/{name}", "rb") as file:
+        text = file.read().decode()
+    if name.endswith(".hex"):
+        return bytes.fromhex(text)
+    return b"".join(make.base64.b64decode(it) for it in re.findall(r"-----BEGIN [A-Z0-9 ]+-----\n([^-]+)-----END", text))
+
+
+def rows_of_files():
+    for name, kind in IN_DER.items():
+        der = bytes_of(name)
+        row = row_of(name.partition(".")[0], kind, name, der, [], der)
+        # (names that a terminal obeys are printed as other text, or aren't read)
+        is_hostile = name.startswith("hostile")
+        if kind == "certificate" and not is_hostile:
+            row |= told_by_openssl(der)
+        if kind in ("certificate", "request") and not is_hostile:
+            same_by_cryptography(der, kind, row)
+        if kind == "public-key":
+            again = serialization.load_der_public_key(der).public_bytes(
+                serialization.Encoding.DER, serialization.PublicFormat.SubjectPublicKeyInfo
+            )
+            assert again == der
+        yield row
+    for name, (kind, places, encoding) in DEVIATIONS.items():
+        yield row_of(name.partition(".")[0], kind, name, bytes_of(name), places, encoding)
+    # the time of month 13 is the content behind its header
+    month = span_of(bytes_of("refused_month_13.pem"), (0, 4, 0))[0] + 2
+    yield refused_row("refused_month_13", "certificate", "refused_month_13.pem", 11, month)
+
+
+def rows_of_the_program():
+    """The rows that the program x509_tool is tested with."""
+    left = list(PLACES)
+    for number, (kind, given, encoding, counts) in enumerate(rows.ACCEPTED):
+        der, told = bytes.fromhex(given), list(map(int, counts.split()))
+        places = left.pop(0) if any(told) else []
+        assert told == [sum(it == kind for it, _ in places) for kind in range(1, 11)], given
+        yield row_of(f"accepted_{number + 1}", kind, der.hex(), der, places, bytes.fromhex(encoding))
+    for number, (kind, given) in enumerate(rows.REFUSED):
+        digits = given.strip()
+        yield refused_row(f"refused_{number + 1}", kind, digits, *REASONS.get(digits, (None, None)))
+
+
+def rows_by_cryptography():
+    for name, kind, der in by_cryptography():
+        row = row_of(name, kind, der.hex(), der, [], der)
+        if kind == "certificate":
+            row |= told_by_openssl(der)
+        if kind in ("certificate", "request"):
+            same_by_cryptography(der, kind, row)
+        yield row
+
+
+def rows_by_hand():
+    for name, kind, digits in FURTHER:
+        der = bytes.fromhex(digits)
+        yield row_of(name, kind, digits, der, [], der)
+    for kind, digits, damages in DAMAGES:
+        for name, at, byte, number, place in damages:
+            damaged = bytearray.fromhex(digits)
+            damaged[at] = byte
+            yield refused_row(name, kind, damaged.hex(), number, place)
+    for name, kind, digits, number, place in REFUSED:
+        yield refused_row(name, kind, digits, number, place)
+
+
+def main():
+    table = [*rows_of_files(), *rows_of_the_program(), *rows_by_cryptography(), *rows_by_hand()]
+    names = [it["name"] for it in table]
+    assert len(set(names)) == len(names), "a name stands twice"
+    with open(f"{HERE}/table.tsv", "w", encoding="utf-8") as file:
+        for it in [dict(zip(COLUMNS, COLUMNS)), *table]:
+            assert not any("\t" in it[column] for column in COLUMNS), it["name"]
+            file.write("\t".join(it[column] for column in COLUMNS) + "\n")
+    print(f"{len(table)} rows")
+
+
+if __name__ == "__main__":
+    main()

@@ -1,0 +1,225 @@
+//! The calls for C and for WebAssembly, over memory that the caller lends: no other memory is ever taken.
+//! `bindings/c/cimaroly.h` documents them.
+#![tactic(auto)]
+
+ghost use Rattle.std.specs.Prelude.{◌≡◌, length};
+ghost use Rattle.picky_asn1_x509.specs.Certificates.{signature_fields, certificate, certificate_parts};
+ghost use Rattle.picky_asn1_x509.specs.ExtensionLists.{extensions as list_shape};
+ghost use Rattle.picky_asn1_x509.specs.Requests.{request, request_info, request_parts};
+ghost use Rattle.picky_asn1_x509.specs.TbsCertificates.{tbs_certificate};
+ghost use Rattle.x509_flat.specs.Checks.{TellsOf};
+ghost use Rattle.x509_flat.specs.Encodings.{EncodesOf, Untouched};
+ghost use Rattle.x509_flat.specs.Extensions.{ExtensionsTold};
+ghost use Rattle.x509_flat.specs.Fields.{CertificateTold, PrivateKeyTold, RequestTold};
+ghost use Rattle.x509_flat.specs.Places.{PlacesOf};
+ghost use Rattle.x509_flat.specs.SignedParts.{SignedTold};
+ghost use Rattle.x509_flat_report.specs.Reports.{Reported};
+ghost use Rattle.cimaroly_c.specs.Exports.{Answers, AnswersFor, Arena, IsKind};
+
+mod over;
+
+use lent_memory::{Lent, OneBlock};
+use x509_flat::certificate_fields::FlatCertificate;
+use x509_flat::check::Verdict;
+use x509_flat::extensions::FlatExtension;
+use x509_flat::kind::Kind;
+use x509_flat::places::FlatPlace;
+use x509_flat::private_key_fields::FlatPrivateKey;
+use x509_flat::request_fields::FlatRequest;
+use x509_flat::signed_part::FlatSigned;
+use x509_flat::status::Status;
+
+/// Whether the input encodes a value of the kind, and how it deviates from the value's DER encoding.
+#[unsafe(no_mangle)]
+pub extern "C" fn cimaroly_check(
+    memory: &mut Lent,
+    kind: u32,
+    der: &[u8],
+    verdict: &mut Verdict,
+) -> u32
+    ensures known { IsKind kind → AnswersFor kind result (λ k status. TellsOf Arena k der.now status verdict.new) }
+    ensures unknown { (IsKind kind → ⊥) → result ≡ 4 }
+{
+    let Some(known) = Kind::from_number(kind) else {
+        *verdict = Verdict::none();
+        return Status::UnknownKind.number();
+    };
+    let block = OneBlock::from_mut(memory);
+    let checked = over::check(&block, known, der);
+    block.give_back(memory);
+    *verdict = checked.verdict;
+    checked.status.number()
+}
+
+/// Writes the DER encoding of the value that the input encodes to the front of a buffer.
+#[unsafe(no_mangle)]
+pub extern "C" fn cimaroly_encode(
+    memory: &mut Lent,
+    kind: u32,
+    der: &[u8],
+    out: &mut [u8],
+    size: &mut usize,
+) -> u32
+    ensures known { IsKind kind → AnswersFor kind result (λ k status. EncodesOf Arena k der.now out.old out.new status size.new) }
+    ensures unknown { (IsKind kind → ⊥) → (result ≡ 4) × Untouched out.old out.new size.new }
+{
+    let Some(known) = Kind::from_number(kind) else {
+        *size = 0;
+        return Status::UnknownKind.number();
+    };
+    let block = OneBlock::from_mut(memory);
+    let sized = over::encode(&block, known, der, out);
+    block.give_back(memory);
+    *size = sized.size;
+    sized.status.number()
+}
+
+/// Writes where each deviation stands to the front of a buffer.
+#[unsafe(no_mangle)]
+pub extern "C" fn cimaroly_places(
+    memory: &mut Lent,
+    kind: u32,
+    der: &[u8],
+    places: &mut [FlatPlace],
+    count: &mut usize,
+) -> u32
+    ensures known { IsKind kind → AnswersFor kind result (λ k status. PlacesOf Arena k der.now places.old places.new status count.new) }
+    ensures unknown { (IsKind kind → ⊥) → (result ≡ 4) × Untouched places.old places.new count.new }
+{
+    let Some(known) = Kind::from_number(kind) else {
+        *count = 0;
+        return Status::UnknownKind.number();
+    };
+    let block = OneBlock::from_mut(memory);
+    let sized = over::places(&block, known, der, places);
+    block.give_back(memory);
+    *count = sized.size;
+    sized.status.number()
+}
+
+/// What the signature of a certificate, kind 1, or of a request, kind 2, covers.
+#[unsafe(no_mangle)]
+pub extern "C" fn cimaroly_signed_part(
+    memory: &mut Lent,
+    kind: u32,
+    der: &[u8],
+    part: &mut FlatSigned,
+) -> u32
+    ensures certificate { kind ≡ 1 → Answers result (λ status. SignedTold (certificate {A = Arena}) certificate_parts tbs_certificate signature_fields der.now status part.new) }
+    ensures request { kind ≡ 2 → Answers result (λ status. SignedTold (request {A = Arena}) request_parts request_info signature_fields der.now status part.new) }
+    ensures unknown { (kind ≡ 1 → ⊥) → (kind ≡ 2 → ⊥) → result ≡ 4 }
+{
+    if kind != 1 && kind != 2 {
+        *part = FlatSigned::none();
+        return Status::UnknownKind.number();
+    }
+    let block = OneBlock::from_mut(memory);
+    let answer = if kind == 1 {
+        over::certificate_signed_part(&block, der)
+    } else {
+        over::request_signed_part(&block, der)
+    };
+    block.give_back(memory);
+    *part = answer.signed;
+    answer.status.number()
+}
+
+/// Where the fields of a certificate stand.
+#[unsafe(no_mangle)]
+pub extern "C" fn cimaroly_certificate_fields(
+    memory: &mut Lent,
+    der: &[u8],
+    fields: &mut FlatCertificate,
+) -> u32
+    ensures { Answers result (λ status. CertificateTold Arena der.now status fields.new) }
+{
+    let block = OneBlock::from_mut(memory);
+    let answer = over::certificate_fields(&block, der);
+    block.give_back(memory);
+    *fields = answer.fields;
+    answer.status.number()
+}
+
+/// Where the fields of a request stand.
+#[unsafe(no_mangle)]
+pub extern "C" fn cimaroly_request_fields(
+    memory: &mut Lent,
+    der: &[u8],
+    fields: &mut FlatRequest,
+) -> u32
+    ensures { Answers result (λ status. RequestTold Arena der.now status fields.new) }
+{
+    let block = OneBlock::from_mut(memory);
+    let answer = over::request_fields(&block, der);
+    block.give_back(memory);
+    *fields = answer.fields;
+    answer.status.number()
+}
+
+/// Where the fields of a private key stand.
+#[unsafe(no_mangle)]
+pub extern "C" fn cimaroly_private_key_fields(
+    memory: &mut Lent,
+    der: &[u8],
+    fields: &mut FlatPrivateKey,
+) -> u32
+    ensures { Answers result (λ status. PrivateKeyTold Arena der.now status fields.new) }
+{
+    let block = OneBlock::from_mut(memory);
+    let answer = over::private_key_fields(&block, der);
+    block.give_back(memory);
+    *fields = answer.fields;
+    answer.status.number()
+}
+
+/// Writes where each extension of a certificate, kind 1, or of a list, kind 9, stands to the front of a buffer.
+#[unsafe(no_mangle)]
+pub extern "C" fn cimaroly_extensions(
+    memory: &mut Lent,
+    kind: u32,
+    der: &[u8],
+    extensions: &mut [FlatExtension],
+    count: &mut usize,
+) -> u32
+    ensures certificate { kind ≡ 1 → Answers result (λ status. ExtensionsTold (certificate {A = Arena}) (λ v. length v.tbs_certificate.extensions) der.now extensions.old extensions.new status count.new) }
+    ensures list { kind ≡ 9 → Answers result (λ status. ExtensionsTold (list_shape {A = Arena}) length der.now extensions.old extensions.new status count.new) }
+    ensures unknown { (kind ≡ 1 → ⊥) → (kind ≡ 9 → ⊥) → (result ≡ 4) × Untouched extensions.old extensions.new count.new }
+{
+    if kind != 1 && kind != 9 {
+        *count = 0;
+        return Status::UnknownKind.number();
+    }
+    let block = OneBlock::from_mut(memory);
+    let sized = if kind == 1 {
+        over::certificate_extensions(&block, der, extensions)
+    } else {
+        over::list_extensions(&block, der, extensions)
+    };
+    block.give_back(memory);
+    *count = sized.size;
+    sized.status.number()
+}
+
+/// Writes what stands in the input to the front of a buffer, as one JSON object.
+#[unsafe(no_mangle)]
+pub extern "C" fn cimaroly_report(
+    memory: &mut Lent,
+    kind: u32,
+    der: &[u8],
+    secrets: bool,
+    out: &mut [u8],
+    size: &mut usize,
+) -> u32
+    ensures known { IsKind kind → Answers result (λ status. Reported out.old out.new status size.new) }
+    ensures unknown { (IsKind kind → ⊥) → (result ≡ 4) × Untouched out.old out.new size.new }
+{
+    let Some(known) = Kind::from_number(kind) else {
+        *size = 0;
+        return Status::UnknownKind.number();
+    };
+    let block = OneBlock::from_mut(memory);
+    let sized = over::report(&block, known, der, secrets, out);
+    block.give_back(memory);
+    *size = sized.size;
+    sized.status.number()
+}

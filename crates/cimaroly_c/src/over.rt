@@ -1,0 +1,161 @@
+//! The calls over a block of memory, each in an arena of its own.
+
+ghost use Rattle.std.specs.Prelude.{◌≡◌, ◌+◌, ◌/◌, ◌≤◌, length};
+ghost use Rattle.picky_asn1_x509.specs.Certificates.{signature_fields, certificate, certificate_parts};
+ghost use Rattle.picky_asn1_x509.specs.ExtensionLists.{extensions};
+ghost use Rattle.picky_asn1_x509.specs.Requests.{request, request_info, request_parts};
+ghost use Rattle.picky_asn1_x509.specs.TbsCertificates.{tbs_certificate};
+ghost use Rattle.x509_flat.specs.Checks.{TellsOf};
+ghost use Rattle.x509_flat.specs.Encodings.{EncodesOf};
+ghost use Rattle.x509_flat.specs.Extensions.{ExtensionsTold};
+ghost use Rattle.x509_flat.specs.Fields.{CertificateTold, PrivateKeyTold, RequestTold};
+ghost use Rattle.x509_flat.specs.Places.{PlacesOf};
+ghost use Rattle.x509_flat.specs.SignedParts.{SignedTold};
+ghost use Rattle.x509_flat_report.specs.Reports.{Reported};
+ghost use Rattle.cimaroly_c.specs.Exports.{Arena};
+
+use bumpalo::Bump;
+use lent_memory::OneBlock;
+use x509_flat::certificate_fields::{
+    CertificateAnswer, certificate_fields as flat_certificate_fields,
+};
+use x509_flat::check::{Checked, check as flat_check};
+use x509_flat::encode::encode as flat_encode;
+use x509_flat::extensions::{FlatExtension, of_certificate, of_extensions};
+use x509_flat::kind::Kind;
+use x509_flat::places::{FlatPlace, places as flat_places};
+use x509_flat::private_key_fields::{
+    PrivateKeyAnswer, private_key_fields as flat_private_key_fields,
+};
+use x509_flat::request_fields::{RequestAnswer, request_fields as flat_request_fields};
+use x509_flat::signed_part::{self, SignedAnswer};
+use x509_flat::status::Sized;
+use x509_flat_report::report as flat_report;
+
+/// How many bytes an arena keeps of a chunk for itself, and how many it takes its parent to keep.
+const KEPT: usize = 48;
+
+const PARENT_KEPT: usize = 16;
+
+const PAGE: usize = 4096;
+
+/// The capacity with which an arena asks for as much of a block as it can: its chunks, with what is kept of them, come to
+/// powers of two up to a page, and else to whole pages.
+fn capacity(size: usize) -> usize {
+    let most = size.saturating_add(PARENT_KEPT);
+    let total = if most >= 2 * PAGE {
+        most / PAGE * PAGE
+    } else if most >= PAGE {
+        PAGE
+    } else {
+        most / 2
+    };
+    total.saturating_sub(KEPT + PARENT_KEPT)
+}
+
+/// An arena over a block: one chunk that is as large as fits.
+fn arena(block: &OneBlock) -> Bump<&OneBlock> {
+    match Bump::try_with_capacity(block, capacity(block.size())) {
+        Ok(arena) => arena,
+        Err(_) => Bump::new(block),
+    }
+}
+
+/// `check` of `x509_flat`.
+pub(crate) fn check(block: &OneBlock, kind: Kind, bytes: &[u8]) -> Checked
+    ensures told { TellsOf Arena kind bytes.now result.status result.verdict }
+    ensures bound { result.verdict.headers ≤ length bytes.now / 2 + 1 }
+{
+    let arena = arena(block);
+    flat_check(&arena, kind, bytes)
+}
+
+/// `encode` of `x509_flat`.
+pub(crate) fn encode(block: &OneBlock, kind: Kind, bytes: &[u8], out: &mut [u8]) -> Sized
+    ensures { EncodesOf Arena kind bytes.now out.old out.new result.status result.size }
+{
+    let arena = arena(block);
+    flat_encode(&arena, kind, bytes, out)
+}
+
+/// `places` of `x509_flat`.
+pub(crate) fn places(block: &OneBlock, kind: Kind, bytes: &[u8], out: &mut [FlatPlace]) -> Sized
+    ensures { PlacesOf Arena kind bytes.now out.old out.new result.status result.size }
+{
+    let arena = arena(block);
+    flat_places(&arena, kind, bytes, out)
+}
+
+/// The signed part of a certificate.
+pub(crate) fn certificate_signed_part(block: &OneBlock, bytes: &[u8]) -> SignedAnswer
+    ensures { SignedTold (certificate {A = Arena}) certificate_parts tbs_certificate signature_fields bytes.now result.status result.signed }
+{
+    let arena = arena(block);
+    signed_part::of_certificate(&arena, bytes)
+}
+
+/// The signed part of a request.
+pub(crate) fn request_signed_part(block: &OneBlock, bytes: &[u8]) -> SignedAnswer
+    ensures { SignedTold (request {A = Arena}) request_parts request_info signature_fields bytes.now result.status result.signed }
+{
+    let arena = arena(block);
+    signed_part::of_request(&arena, bytes)
+}
+
+/// The fields of a certificate.
+pub(crate) fn certificate_fields(block: &OneBlock, bytes: &[u8]) -> CertificateAnswer
+    ensures { CertificateTold Arena bytes.now result.status result.fields }
+{
+    let arena = arena(block);
+    flat_certificate_fields(&arena, bytes)
+}
+
+/// The fields of a request.
+pub(crate) fn request_fields(block: &OneBlock, bytes: &[u8]) -> RequestAnswer
+    ensures { RequestTold Arena bytes.now result.status result.fields }
+{
+    let arena = arena(block);
+    flat_request_fields(&arena, bytes)
+}
+
+/// The fields of a private key.
+pub(crate) fn private_key_fields(block: &OneBlock, bytes: &[u8]) -> PrivateKeyAnswer
+    ensures { PrivateKeyTold Arena bytes.now result.status result.fields }
+{
+    let arena = arena(block);
+    flat_private_key_fields(&arena, bytes)
+}
+
+/// The extensions of a certificate.
+pub(crate) fn certificate_extensions(
+    block: &OneBlock,
+    bytes: &[u8],
+    out: &mut [FlatExtension],
+) -> Sized
+    ensures { ExtensionsTold (certificate {A = Arena}) (λ v. length v.tbs_certificate.extensions) bytes.now out.old out.new result.status result.size }
+{
+    let arena = arena(block);
+    of_certificate(&arena, bytes, out)
+}
+
+/// The extensions of a list.
+pub(crate) fn list_extensions(block: &OneBlock, bytes: &[u8], out: &mut [FlatExtension]) -> Sized
+    ensures { ExtensionsTold (extensions {A = Arena}) length bytes.now out.old out.new result.status result.size }
+{
+    let arena = arena(block);
+    of_extensions(&arena, bytes, out)
+}
+
+/// `report` of `x509_flat_report`.
+pub(crate) fn report(
+    block: &OneBlock,
+    kind: Kind,
+    bytes: &[u8],
+    secrets: bool,
+    out: &mut [u8],
+) -> Sized
+    ensures { Reported out.old out.new result.status result.size }
+{
+    let arena = arena(block);
+    flat_report(&arena, kind, bytes, secrets, out)
+}

@@ -1,0 +1,3 @@
+-- Lemmas about what the calls answer.
+pub mod Counts
+pub mod SignedParts

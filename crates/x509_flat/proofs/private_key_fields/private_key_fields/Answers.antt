@@ -1,0 +1,23 @@
+use Rattle.std.proofs.Common.{sym}
+use Rattle.x509_flat.proofs.private_key_fields.private_key_fields.Goals as goal
+
+pub returns-in-Ok : goal.returns-in-Ok
+returns-in-Ok g c = record {
+  done = λ _. record {
+    value = c.in-Ok.value;
+    tally = c.in-Ok.ensures.read.0;
+    whole = c.in-Ok.ensures.read.1;
+    places = c.of-places.result;
+    stand = c.of-places.ensures c.in-Ok.ensures.read.0 c.in-Ok.ensures.read.1.spelled;
+    holds = c.of.ensures;
+  };
+  refused = λ e. absurd (cc);
+  others = record { short = λ e. cc; unknown = λ e. cc; long = λ e. cc };
+}
+
+pub returns-in-Err : goal.returns-in-Err
+returns-in-Err g c = record {
+  done = λ e. absurd (c.status_of.ensures.done e);
+  refused = λ e. c.in-Err.ensures.read (c.status_of.ensures.refused e);
+  others = c.status_of.ensures.others;
+}

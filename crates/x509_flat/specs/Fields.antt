@@ -1,0 +1,82 @@
+-- Where fields stand, as it is told.
+use Rattle.std.specs.Prelude.{◌≡◌, ℕ, List}
+use Rattle.x509_der.specs.Calls.{IsWhole}
+use Rattle.x509_der.specs.Shape.{Shape}
+use Rattle.x509_der.specs.Tally.{Tally}
+use Rattle.x509_keys.specs.PrivateKeyInfos.{private_key_info}
+use Rattle.picky_asn1_x509.specs.Certificates.{certificate}
+use Rattle.picky_asn1_x509.specs.Requests.{request}
+use Rattle.x509_fields.specs.Certificates.{CertificateIn}
+use Rattle.x509_fields.specs.Keys.{PrivateKeyIn}
+use Rattle.x509_fields.specs.Requests.{RequestIn}
+use Rattle.x509_fields.specs.declared.certificate.CertificateFields.{CertificateFields}
+use Rattle.x509_fields.specs.declared.private_key.PrivateKeyInfoFields.{PrivateKeyInfoFields}
+use Rattle.x509_fields.specs.declared.request.CertificationRequestFields.{CertificationRequestFields}
+use Rattle.x509_flat.specs.Spans.{flat_span, flat_span_if}
+use Rattle.x509_flat.specs.Statuses.{OnlyReads}
+use Rattle.x509_flat.specs.declared.certificate_fields.FlatCertificate.{FlatCertificate}
+use Rattle.x509_flat.specs.declared.private_key_fields.FlatPrivateKey.{FlatPrivateKey}
+use Rattle.x509_flat.specs.declared.request_fields.FlatRequest.{FlatRequest}
+use Rattle.x509_flat.specs.declared.status.Status.{Status}
+use Rattle.x509_flat.specs.declared.status.Status.TheVariants as answer
+
+abbrev pub flat_certificate : CertificateFields → FlatCertificate
+flat_certificate at = record {
+  tbs_certificate = flat_span at.tbs_certificate;
+  version = flat_span_if at.fields.version;
+  serial_number = flat_span at.fields.serial_number;
+  signature = flat_span at.fields.signature;
+  issuer = flat_span at.fields.issuer;
+  validity = flat_span at.fields.validity;
+  subject = flat_span at.fields.subject;
+  subject_public_key_info = flat_span at.fields.subject_public_key_info;
+  issuer_unique_id = flat_span_if at.fields.issuer_unique_id;
+  subject_unique_id = flat_span_if at.fields.subject_unique_id;
+  extensions = flat_span_if at.fields.extensions;
+  signature_algorithm = flat_span at.signature_algorithm;
+  signature_value = flat_span at.signature_value;
+}
+
+abbrev pub flat_request : CertificationRequestFields → FlatRequest
+flat_request at = record {
+  certification_request_info = flat_span at.certification_request_info;
+  version = flat_span at.fields.version;
+  subject = flat_span at.fields.subject;
+  subject_public_key_info = flat_span at.fields.subject_public_key_info;
+  attributes = flat_span at.fields.attributes;
+  signature_algorithm = flat_span at.signature_algorithm;
+  signature = flat_span at.signature;
+}
+
+abbrev pub flat_private_key : PrivateKeyInfoFields → FlatPrivateKey
+flat_private_key at = record {
+  version = flat_span at.version;
+  private_key_algorithm = flat_span at.private_key_algorithm;
+  private_key = flat_span at.private_key;
+  skipped = flat_span_if at.skipped;
+  public_key = flat_span_if at.public_key;
+}
+
+-- a value that the bytes encode, whose fields stand at places of which a fact holds
+pub record Fielded {V Places : Type 0} (s : Shape V) (bytes : List ℕ) (StandIn : V → Places → List ℕ → Tally → Type 0) (fact : Places → Type 0) : Type 0 where
+  pub value : V
+  pub tally : Tally
+  pub whole : IsWhole s bytes value tally
+  pub places : Places
+  pub stand : StandIn value places bytes tally
+  pub holds : fact places
+
+-- what a status says of telling where fields stand
+pub record FieldsTold {V Places : Type 0} (s : Shape V) (bytes : List ℕ) (StandIn : V → Places → List ℕ → Tally → Type 0) (status : Status) (fact : Places → Type 0) : Type 0 where
+  pub done : status ≡ answer.Done → Fielded s bytes StandIn fact
+  pub refused : status ≡ answer.Refused → (v : V) (y : Tally) → s.spelled v bytes y → ⊥
+  pub others : OnlyReads status
+
+abbrev pub CertificateTold : (A : Type 0) → List ℕ → Status → FlatCertificate → Type 0
+CertificateTold A bytes status fields = FieldsTold (certificate {A = A}) bytes CertificateIn status (λ at. fields ≡ flat_certificate at)
+
+abbrev pub RequestTold : (A : Type 0) → List ℕ → Status → FlatRequest → Type 0
+RequestTold A bytes status fields = FieldsTold (request {A = A}) bytes RequestIn status (λ at. fields ≡ flat_request at)
+
+abbrev pub PrivateKeyTold : (A : Type 0) → List ℕ → Status → FlatPrivateKey → Type 0
+PrivateKeyTold A bytes status fields = FieldsTold (private_key_info {A = A}) bytes PrivateKeyIn status (λ at. fields ≡ flat_private_key at)

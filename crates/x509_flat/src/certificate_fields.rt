@@ -1,0 +1,114 @@
+//! Where the fields of a certificate stand.
+
+ghost use Rattle.std.specs.Prelude.{◌≡◌};
+ghost use Rattle.x509_flat.specs.Fields.{flat_certificate, CertificateTold};
+ghost use Rattle.x509_flat.specs.Statuses.{IsStatusOf};
+
+use crate::span::FlatSpan;
+use crate::status::{Status, status_of};
+use picky_asn1_x509::{Certificate, from_bytes};
+use std::alloc::Allocator;
+use x509_fields::CertificateFields;
+
+/// Where the fields of a certificate stand, each with its tag and its length (RFC 5280, 4.1).
+#[repr(C)]
+#[derive(Clone, Copy, Debug, PartialEq, Eq)]
+pub struct FlatCertificate {
+    /// `tbsCertificate TBSCertificate`.
+    pub tbs_certificate: FlatSpan,
+    /// `version [0] EXPLICIT Version DEFAULT v1`.
+    pub version: FlatSpan,
+    /// `serialNumber CertificateSerialNumber`.
+    pub serial_number: FlatSpan,
+    /// `signature AlgorithmIdentifier`.
+    pub signature: FlatSpan,
+    /// `issuer Name`.
+    pub issuer: FlatSpan,
+    /// `validity Validity`.
+    pub validity: FlatSpan,
+    /// `subject Name`.
+    pub subject: FlatSpan,
+    /// `subjectPublicKeyInfo SubjectPublicKeyInfo`.
+    pub subject_public_key_info: FlatSpan,
+    /// `issuerUniqueID [1] IMPLICIT UniqueIdentifier OPTIONAL`.
+    pub issuer_unique_id: FlatSpan,
+    /// `subjectUniqueID [2] IMPLICIT UniqueIdentifier OPTIONAL`.
+    pub subject_unique_id: FlatSpan,
+    /// `extensions [3] EXPLICIT Extensions OPTIONAL`.
+    pub extensions: FlatSpan,
+    /// `signatureAlgorithm AlgorithmIdentifier`.
+    pub signature_algorithm: FlatSpan,
+    /// `signatureValue BIT STRING`.
+    pub signature_value: FlatSpan,
+}
+
+impl FlatCertificate {
+    /// The same places.
+    fn of(places: CertificateFields) -> Self
+        ensures { result ≡ flat_certificate places }
+    {
+        FlatCertificate {
+            tbs_certificate: FlatSpan::of(places.tbs_certificate),
+            version: FlatSpan::of_optional(places.fields.version),
+            serial_number: FlatSpan::of(places.fields.serial_number),
+            signature: FlatSpan::of(places.fields.signature),
+            issuer: FlatSpan::of(places.fields.issuer),
+            validity: FlatSpan::of(places.fields.validity),
+            subject: FlatSpan::of(places.fields.subject),
+            subject_public_key_info: FlatSpan::of(places.fields.subject_public_key_info),
+            issuer_unique_id: FlatSpan::of_optional(places.fields.issuer_unique_id),
+            subject_unique_id: FlatSpan::of_optional(places.fields.subject_unique_id),
+            extensions: FlatSpan::of_optional(places.fields.extensions),
+            signature_algorithm: FlatSpan::of(places.signature_algorithm),
+            signature_value: FlatSpan::of(places.signature_value),
+        }
+    }
+
+    /// All zeros.
+    fn none() -> Self {
+        FlatCertificate {
+            tbs_certificate: FlatSpan { start: 0, end: 0 },
+            version: FlatSpan { start: 0, end: 0 },
+            serial_number: FlatSpan { start: 0, end: 0 },
+            signature: FlatSpan { start: 0, end: 0 },
+            issuer: FlatSpan { start: 0, end: 0 },
+            validity: FlatSpan { start: 0, end: 0 },
+            subject: FlatSpan { start: 0, end: 0 },
+            subject_public_key_info: FlatSpan { start: 0, end: 0 },
+            issuer_unique_id: FlatSpan { start: 0, end: 0 },
+            subject_unique_id: FlatSpan { start: 0, end: 0 },
+            extensions: FlatSpan { start: 0, end: 0 },
+            signature_algorithm: FlatSpan { start: 0, end: 0 },
+            signature_value: FlatSpan { start: 0, end: 0 },
+        }
+    }
+}
+
+/// The fields of a certificate by their status.
+#[derive(Clone, Copy, Debug, PartialEq, Eq)]
+pub struct CertificateAnswer {
+    /// The status.
+    pub status: Status,
+    /// The fields: all zeros where there are none.
+    pub fields: FlatCertificate,
+}
+
+/// Where the fields of a certificate stand.
+pub fn certificate_fields<A: Allocator + Copy>(alloc: A, bytes: &[u8]) -> CertificateAnswer
+    ensures { CertificateTold A bytes.now result.status result.fields }
+{
+    match from_bytes::<Certificate<A>, A>(alloc, bytes) {
+        Ok(value) => {
+            let places = CertificateFields::of(&value, bytes);
+            drop(value);
+            CertificateAnswer {
+                status: Status::Done,
+                fields: FlatCertificate::of(places),
+            }
+        }
+        Err(error) => CertificateAnswer {
+            status: status_of(error),
+            fields: FlatCertificate::none(),
+        },
+    }
+}

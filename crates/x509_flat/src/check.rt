@@ -1,0 +1,131 @@
+//! Whether bytes encode a value.
+
+ghost use Rattle.std.specs.Prelude.{◌≡◌, ◌+◌, ◌/◌, ◌≤◌, ℕ, length};
+ghost use Rattle.picky_asn1_x509.specs.Tally.{Tally};
+ghost use Rattle.x509_flat.specs.Statuses.{IsStatusOf};
+ghost use Rattle.x509_flat.specs.Checks.{IsRefusalOf, Tells, TellsOf};
+
+use crate::kind::Kind;
+use crate::status::{Status, status_of};
+use picky_asn1_x509::{
+    AlgorithmIdentifier, Certificate, CertificationRequest, ECPrivateKey, Extensions, FromDer,
+    Name, PrivateKeyInfo, RawAlgorithmIdentifier, ReadError, Refused, RsaPrivateKey, RsaPublicKey,
+    SubjectPublicKeyInfo, read_explained, read_metered,
+};
+use std::alloc::Allocator;
+
+/// What a check finds.
+#[repr(C)]
+#[derive(Clone, Copy, Debug, PartialEq, Eq)]
+pub struct Verdict {
+    /// How many deviations of each kind stand in the bytes, in the order of the kinds.
+    pub counts: [usize; 10],
+    /// How many headers were decoded, also where the bytes are refused.
+    pub headers: usize,
+    /// The number of the error, from 1 to 15; 0 where there is none.
+    pub error: usize,
+    /// The byte that the error stands at.
+    pub at: usize,
+}
+
+impl Verdict {
+    /// All zeros.
+    pub fn none() -> Self {
+        Verdict {
+            counts: [0; 10],
+            headers: 0,
+            error: 0,
+            at: 0,
+        }
+    }
+}
+
+/// A verdict by its status.
+#[derive(Clone, Copy, Debug, PartialEq, Eq)]
+pub struct Checked {
+    /// The status.
+    pub status: Status,
+    /// The verdict.
+    pub verdict: Verdict,
+}
+
+/// The verdict on bytes that were refused.
+fn refused_by(refused: Refused, headers: usize) -> Checked
+    ensures status { IsStatusOf refused.error result.status }
+    ensures verdict { IsRefusalOf refused headers result.verdict }
+{
+    Checked {
+        status: status_of(refused.error),
+        verdict: Verdict {
+            counts: [0; 10],
+            headers,
+            error: refused.error.number(),
+            at: refused.at,
+        },
+    }
+}
+
+/// Why and where bytes are refused that encode no value of a type.
+fn explain_as<T: FromDer<A>, A: Allocator + Copy>(alloc: A, bytes: &[u8], headers: usize) -> Checked
+    requires none { (v : T) (y : Tally) → T.shape.spelled v bytes.now y → ⊥ }
+    requires headers { (n : ℕ) → T.shape.min_headers bytes.now n → n ≤ headers }
+    ensures told { Tells T.shape bytes.now result.status result.verdict }
+    ensures headers { result.verdict.headers ≡ headers }
+{
+    match read_explained::<T, A>(alloc, bytes) {
+        Ok((value, _)) => {
+            drop(value);
+            let error = ReadError::OutOfMemory;
+            refused_by(Refused { error, at: 0 }, headers)
+        }
+        Err(refused) => refused_by(refused, headers),
+    }
+}
+
+/// Whether the bytes encode a value of a type.
+fn check_as<T: FromDer<A>, A: Allocator + Copy>(alloc: A, bytes: &[u8]) -> Checked
+    ensures told { Tells T.shape bytes.now result.status result.verdict }
+    ensures bound { result.verdict.headers ≤ length bytes.now / 2 + 1 }
+{
+    let (outcome, headers) = read_metered::<T, A>(alloc, bytes);
+    match outcome {
+        Ok((value, deviations)) => {
+            drop(value);
+            Checked {
+                status: Status::Done,
+                verdict: Verdict {
+                    counts: deviations.array(),
+                    headers,
+                    error: 0,
+                    at: 0,
+                },
+            }
+        }
+        Err(ReadError::OutOfMemory) => {
+            let error = ReadError::OutOfMemory;
+            refused_by(Refused { error, at: 0 }, headers)
+        }
+        Err(_) => explain_as::<T, A>(alloc, bytes, headers),
+    }
+}
+
+/// Whether the bytes encode a value of a type, and how they deviate from its DER encoding; or why and where they are
+/// refused.
+pub fn check<A: Allocator + Copy>(alloc: A, kind: Kind, bytes: &[u8]) -> Checked
+    ensures told { TellsOf A kind bytes.now result.status result.verdict }
+    ensures bound { result.verdict.headers ≤ length bytes.now / 2 + 1 }
+{
+    match kind {
+        Kind::Certificate => check_as::<Certificate<A>, A>(alloc, bytes),
+        Kind::Request => check_as::<CertificationRequest<A>, A>(alloc, bytes),
+        Kind::PrivateKey => check_as::<PrivateKeyInfo<A>, A>(alloc, bytes),
+        Kind::PublicKey => check_as::<SubjectPublicKeyInfo<A>, A>(alloc, bytes),
+        Kind::RsaPrivateKey => check_as::<RsaPrivateKey<A>, A>(alloc, bytes),
+        Kind::RsaPublicKey => check_as::<RsaPublicKey<A>, A>(alloc, bytes),
+        Kind::EcPrivateKey => check_as::<ECPrivateKey<A>, A>(alloc, bytes),
+        Kind::Name => check_as::<Name<A>, A>(alloc, bytes),
+        Kind::Extensions => check_as::<Extensions<A>, A>(alloc, bytes),
+        Kind::Algorithm => check_as::<AlgorithmIdentifier<A>, A>(alloc, bytes),
+        Kind::RawAlgorithm => check_as::<RawAlgorithmIdentifier<A>, A>(alloc, bytes),
+    }
+}

@@ -1,0 +1,54 @@
+//! The types that are served, by number.
+
+ghost use Rattle.std.specs.Prelude.{◌≡◌, IfSome, IfNone};
+ghost use Rattle.x509_flat.specs.Numbers.{kind_number};
+
+/// A type that bytes are read as.
+#[derive(Clone, Copy, Debug, PartialEq, Eq)]
+pub enum Kind {
+    /// `Certificate` (RFC 5280, 4.1).
+    Certificate,
+    /// `CertificationRequest` (RFC 2986, 4).
+    Request,
+    /// `PrivateKeyInfo`, also called `OneAsymmetricKey` (RFC 5958, 2).
+    PrivateKey,
+    /// `SubjectPublicKeyInfo` (RFC 5280, 4.1.2.7).
+    PublicKey,
+    /// `RSAPrivateKey` (RFC 8017, A.1.2).
+    RsaPrivateKey,
+    /// `RSAPublicKey` (RFC 8017, A.1.1).
+    RsaPublicKey,
+    /// `ECPrivateKey` (RFC 5915, 3).
+    EcPrivateKey,
+    /// `Name` (RFC 5280, 4.1.2.4).
+    Name,
+    /// `Extensions` (RFC 5280, 4.1).
+    Extensions,
+    /// `AlgorithmIdentifier` (RFC 5280, 4.1.1.2), of an algorithm that is known.
+    Algorithm,
+    /// `AlgorithmIdentifier` with any parameters.
+    RawAlgorithm,
+}
+
+impl Kind {
+    /// The type of a number, 1 to 11 in the order above.
+    pub fn from_number(number: u32) -> Option<Kind>
+        ensures some { IfSome result (λ kind. number ≡ kind_number kind) }
+        ensures none { IfNone result ((kind : Kind) → number ≡ kind_number kind → ⊥) }
+    {
+        match number {
+            1 => Some(Kind::Certificate),
+            2 => Some(Kind::Request),
+            3 => Some(Kind::PrivateKey),
+            4 => Some(Kind::PublicKey),
+            5 => Some(Kind::RsaPrivateKey),
+            6 => Some(Kind::RsaPublicKey),
+            7 => Some(Kind::EcPrivateKey),
+            8 => Some(Kind::Name),
+            9 => Some(Kind::Extensions),
+            10 => Some(Kind::Algorithm),
+            11 => Some(Kind::RawAlgorithm),
+            _ => None,
+        }
+    }
+}

@@ -1,0 +1,82 @@
+//! Where the fields of a private key stand.
+
+ghost use Rattle.std.specs.Prelude.{◌≡◌};
+ghost use Rattle.x509_flat.specs.Fields.{flat_private_key, PrivateKeyTold};
+ghost use Rattle.x509_flat.specs.Statuses.{IsStatusOf};
+
+use crate::span::FlatSpan;
+use crate::status::{Status, status_of};
+use picky_asn1_x509::{PrivateKeyInfo, from_bytes};
+use std::alloc::Allocator;
+use x509_fields::PrivateKeyInfoFields;
+
+/// Where the fields of a private key stand, each with its tag and its length (RFC 5958, 2).
+#[repr(C)]
+#[derive(Clone, Copy, Debug, PartialEq, Eq)]
+pub struct FlatPrivateKey {
+    /// `version INTEGER`.
+    pub version: FlatSpan,
+    /// `privateKeyAlgorithm AlgorithmIdentifier`.
+    pub private_key_algorithm: FlatSpan,
+    /// `privateKey OCTET STRING`.
+    pub private_key: FlatSpan,
+    /// One element that is not understood, such as `attributes [0]`.
+    pub skipped: FlatSpan,
+    /// `publicKey [1] BIT STRING OPTIONAL`.
+    pub public_key: FlatSpan,
+}
+
+impl FlatPrivateKey {
+    /// The same places.
+    fn of(places: PrivateKeyInfoFields) -> Self
+        ensures { result ≡ flat_private_key places }
+    {
+        FlatPrivateKey {
+            version: FlatSpan::of(places.version),
+            private_key_algorithm: FlatSpan::of(places.private_key_algorithm),
+            private_key: FlatSpan::of(places.private_key),
+            skipped: FlatSpan::of_optional(places.skipped),
+            public_key: FlatSpan::of_optional(places.public_key),
+        }
+    }
+
+    /// All zeros.
+    fn none() -> Self {
+        FlatPrivateKey {
+            version: FlatSpan { start: 0, end: 0 },
+            private_key_algorithm: FlatSpan { start: 0, end: 0 },
+            private_key: FlatSpan { start: 0, end: 0 },
+            skipped: FlatSpan { start: 0, end: 0 },
+            public_key: FlatSpan { start: 0, end: 0 },
+        }
+    }
+}
+
+/// The fields of a private key by their status.
+#[derive(Clone, Copy, Debug, PartialEq, Eq)]
+pub struct PrivateKeyAnswer {
+    /// The status.
+    pub status: Status,
+    /// The fields: all zeros where there are none.
+    pub fields: FlatPrivateKey,
+}
+
+/// Where the fields of a private key stand.
+pub fn private_key_fields<A: Allocator + Copy>(alloc: A, bytes: &[u8]) -> PrivateKeyAnswer
+    ensures { PrivateKeyTold A bytes.now result.status result.fields }
+{
+    match from_bytes::<PrivateKeyInfo<A>, A>(alloc, bytes) {
+        Ok(value) => {
+            let places = PrivateKeyInfoFields::of(&value, bytes);
+            drop(value);
+            PrivateKeyAnswer {
+                status: Status::Done,
+                fields: FlatPrivateKey::of(places),
+            }
+        }
+        Err(error) => PrivateKeyAnswer {
+            status: status_of(error),
+            fields: FlatPrivateKey::none(),
+        },
+    }
+}

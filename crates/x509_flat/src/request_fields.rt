@@ -1,0 +1,90 @@
+//! Where the fields of a request stand.
+
+ghost use Rattle.std.specs.Prelude.{◌≡◌};
+ghost use Rattle.x509_flat.specs.Fields.{flat_request, RequestTold};
+ghost use Rattle.x509_flat.specs.Statuses.{IsStatusOf};
+
+use crate::span::FlatSpan;
+use crate::status::{Status, status_of};
+use picky_asn1_x509::{CertificationRequest, from_bytes};
+use std::alloc::Allocator;
+use x509_fields::CertificationRequestFields;
+
+/// Where the fields of a request stand, each with its tag and its length (RFC 2986, 4).
+#[repr(C)]
+#[derive(Clone, Copy, Debug, PartialEq, Eq)]
+pub struct FlatRequest {
+    /// `certificationRequestInfo CertificationRequestInfo`.
+    pub certification_request_info: FlatSpan,
+    /// `version INTEGER`.
+    pub version: FlatSpan,
+    /// `subject Name`.
+    pub subject: FlatSpan,
+    /// `subjectPKInfo SubjectPublicKeyInfo`.
+    pub subject_public_key_info: FlatSpan,
+    /// `attributes [0] IMPLICIT Attributes`.
+    pub attributes: FlatSpan,
+    /// `signatureAlgorithm AlgorithmIdentifier`.
+    pub signature_algorithm: FlatSpan,
+    /// `signature BIT STRING`.
+    pub signature: FlatSpan,
+}
+
+impl FlatRequest {
+    /// The same places.
+    fn of(places: CertificationRequestFields) -> Self
+        ensures { result ≡ flat_request places }
+    {
+        FlatRequest {
+            certification_request_info: FlatSpan::of(places.certification_request_info),
+            version: FlatSpan::of(places.fields.version),
+            subject: FlatSpan::of(places.fields.subject),
+            subject_public_key_info: FlatSpan::of(places.fields.subject_public_key_info),
+            attributes: FlatSpan::of(places.fields.attributes),
+            signature_algorithm: FlatSpan::of(places.signature_algorithm),
+            signature: FlatSpan::of(places.signature),
+        }
+    }
+
+    /// All zeros.
+    fn none() -> Self {
+        FlatRequest {
+            certification_request_info: FlatSpan { start: 0, end: 0 },
+            version: FlatSpan { start: 0, end: 0 },
+            subject: FlatSpan { start: 0, end: 0 },
+            subject_public_key_info: FlatSpan { start: 0, end: 0 },
+            attributes: FlatSpan { start: 0, end: 0 },
+            signature_algorithm: FlatSpan { start: 0, end: 0 },
+            signature: FlatSpan { start: 0, end: 0 },
+        }
+    }
+}
+
+/// The fields of a request by their status.
+#[derive(Clone, Copy, Debug, PartialEq, Eq)]
+pub struct RequestAnswer {
+    /// The status.
+    pub status: Status,
+    /// The fields: all zeros where there are none.
+    pub fields: FlatRequest,
+}
+
+/// Where the fields of a request stand.
+pub fn request_fields<A: Allocator + Copy>(alloc: A, bytes: &[u8]) -> RequestAnswer
+    ensures { RequestTold A bytes.now result.status result.fields }
+{
+    match from_bytes::<CertificationRequest<A>, A>(alloc, bytes) {
+        Ok(value) => {
+            let places = CertificationRequestFields::of(&value, bytes);
+            drop(value);
+            RequestAnswer {
+                status: Status::Done,
+                fields: FlatRequest::of(places),
+            }
+        }
+        Err(error) => RequestAnswer {
+            status: status_of(error),
+            fields: FlatRequest::none(),
+        },
+    }
+}

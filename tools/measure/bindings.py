@@ -1,0 +1,93 @@
+#!/usr/bin/env python3
+"""Measures the calls of bindings/ from C and Python, beside OpenSSL and the package cryptography, all in one run.
+
+usage: tools/measure/bindings.py [COUNT]
+
+Over each of three certificates of tools/tests/data every call is done COUNT times (20,000 where none is given; slower ones a quarter
+of that, and from Python a tenth), in five rounds, of which the fastest counts. It prints a Markdown table of microseconds of a
+processor. It wants gcc, OpenSSL's headers (Debian: libssl-dev) and cryptography. The library is that of dist/, or of the folder that
+CIMAROLY_LIB_DIR names.
+"""
+
+import os
+import subprocess
+import sys
+import tempfile
+import time
+
+ROOT = os.path.dirname(os.path.dirname(os.path.dirname(os.path.abspath(__file__))))
+DATA = f"{ROOT}/tools/tests/data"
+LIBRARY = os.environ.get("CIMAROLY_LIB_DIR") or f"{ROOT}/dist"
+CERTIFICATES = ("certificate_rsa", "certificate_ec", "certificate_ed25519")
+ROUNDS = 5
+
+sys.path.insert(0, f"{ROOT}/bindings/python")
+
+import cryptography  # noqa: E402
+from cryptography import x509  # noqa: E402
+from cryptography.hazmat.backends.openssl import backend  # noqa: E402
+
+import cimaroly  # noqa: E402
+
+
+def with_extensions(der):
+    """Loads a certificate and reads its names, its extensions and its key, which loading leaves unread."""
+    read = x509.load_der_x509_certificate(der)
+    return read.subject.rdns, read.issuer.rdns, list(read.extensions), read.public_key()
+
+
+CALLS = {
+    "Python `cimaroly.check`": cimaroly.check,
+    "Python `cimaroly.read(..).fields`": lambda der: cimaroly.read(der).fields,
+    "Python `cimaroly.read(..).report()`": lambda der: cimaroly.read(der).report(),
+    "`cryptography`: `load_der_x509_certificate`": x509.load_der_x509_certificate,
+    "`cryptography`: the same, and names, extensions and key": with_extensions,
+}
+
+
+def driver(folder):
+    """The program that measures the calls from C."""
+    path = f"{folder}/bindings"
+    words = ["gcc", "-O2", f"-I{ROOT}/bindings/c", f"{ROOT}/tools/measure/bindings.c", f"{LIBRARY}/libcimaroly.a", "-lcrypto"]
+    subprocess.run([*words, "-o", path], check=True)
+    return path
+
+
+def from_c(program, path, count):
+    printed = subprocess.run([program, path, str(count)], check=True, stdout=subprocess.PIPE, encoding="utf-8").stdout
+    return {name: float(time) for name, time in (line.split("\t") for line in printed.splitlines())}
+
+
+def from_python(der, count):
+    least = {}
+    for _ in range(ROUNDS):
+        for name, call in CALLS.items():
+            start = time.process_time()
+            for _ in range(count):
+                call(der)
+            each = (time.process_time() - start) / count * 1e6
+            least[name] = min(least.get(name, each), each)
+    return least
+
+
+def main():
+    count = int(sys.argv[1]) if len(sys.argv) > 1 else 20000
+    columns, sizes = [], []
+    with tempfile.TemporaryDirectory() as folder:
+        program = driver(folder)
+        for it in CERTIFICATES:
+            with open(f"{DATA}/{it}.pem", "rb") as file:
+                (block,) = cimaroly.pem_blocks(file.read())
+            with open(f"{folder}/{it}", "wb") as file:
+                file.write(block.der)
+            sizes.append(len(block.der))
+            columns.append(from_c(program, f"{folder}/{it}", count) | from_python(block.der, max(count // 10, 1)))
+    print(f"(cryptography {cryptography.__version__}, its OpenSSL {backend.openssl_version_text()})\n")
+    print("| Call | " + " | ".join(f"{it.removeprefix('certificate_')}, {size:,} bytes" for it, size in zip(CERTIFICATES, sizes)) + " |")
+    print("|---|" + "--:|" * len(sizes))
+    for name in columns[0]:
+        print(f"| {name} | " + " | ".join(f"{it[name]:.1f}" for it in columns) + " |")
+
+
+if __name__ == "__main__":
+    main()

@@ -1,0 +1,16 @@
+#!/bin/sh
+# Installs Debian's packages that the gate uses beside the toolchain, where they are missing and can be installed: binaryen, whose
+# wasm-opt makes the web page's module of 32 bits, and chromium, in which the page is tested. What stays missing is said.
+set -eu
+missing=
+for it in wasm-opt:binaryen chromium:chromium; do
+    command -v "${it%:*}" >/dev/null || missing="$missing ${it#*:}"
+done
+[ -n "$missing" ] || exit 0
+if [ "$(id -u)" = 0 ] && command -v apt-get >/dev/null; then
+    # shellcheck disable=SC2086
+    if apt-get -qq update >&2 && DEBIAN_FRONTEND=noninteractive apt-get -qq install -y --no-install-recommends $missing >&2; then
+        exit 0
+    fi
+fi
+echo "missing:$missing. Install with: apt-get install$missing" >&2

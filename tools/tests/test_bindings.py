@@ -1,0 +1,257 @@
+"""Tests what stands over the C library: the header in C and C++, the Python package and the Rust crate of bindings/.
+
+The library is that of dist/, or of the folder that the variable CIMAROLY_LIB_DIR names.
+"""
+
+import base64
+import csv
+import importlib.util
+import os
+import re
+import shutil
+import subprocess
+import sys
+import tempfile
+import unittest
+
+ROOT = os.path.dirname(os.path.dirname(os.path.dirname(os.path.abspath(__file__))))
+BINDINGS = f"{ROOT}/bindings"
+DATA = f"{ROOT}/tools/tests/data"
+LIBRARY = os.path.abspath(os.environ.get("CIMAROLY_LIB_DIR") or f"{ROOT}/dist")
+ARCHIVE, SHARED = f"{LIBRARY}/libcimaroly.a", f"{LIBRARY}/libcimaroly.so"
+SECONDS = 900
+
+NEEDS_LIBRARY = unittest.skipUnless(os.path.isfile(ARCHIVE), f"there is no {ARCHIVE}")
+
+
+def table():
+    with open(f"{BINDINGS}/tests/table.tsv", encoding="utf-8", newline="") as file:
+        return list(csv.DictReader(file, delimiter="\t", quoting=csv.QUOTE_NONE))
+
+
+def path_of(row, folder):
+    """The file of a row's input, which is written to a folder where the table has its digits."""
+    if "." in row["input"]:
+        return f"{DATA}/{row['input']}"
+    path = f"{folder}/{row['name']}.der"
+    with open(path, "wb") as file:
+        file.write(bytes.fromhex(row["input"]))
+    return path
+
+
+@NEEDS_LIBRARY
+class BindingTest(unittest.TestCase):
+    """What a command prints, which must be there and end well."""
+
+    # Variables that a command isn't to see, as a newcomer's shell has none of them.
+    hidden = ()
+
+    def ran(self, *words, folder=ROOT, status=0, **variables):
+        if not shutil.which(words[0]):
+            self.fail(f"there is no {words[0]}")
+        environment = {**os.environ, "CIMAROLY_LIB_DIR": LIBRARY, **variables}
+        for it in self.hidden:
+            environment.pop(it, None)
+        ran = subprocess.run(
+            words, cwd=folder, env=environment, capture_output=True, encoding="utf-8", timeout=SECONDS, check=False
+        )
+        self.assertEqual(ran.returncode, status, f"{' '.join(words)}\n{ran.stdout[-4000:]}{ran.stderr[-4000:]}")
+        return ran.stdout
+
+    def folder(self):
+        room = tempfile.TemporaryDirectory(prefix="bindings-")
+        self.addCleanup(room.cleanup)
+        return room.name
+
+
+class C(BindingTest):
+    def test_calls(self):
+        """Every row of the table, under ASan and UBSan, and under valgrind where it is there; and the header in C++."""
+        for it in ("cc", "g++"):
+            if not shutil.which(it):
+                self.fail(f"there is no {it}")
+        printed = self.ran("make", "-C", f"{BINDINGS}/c", "test")
+        self.assertRegex(printed, r"\d+ passed, 0 failed")
+
+    def test_installed(self):
+        """What is installed builds the example with what pkg-config tells, which prints what OpenSSL does."""
+        if not shutil.which("pkg-config"):
+            self.skipTest("there is no pkg-config")
+        place = self.folder()
+        self.ran("make", "-C", f"{BINDINGS}/c", "install", f"PREFIX={place}")
+        flags = self.ran("pkg-config", "--cflags", "--libs", "cimaroly", PKG_CONFIG_PATH=f"{place}/lib/pkgconfig").split()
+        self.ran("cc", "-std=c99", f"{BINDINGS}/c/examples/inspect.c", *flags, f"-Wl,-rpath,{place}/lib", "-o", f"{place}/inspect")
+        for row in table():
+            if row["not_before"] != "-":
+                printed = self.ran(f"{place}/inspect", path_of(row, place))
+                told = dict(re.findall(r"^(subject|not before|not after) +(.*)$", printed, re.MULTILINE))
+                stated = {"subject": row["subject"], "not before": row["not_before"], "not after": row["not_after"]}
+                self.assertEqual(told, stated)
+        self.ran("make", "-C", f"{BINDINGS}/c", "uninstall", f"PREFIX={place}")
+        self.assertEqual(os.listdir(f"{place}/lib/pkgconfig"), [])
+
+    def test_example(self):
+        """It prints deviations and refusals with their places."""
+        place = self.folder()
+        self.ran("make", "-C", f"{BINDINGS}/c", "out/inspect")
+        for row in table():
+            if row["kind"] == "certificate":
+                status = {"ok": 0, "deviations": 3, "refused": 1}[row["result"]]
+                printed = self.ran(f"{BINDINGS}/c/out/inspect", path_of(row, place), status=status)
+                places = re.findall(r"^deviation .*, at (\d+\.\.\d+)$", printed, re.MULTILINE)
+                stated = [] if row["deviations"] == "-" else [it.split("@")[1] for it in row["deviations"].split()]
+                self.assertEqual(places, stated)
+                found = re.findall(r"^refused .* at byte (\d+)$", printed, re.MULTILINE)
+                if row["error"] != "-":
+                    self.assertEqual(found, [row["error"].split("@")[1]])
+
+    def test_the_shipped_header(self):
+        shipped = f"{LIBRARY}/cimaroly.h"
+        if os.path.isfile(shipped):
+            with open(shipped, "rb") as one, open(f"{BINDINGS}/c/cimaroly.h", "rb") as other:
+                self.assertEqual(one.read(), other.read())
+
+    def test_what_the_archive_needs(self):
+        """It needs nothing but three functions that copy and fill memory."""
+        printed = self.ran("nm", "--undefined-only", "--format=posix", ARCHIVE)
+        defined = self.ran("nm", "--defined-only", "--format=posix", ARCHIVE)
+        names = {it.split()[0] for it in defined.splitlines() if " " in it}
+        wanted = {it.split()[0] for it in printed.splitlines() if " U" in it} - names
+        self.assertLessEqual(wanted, {"memcpy", "memmove", "memset"})
+
+
+class Python(BindingTest):
+    def setUp(self):
+        self.assertTrue(os.path.isfile(SHARED), f"there is no {SHARED}")
+
+    def test_package(self):
+        self.ran(sys.executable, "-m", "unittest", folder=f"{BINDINGS}/python")
+
+    def test_types(self):
+        if not shutil.which("mypy"):
+            self.skipTest("there is no mypy")
+        self.ran("mypy", "cimaroly", "build_backend", "tests", folder=f"{BINDINGS}/python", MYPY_CACHE_DIR=self.folder())
+
+    def test_dask(self):
+        """The example totals a folder of certificates, with two processes."""
+        found = [it for it in (sys.executable, "/usr/bin/python3") if has_dask(it)]
+        if not found:
+            self.skipTest("there is no dask")
+        place = self.folder()
+        for row in table():
+            if row["kind"] == "certificate" and row["input"].endswith(".pem"):
+                shutil.copy(f"{DATA}/{row['input']}", place)
+        printed = self.ran(found[0], f"{BINDINGS}/python/examples/count_deviations.py", place, PYTHONPATH=f"{BINDINGS}/python")
+        told = {what: int(count) for count, what in re.findall(r"^ *(\d+) (.*)$", printed, re.MULTILINE)}
+        rows = [it for it in table() if it["kind"] == "certificate" and it["input"].endswith(".pem")]
+        self.assertEqual(told["certificates"], len(rows))
+        self.assertEqual(told["refused: malformed time"], 1)
+        stated = sum(len(it["deviations"].split()) for it in rows if it["deviations"] != "-")
+        self.assertEqual(sum(count for what, count in told.items() if what.startswith("deviation: ")), stated)
+
+
+def has_dask(python):
+    words = [python, "-c", "import dask.bag, distributed"]
+    return os.path.exists(python) and subprocess.run(words, capture_output=True, check=False).returncode == 0
+
+
+class InstalledPython(BindingTest):
+    def test_pip(self):
+        """pip installs the package without a network, and it brings its library."""
+        if importlib.util.find_spec("pip") is None:
+            self.skipTest("there is no pip")
+        place = self.folder()
+        words = ("-m", "pip", "--disable-pip-version-check", "install", "--no-index", "--quiet", "--target", place)
+        self.ran(sys.executable, *words, f"{BINDINGS}/python")
+        self.hidden = ("CIMAROLY_LIB_DIR",)
+        program = "import cimaroly; print(cimaroly.__file__, cimaroly.read(b'0\\0', 'name'))"
+        printed = self.ran(sys.executable, "-c", program, folder=place, PYTHONPATH=place)
+        self.assertEqual(printed, f"{place}/cimaroly/__init__.py <name, 2 bytes, in DER>\n")
+
+
+class Rust(BindingTest):
+    def cargo(self, command, *words, **variables):
+        return self.ran("cargo", command, "--offline", *words, folder=f"{BINDINGS}/rust", **variables)
+
+    def test_crate(self):
+        for words in ((), ("--no-default-features",)):
+            printed = self.cargo("test", *words)
+            self.assertGreater(sum(map(int, re.findall(r"(\d+) passed; 0 failed", printed))), 10)
+
+    def test_lints(self):
+        for it in ("cargo-clippy", "cargo-fmt"):
+            if not shutil.which(it):
+                self.skipTest(f"there is no {it}")
+        self.cargo("clippy", "--all-targets", "--", "-D", "warnings")
+        self.ran("cargo", "fmt", "--check", folder=f"{BINDINGS}/rust")
+        self.cargo("doc", "--quiet", RUSTDOCFLAGS="-D warnings")
+
+
+def snippet(language):
+    """The first code of a language in docs/BINDINGS.md."""
+    with open(f"{ROOT}/docs/BINDINGS.md", encoding="utf-8") as file:
+        return re.search(rf"^```{language}\n(.*?)^```$", file.read(), re.DOTALL | re.MULTILINE).group(1)
+
+
+class Snippets(BindingTest):
+    """What docs/BINDINGS.md shows, on a certificate with two deviations."""
+
+    def setUp(self):
+        self.place = self.folder()
+        shutil.copy(f"{DATA}/deviation_1_rsa_parameters.pem", f"{self.place}/cert.pem")
+        with open(f"{self.place}/cert.pem", encoding="utf-8") as file:
+            digits = "".join(it for it in file if not it.startswith("-----"))
+        self.write("cert.der", base64.b64decode(digits))
+
+    def write(self, name, content):
+        os.makedirs(os.path.dirname(f"{self.place}/{name}"), exist_ok=True)
+        with open(f"{self.place}/{name}", "wb") as file:
+            file.write(content)
+
+    def test_c(self):
+        program = (
+            '#include "cimaroly.h"\n#include <stdio.h>\nint main(void) {\nuint8_t der[4096];\n'
+            'size_t size = fread(der, 1, sizeof der, fopen("cert.der", "rb"));\n' + snippet("c") + "return 0;\n}\n"
+        )
+        self.write("main.c", program.encode())
+        self.ran("cc", "-Wall", "-Wextra", f"-I{BINDINGS}/c", "main.c", ARCHIVE, "-o", "main", folder=self.place)
+        self.assertIn("2 times RSA parameters absent\n0 times algorithm", self.ran(f"{self.place}/main", folder=self.place))
+
+    def test_python(self):
+        self.write("main.py", snippet("python").encode())
+        printed = self.ran(sys.executable, "main.py", folder=self.place, PYTHONPATH=f"{BINDINGS}/python")
+        self.assertEqual(printed, "RSA parameters absent 13 26\nRSA parameters absent 106 119\n3000 deviations\n")
+
+    def test_rust(self):
+        program = f"fn main() -> Result<(), Box<dyn std::error::Error>> {{\n{snippet('rust')}Ok(())\n}}\n"
+        manifest = f'[package]\nname = "snippet"\nedition = "2021"\n[dependencies]\ncimaroly.path = "{BINDINGS}/rust"\n'
+        self.write("src/main.rs", program.encode())
+        self.write("Cargo.toml", manifest.encode())
+        printed = self.ran("cargo", "run", "--offline", "--quiet", folder=self.place)
+        self.assertEqual(printed, "[01]\n13..26: Some(RsaParametersAbsent)\n106..119: Some(RsaParametersAbsent)\n")
+
+
+class Table(unittest.TestCase):
+    """The table that all bindings are tested with."""
+
+    def test_inputs(self):
+        rows = table()
+        self.assertEqual(len({it["name"] for it in rows}), len(rows))
+        for row in rows:
+            if "." in row["input"]:
+                self.assertTrue(os.path.isfile(f"{DATA}/{row['input']}"), row["input"])
+            else:
+                bytes.fromhex(row["input"])
+            self.assertIn(row["result"], ("ok", "deviations", "refused"))
+            self.assertEqual(row["deviations"] != "-", row["result"] == "deviations")
+            self.assertEqual(row["encoding"] == "-", row["result"] == "refused")
+
+    def test_each_deviation_and_each_kind_has_a_row(self):
+        rows = table()
+        numbers = {it.split("@")[0] for row in rows for it in row["deviations"].split() if "@" in it}
+        self.assertEqual(numbers, set(map(str, range(1, 11))))
+        self.assertEqual(len({row["kind"] for row in rows if row["result"] != "refused"}), 11)
+
+
+if __name__ == "__main__":
+    unittest.main()

@@ -1,0 +1,141 @@
+// The page: takes files, text and links, and shows each structure in them.
+
+import { at, make } from "./page/dom.mjs";
+import { Entry } from "./page/entry.mjs";
+import { fromFragment, structuresIn } from "./page/input.mjs";
+import { List } from "./page/list.mjs";
+import { Result } from "./page/result.mjs";
+import { SAMPLES } from "./page/samples.mjs";
+
+function tell(text) {
+  const message = at("message");
+  message.textContent = text;
+  message.hidden = text === "";
+}
+
+const loaded = import("./cimaroly.mjs");
+listSamples();
+const cimaroly = await loaded.catch((error) => {
+  tell(`What reads certificates couldn’t be loaded: ${error.message}`);
+  throw error;
+});
+const result = new Result(cimaroly);
+const list = new List((structure) => result.show(structure));
+
+/** Shows the structures of some inputs, each its bytes and its name. */
+function take(inputs) {
+  const structures = inputs.flatMap(({ name, bytes }) =>
+    structuresIn(bytes).map((it) => new Entry(cimaroly, { ...it, file: name })),
+  );
+  tell("");
+  document.body.classList.add("has-result");
+  list.show(structures);
+}
+
+async function takeFiles(files) {
+  const inputs = [];
+  for (const it of files) {
+    try {
+      inputs.push({ name: it.name, bytes: new Uint8Array(await it.arrayBuffer()) });
+    } catch {
+      tell(`The file ${it.name} couldn’t be read.`);
+    }
+  }
+  forgetLink();
+  if (inputs.length > 0) take(inputs);
+}
+
+function takeText(text) {
+  if (text.trim() === "") return;
+  forgetLink();
+  take([{ name: "pasted", bytes: new TextEncoder().encode(text) }]);
+}
+
+// What stands behind `#` is no longer what is shown.
+function forgetLink() {
+  if (location.hash !== "") history.replaceState(null, "", location.pathname + location.search);
+}
+
+function takeLink() {
+  if (location.hash === "") return;
+  const found = fromFragment(location.hash);
+  if (found === null) {
+    tell("This link holds nothing that can be read. Links never hold private keys.");
+    return;
+  }
+  document.body.classList.add("has-result");
+  list.show([new Entry(cimaroly, { ...found, file: "from the link" })]);
+}
+
+async function takeSample(name) {
+  const answer = await fetch(`samples/${name}`);
+  if (!answer.ok) {
+    tell("The sample couldn’t be loaded.");
+    return;
+  }
+  forgetLink();
+  take([{ name, bytes: new Uint8Array(await answer.arrayBuffer()) }]);
+}
+
+function listenToFiles() {
+  at("choose").addEventListener("click", () => at("files").click());
+  at("files").addEventListener("change", (event) => {
+    takeFiles([...event.target.files]);
+    event.target.value = "";
+  });
+  let depth = 0;
+  const over = (change) => {
+    depth = Math.max(0, depth + change);
+    at("drop").hidden = depth === 0;
+  };
+  addEventListener("dragenter", (event) => {
+    event.preventDefault();
+    over(1);
+  });
+  addEventListener("dragleave", () => over(-1));
+  addEventListener("dragover", (event) => event.preventDefault());
+  addEventListener("drop", (event) => {
+    event.preventDefault();
+    depth = 0;
+    over(0);
+    const { files } = event.dataTransfer;
+    if (files.length > 0) takeFiles([...files]);
+    else takeText(event.dataTransfer.getData("text"));
+  });
+}
+
+function listenToText() {
+  const form = at("paste");
+  at("paste-open").addEventListener("click", () => {
+    form.hidden = !form.hidden;
+    at("paste-open").setAttribute("aria-expanded", String(!form.hidden));
+    if (!form.hidden) at("pasted").focus();
+  });
+  form.addEventListener("submit", (event) => {
+    event.preventDefault();
+    takeText(at("pasted").value);
+    at("pasted").value = "";
+  });
+  addEventListener("paste", (event) => {
+    if (event.target.closest?.("textarea, input")) return;
+    const { files } = event.clipboardData;
+    if (files.length > 0) takeFiles([...files]);
+    else takeText(event.clipboardData.getData("text"));
+  });
+}
+
+function listSamples() {
+  for (const [file, text] of SAMPLES) {
+    const button = make("button", { type: "button", class: "sample", onclick: () => takeSample(file) }, text);
+    at("samples").append(make("li", {}, button));
+  }
+}
+
+listenToFiles();
+listenToText();
+at("module").textContent = cimaroly.isLowered
+  ? "This browser has no 64-bit memories, so the module was lowered to 32 bits: a translation that no proof covers."
+  : "";
+addEventListener("hashchange", takeLink);
+takeLink();
+document.documentElement.dataset.ready = "true";

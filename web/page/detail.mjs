@@ -1,0 +1,55 @@
+// What is told of the selected field: where it stands, its tag, and its whole value.
+
+import { make } from "./dom.mjs";
+import { headerLength, wholeTagName } from "./elements.mjs";
+import { lineOf } from "./fields.mjs";
+import { previewOf } from "./summary.mjs";
+import { counted, shown } from "./text.mjs";
+import { valueOf } from "./values.mjs";
+
+const LONGEST = 20_000;
+
+/** The box that tells of a field. */
+export class Detail {
+  constructor(container, select) {
+    this.container = container;
+    this.select = select;
+  }
+
+  clear() {
+    this.container.replaceChildren();
+  }
+
+  /** Tells of a field by its node. */
+  show(field, node, bytes) {
+    const value = valueOf(field.label, node, bytes);
+    const whole = value?.whole ?? (lineOf(field, bytes) || previewOf(field, bytes));
+    this.container.replaceChildren(
+      this.crumbs(field),
+      make("p", { class: "facts" }, factsOf(field, bytes)),
+      whole === "" ? "" : make("p", { class: `whole ${value?.kind ?? ""}` }, cut(whole)),
+    );
+  }
+
+  crumbs(field) {
+    const crumbs = make("p", { class: "crumbs" });
+    for (const it of field.path) {
+      if (it !== field) {
+        crumbs.append(make("button", { type: "button", onclick: () => this.select(it) }, shown(it.label)), " › ");
+      } else crumbs.append(make("strong", {}, shown(it.label)));
+    }
+    return crumbs;
+  }
+}
+
+function factsOf({ start, end, node }, bytes) {
+  const header = headerLength(bytes, start, end);
+  const id = node.id === undefined ? "" : ` · ${node.id}`;
+  const critical = node.critical === undefined ? "" : node.critical ? " · critical" : " · not critical";
+  const sizes = `${header} of header, ${counted(end - start - header, "byte")} of content`;
+  return `${wholeTagName(bytes, start)} · bytes ${start}..${end}: ${sizes}${id}${critical}`;
+}
+
+function cut(text) {
+  return text.length <= LONGEST ? text : `${text.slice(0, LONGEST)}.. (${counted(text.length, "character")} in all)`;
+}

@@ -1,0 +1,96 @@
+// One entry of what was taken: the bytes of a structure, and what the library says of them.
+
+import { kindsOf } from "./input.mjs";
+import { captionOf, isPrivate, titleOf } from "./summary.mjs";
+
+/** An entry: one structure, or a PEM block that is none. */
+export class Entry {
+  constructor(cimaroly, { file, line, label, kind, bytes, outcome, reason }) {
+    Object.assign(this, { cimaroly, file, line, label, bytes, outcome, reason });
+    this.labelKind = kind;
+  }
+
+  /** As which types the bytes are read where no label says it; the first is taken. */
+  get kinds() {
+    if (this.bytes === undefined || this.reason !== undefined) return [];
+    const refusedAt = (bytes, kind) => this.refusedAt(bytes, kind);
+    this.foundKinds ??= this.labelKind ? [this.labelKind] : kindsOf(this.bytes, refusedAt);
+    return this.foundKinds;
+  }
+
+  refusedAt(bytes, kind) {
+    try {
+      this.cimaroly.check(bytes, kind);
+      return null;
+    } catch (error) {
+      if (error instanceof this.cimaroly.Refused) return error.at;
+      if (isFailure(error)) return -1;
+      throw error;
+    }
+  }
+
+  /** As which type it is read. */
+  get kind() {
+    return this.chosenKind ?? this.kinds[0] ?? null;
+  }
+
+  /** Reads it as another type from now on. */
+  readAs(kind) {
+    this.chosenKind = kind;
+    this.text = undefined;
+    this.told = undefined;
+  }
+
+  /** The report as JSON, without secret numbers. */
+  get reportText() {
+    this.text ??= this.cimaroly.reportText(this.bytes, this.kind);
+    return this.text;
+  }
+
+  /** The report. */
+  get report() {
+    if (this.kind === null) return { result: this.outcome ?? "refused", reason: this.reason };
+    try {
+      this.told ??= this.cimaroly.parseReport(this.reportText);
+    } catch (error) {
+      if (!isFailure(error)) throw error;
+      this.told = { result: "refused", reason: `this can't be read here: ${error.message}` };
+    }
+    return this.told;
+  }
+
+  /** The report with the secret numbers. */
+  reportWithSecrets() {
+    return this.cimaroly.report(this.bytes, this.kind, { secrets: true });
+  }
+
+  /** Whether it is, or may be, a private key: a label or a type says so, or it is refused and begins with a version. */
+  get isPrivate() {
+    if (this.label?.includes("PRIVATE") || this.kinds.some(isPrivate) || isPrivate(this.kind ?? "")) return true;
+    return this.report.result === "refused" && beginsWithVersion(this.bytes);
+  }
+
+  /** What it is called. */
+  get title() {
+    return this.kind === null ? (this.label ?? "No structure") : titleOf(this.kind);
+  }
+
+  /** Whose it is, or why it isn't read. */
+  get caption() {
+    const { report } = this;
+    if (report.result === "refused" || report.result === "passed over") return `${report.result}: ${report.reason}`;
+    return captionOf(report, this.bytes);
+  }
+}
+
+// Whether an error says that memory or the engine gave out, rather than what the input is.
+function isFailure(error) {
+  return error instanceof RangeError || error instanceof WebAssembly.RuntimeError;
+}
+
+// Whether the bytes begin as a SEQUENCE whose first element is a small INTEGER, as private keys do.
+function beginsWithVersion(bytes) {
+  if (bytes === undefined || bytes[0] !== 0x30) return false;
+  const content = bytes[1] > 0x80 ? 2 + (bytes[1] & 0x7f) : 2;
+  return bytes[content] === 2 && bytes[content + 1] === 1;
+}

@@ -1,0 +1,76 @@
+// What a file or a text holds: PEM blocks, DER, or hexadecimal or base64 digits.
+
+import { KINDS, fromBase64, isSequence, kindOfLabel, pemBlocks } from "../pem.mjs";
+
+/** How many bytes an input may have. */
+export const LONGEST = 1 << 25;
+
+const OTHER = "the label is of no type that is read";
+const NOTHING = "there is no PEM block of a type that is read, no DER and no hexadecimal";
+
+function textOf(bytes) {
+  const isUtf16 = bytes[0] === 0xff && bytes[1] === 0xfe;
+  return new TextDecoder(isUtf16 ? "utf-16le" : "utf-8").decode(bytes);
+}
+
+function fromHex(digits) {
+  return Uint8Array.from(digits.match(/../g), (it) => parseInt(it, 16));
+}
+
+function pemStructures(text) {
+  const found = [];
+  for (const block of pemBlocks(text)) {
+    const kind = kindOfLabel(block.label) ?? null;
+    const { label, line } = block;
+    if (block.reason) found.push({ label, line, kind: null, outcome: "refused", reason: block.reason });
+    else if (kind === null) found.push({ ...block, kind, outcome: "passed over", reason: OTHER });
+    else found.push({ ...block, kind });
+  }
+  return found;
+}
+
+/**
+ * The structures of an input, in its order: the bytes, and the PEM block's label, its line and the type that it says;
+ * or under `reason` why there are none.
+ */
+export function structuresIn(bytes) {
+  if (bytes.length > LONGEST) return [{ kind: null, outcome: "refused", reason: "it has more than 32 MB" }];
+  if (isSequence(bytes)) return [{ bytes, kind: null }];
+  const text = textOf(bytes);
+  if (text.includes("-----BEGIN ")) {
+    const found = pemStructures(text);
+    if (found.length > 0) return found;
+  }
+  const digits = text.replace(/[\s:]+/g, "");
+  if (digits.length > 0 && digits.length % 2 === 0 && /^[0-9A-Fa-f]*$/.test(digits)) {
+    return [{ bytes: fromHex(digits), kind: null }];
+  }
+  const decoded = fromBase64(digits);
+  if (decoded !== null && decoded[0] === 0x30) return [{ bytes: decoded, kind: null }];
+  if (bytes[0] === 0x30) return [{ bytes, kind: null }];
+  return [{ kind: null, outcome: "refused", reason: NOTHING }];
+}
+
+/**
+ * As which types bytes are read, by a function that reports them as one; where no type accepts them, the one whose
+ * reading got furthest.
+ */
+export function kindsOf(bytes, report) {
+  const accepting = [];
+  let furthest = { kind: KINDS[0], at: -1 };
+  for (const kind of KINDS) {
+    const at = report(bytes, kind);
+    if (at === null) accepting.push(kind);
+    else if (at > furthest.at) furthest = { kind, at };
+  }
+  return accepting.length > 0 ? accepting : [furthest.kind];
+}
+
+/** The type and the bytes that the part of a link behind `#` holds, or null. */
+export function fromFragment(fragment) {
+  const found = /^#([a-z-]+)=([A-Za-z0-9_-]+)$/.exec(fragment);
+  if (found === null || !KINDS.includes(found[1]) || found[1].endsWith("private-key")) return null;
+  const symbols = found[2].replaceAll("-", "+").replaceAll("_", "/");
+  const bytes = fromBase64(symbols.padEnd(Math.ceil(symbols.length / 4) * 4, "="));
+  return bytes === null ? null : { kind: found[1], bytes };
+}

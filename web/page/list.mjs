@@ -1,0 +1,76 @@
+// The structures of what was taken, where they are several.
+
+import { at, make } from "./dom.mjs";
+import { counted, shown } from "./text.mjs";
+
+const PAGE = 100;
+
+/** The list of structures, of which one is shown. */
+export class List {
+  constructor(choose) {
+    this.choose = choose;
+  }
+
+  /** Lists structures, and shows the first that is read. */
+  show(structures) {
+    this.structures = structures;
+    this.from = 0;
+    at("structures").hidden = structures.length < 2;
+    at("structures-title").textContent = counted(structures.length, "structure");
+    const readable = structures.findIndex((it) => it.kind !== null);
+    this.current = Math.max(readable, 0);
+    if (structures.length >= 2) this.build();
+    this.choose(structures[this.current]);
+  }
+
+  pick(index) {
+    this.current = index;
+    this.build();
+    this.choose(this.structures[index]);
+  }
+
+  build() {
+    const page = this.structures.slice(this.from, this.from + PAGE);
+    at("structure-list").start = this.from + 1;
+    at("structure-list").replaceChildren(...page.map((it, index) => this.item(it, this.from + index)));
+    this.buildPages();
+  }
+
+  item(structure, index) {
+    const { result } = structure.report;
+    const button = make(
+      "button",
+      {
+        type: "button",
+        class: `structure ${result.replace(" ", "-")}`,
+        "aria-current": index === this.current ? "true" : null,
+        onclick: () => this.pick(index),
+      },
+      make("span", { class: "dot", "aria-hidden": "true" }),
+      make("span", { class: "title" }, shown(structure.title)),
+      make("span", { class: "caption" }, captionWithCount(structure)),
+    );
+    return make("li", {}, button);
+  }
+
+  buildPages() {
+    const { length } = this.structures;
+    const pages = at("structure-pages");
+    pages.hidden = length <= PAGE;
+    if (pages.hidden) return;
+    const turn = (step) => () => {
+      this.from += step;
+      this.build();
+    };
+    pages.replaceChildren(
+      make("button", { type: "button", disabled: this.from === 0, onclick: turn(-PAGE) }, "Earlier"),
+      ` ${this.from + 1} to ${Math.min(this.from + PAGE, length)} `,
+      make("button", { type: "button", disabled: this.from + PAGE >= length, onclick: turn(PAGE) }, "Later"),
+    );
+  }
+}
+
+function captionWithCount(structure) {
+  const count = structure.report.deviations?.length ?? 0;
+  return count > 0 ? `${structure.caption} (${counted(count, "deviation")})` : structure.caption;
+}

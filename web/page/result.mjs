@@ -1,0 +1,319 @@
+// What is shown of one structure: its verdict, its fields, its bytes.
+
+import { Bytes } from "./bytes.mjs";
+import { sentenceOn } from "./deviations.mjs";
+import { Detail } from "./detail.mjs";
+import { at, make, save } from "./dom.mjs";
+import { headerLength } from "./elements.mjs";
+import { fieldOver, fieldsOf } from "./fields.mjs";
+import { KINDS, toBase64 } from "../pem.mjs";
+import { summaryOf, titleOf } from "./summary.mjs";
+import { counted, grouped, hexOf, shown } from "./text.mjs";
+import { Tree } from "./tree.mjs";
+import { elementsOf } from "./unread.mjs";
+
+const FIRST = 24;
+const LONGEST_LINK = 200_000;
+
+/** The view of one structure. */
+export class Result {
+  constructor(cimaroly) {
+    this.cimaroly = cimaroly;
+    this.uncovered = new Set();
+    this.detail = new Detail(at("detail"), (field) => this.tree.select(field));
+    this.tree = new Tree(at("tree"), {
+      select: (field) => this.light(field),
+      uncover: (field) => this.uncover(field),
+      isUncovered: (field) => this.uncovered.has(field),
+      shownNode: (field) => this.nodeOf(field),
+      hidden: () => this.hiddenHeight(),
+    });
+    this.bytes = new Bytes(at("bytes"), {
+      pick: (byte) => this.pick(byte),
+      isCovered: (byte) => this.covered[byte] === 1,
+    });
+    this.listen();
+  }
+
+  listen() {
+    at("open-all").addEventListener("click", () => this.tree.foldAll(true));
+    at("fold-all").addEventListener("click", () => this.tree.foldAll(false));
+    at("save-der").addEventListener("click", () => this.saveDer());
+    at("save-report").addEventListener("click", () => this.saveReport());
+    at("copy-link").addEventListener("click", () => this.copyLink());
+    at("more-deviations").addEventListener("click", () => this.listDeviations(this.listed + 200));
+    at("kind").append(...KINDS.map((it) => make("option", { value: it }, titleOf(it))));
+    at("kind").addEventListener("change", (event) => {
+      this.structure.readAs(event.target.value);
+      this.show(this.structure);
+    });
+  }
+
+  /** Shows a structure. */
+  show(structure) {
+    this.structure = structure;
+    this.uncovered.clear();
+    this.secrets = null;
+    const isNew = structure.told === undefined;
+    const started = performance.now();
+    const { report } = structure;
+    const read = performance.now();
+    this.draw(report);
+    at("panes").getBoundingClientRect();
+    this.times(isNew ? read - started : null, performance.now() - read);
+  }
+
+  draw(report) {
+    const { structure } = this;
+    at("result").hidden = false;
+    this.note("");
+    this.raw = structure.bytes ?? new Uint8Array(0);
+    this.fields = fieldsOf(report);
+    this.isRead = this.fields.length > 0;
+    if (!this.isRead && !structure.isPrivate) this.fields = elementsOf(this.raw);
+    this.deviations = report.deviations ?? [];
+    this.drawHead(report);
+    this.drawSummary(report);
+    this.listDeviations(FIRST);
+    this.drawRefusal(report);
+    this.drawPanes(report);
+  }
+
+  drawHead(report) {
+    const { structure } = this;
+    at("result-title").textContent = shown(structure.title);
+    const verdict = at("verdict");
+    verdict.className = `verdict ${report.result.replace(" ", "-")}`;
+    verdict.textContent = verdictOf(report);
+    at("result").dataset.result = report.result;
+    at("save-der").disabled = !this.isRead;
+    at("save-report").disabled = structure.kind === null;
+    at("copy-link").disabled = this.whyNoLink() !== "";
+    at("copy-link").title = this.whyNoLink();
+    at("kind").value = structure.kind ?? "";
+    at("kind").parentElement.hidden = structure.bytes === undefined;
+    this.drawOthers();
+  }
+
+  // Which other types accept the bytes, where no label says which is meant.
+  drawOthers() {
+    const { structure } = this;
+    const others = structure.kinds.filter((it) => it !== structure.kind);
+    if (structure.kinds.length < 2 || others.length === 0) return;
+    this.note(`The bytes are also read as: ${others.map((it) => titleOf(it).toLowerCase()).join(", ")}.`);
+  }
+
+  drawSummary(report) {
+    const rows = summaryOf(report, this.raw);
+    at("origin").textContent = this.origin();
+    at("summary").replaceChildren(
+      ...rows.flatMap(({ label, text, at: place }) => {
+        const inner = place === undefined ? text : this.linkTo(text, place);
+        return [make("dt", {}, label), make("dd", {}, inner)];
+      }),
+    );
+  }
+
+  origin() {
+    const { file, line, label } = this.structure;
+    const size = this.raw.length > 0 ? `${counted(this.raw.length, "byte")} · ` : "";
+    const block = label === undefined ? "" : `, line ${line}`;
+    return `${size}${shown(file)}${block}`;
+  }
+
+  linkTo(text, place) {
+    return make("button", { type: "button", class: "place-link", onclick: () => this.go(place) }, text);
+  }
+
+  // The deviations by their kinds, in the order in which they are first met.
+  listDeviations(most) {
+    const { deviations } = this;
+    this.listed = most;
+    at("deviations").hidden = deviations.length === 0;
+    at("deviations-title").textContent = `${counted(deviations.length, "deviation")} from DER`;
+    const kinds = new Map();
+    for (const it of deviations.slice(0, most)) kinds.set(it.name, [...(kinds.get(it.name) ?? []), it]);
+    at("deviation-list").replaceChildren(...Array.from(kinds, ([name, them]) => this.kindOfDeviation(name, them)));
+    at("more-deviations").hidden = deviations.length <= most;
+    at("more-deviations").textContent = `Show more of ${grouped(deviations.length)}`;
+  }
+
+  kindOfDeviation(name, deviations) {
+    return make(
+      "li",
+      {},
+      make("h4", {}, sentenceCase(name)),
+      make("p", {}, sentenceOn(name)),
+      make("ul", {}, ...deviations.map((it) => make("li", {}, this.deviation(it)))),
+    );
+  }
+
+  deviation({ name, at: place }) {
+    const [start, end] = place;
+    const path = (fieldOver(this.fields, start, end)?.path ?? []).slice(-2);
+    const where = path.map((it) => shown(it.label)).join(" › ");
+    const told = `${name}: bytes ${start} to ${end}, ${where}`;
+    return make(
+      "button",
+      { type: "button", class: "deviation", "aria-label": told, onclick: () => this.go(place) },
+      make("span", { class: "place" }, `${start}..${end}`),
+      make("span", { class: "where" }, where),
+    );
+  }
+
+  drawRefusal(report) {
+    const isRefused = report.result !== "ok" && report.result !== "deviations";
+    at("refusal").hidden = !isRefused;
+    if (!isRefused) return;
+    const { reason, at: place, field } = report;
+    at("refusal-title").textContent = sentenceCase(reason ?? "");
+    const where = [];
+    if (place !== undefined) where.push(`Reading stopped at byte ${grouped(place)} of ${grouped(this.raw.length)}`);
+    if (field) where.push(`in ${shown(field).replaceAll(".", " › ")}`);
+    const text = where.length > 0 ? `${where.join(", ")}. ` : "";
+    const rest = place === undefined ? "" : "The bytes before it are lit; those behind it were not read.";
+    at("refusal-text").textContent = text + rest;
+  }
+
+  drawPanes(report) {
+    at("panes").hidden = this.raw.length === 0;
+    at("panes").classList.toggle("bytes-only", this.fields.length === 0);
+    if (this.raw.length === 0) return;
+    for (const { at: place } of this.deviations) this.markOver(place);
+    this.coverSecrets(report);
+    at("count").textContent = counted(this.raw.length, "byte");
+    at("fields-title").textContent = this.isRead ? "Fields" : "Elements";
+    const refusedAt = report.at ?? null;
+    this.bytes.show(this.raw, this.fields, this.deviations, refusedAt);
+    this.tree.show(this.fields, this.raw);
+    if (this.isRead) this.light(this.fields[0]);
+    else this.stopAt(refusedAt);
+  }
+
+  // Shows where reading stopped, and the element that stands there.
+  stopAt(place) {
+    this.detail.clear();
+    if (place === null) return;
+    const field = fieldOver(this.fields, place, place + 1);
+    if (field !== null) {
+      field.isMarked = true;
+      this.tree.select(field, { isTold: false, isRevealed: false });
+    }
+    this.bytes.reveal(place);
+  }
+
+  markOver([start, end]) {
+    const field = fieldOver(this.fields, start, end);
+    if (field !== null) field.isMarked = true;
+  }
+
+  // The bytes of secret numbers; of what is refused and may be a private key, all from the second element on.
+  coverSecrets(report) {
+    this.covered = new Uint8Array(this.raw.length);
+    for (const it of this.fields) if (it.isSecret) this.cover(it);
+    const isUnread = report.result === "refused" || report.result === "passed over";
+    if (isUnread && this.structure.isPrivate) this.covered.fill(1, Math.min(4, this.raw.length));
+  }
+
+  cover(field) {
+    const content = field.start + headerLength(this.raw, field.start, field.end);
+    this.covered.fill(1, content, field.end);
+  }
+
+  uncover(field) {
+    this.secrets ??= fieldsOf(this.structure.reportWithSecrets());
+    this.uncovered.add(field);
+    this.covered.fill(0, field.start, field.end);
+    this.tree.refresh();
+    this.light(field);
+  }
+
+  nodeOf(field) {
+    return this.uncovered.has(field) ? this.secrets[field.index].node : field.node;
+  }
+
+  /** Lights up the bytes of a field, and tells of it. */
+  light(field, place = null) {
+    this.bytes.select(field, place);
+    this.detail.show(field, this.nodeOf(field), this.raw);
+  }
+
+  /** Selects the field of a byte. */
+  pick(byte) {
+    const field = this.bytes.fieldAt(byte);
+    if (field === null) {
+      this.covered.fill(0);
+      return;
+    }
+    if (this.covered[byte] && field.isSecret) this.uncover(field);
+    this.tree.select(field);
+    const path = field.path.slice(-2).map((it) => shown(it.label));
+    at("spoken").textContent = `byte ${byte}: ${hexOf(this.raw[byte])}, in ${path.join(", ")}`;
+  }
+
+  /** Goes to a place: selects the field over it, and lights up its bytes. */
+  go([start, end]) {
+    const field = fieldOver(this.fields, start, end);
+    if (field === null) return;
+    this.tree.select(field, { isTold: false });
+    this.light(field, field.start === start && field.end === end ? null : { start, end });
+  }
+
+  // How much of the window's bottom the bytes take where they stand below the fields.
+  hiddenHeight() {
+    const raw = document.querySelector(".pane.raw");
+    return getComputedStyle(raw).bottom === "0px" ? raw.getBoundingClientRect().height : 0;
+  }
+
+  whyNoLink() {
+    const { structure } = this;
+    if (structure.kind === null) return "There is nothing that a link could hold.";
+    if (structure.isPrivate) return "A link never holds a private key.";
+    return this.raw.length > LONGEST_LINK ? "This is too large for a link." : "";
+  }
+
+  async copyLink() {
+    const { structure } = this;
+    if (this.whyNoLink() !== "") return;
+    const symbols = toBase64(this.raw).replaceAll("+", "-").replaceAll("/", "_").replace(/=+$/, "");
+    history.replaceState(null, "", `#${structure.kind}=${symbols}`);
+    try {
+      await navigator.clipboard.writeText(location.href);
+      this.note("The link is copied. It holds the whole structure behind #, which browsers send to no one.");
+    } catch {
+      this.note("The link stands in the address bar. It holds the whole structure behind #, which browsers send to no one.");
+    }
+  }
+
+  saveDer() {
+    const { structure } = this;
+    save(`${structure.kind}.der`, "application/octet-stream", this.cimaroly.encode(structure.bytes, structure.kind));
+  }
+
+  saveReport() {
+    save(`${this.structure.kind}.json`, "application/json", `${this.structure.reportText}\n`);
+  }
+
+  note(text) {
+    at("note").textContent = text;
+    at("note").hidden = text === "";
+  }
+
+  times(read, drawn) {
+    const part = read === null ? "" : `Read in ${read.toFixed(2)} ms, `;
+    at("times").textContent = `${part}drawn in ${drawn.toFixed(1)} ms.`.replace(/^d/, "D");
+    at("times").dataset.read = read ?? "";
+    at("times").dataset.drawn = drawn;
+  }
+}
+
+function verdictOf(report) {
+  const count = report.deviations?.length ?? 0;
+  if (report.result === "ok") return "In DER";
+  if (report.result === "deviations") return `Not in DER: ${counted(count, "deviation")}`;
+  return sentenceCase(report.result);
+}
+
+function sentenceCase(text) {
+  return text.charAt(0).toUpperCase() + text.slice(1);
+}

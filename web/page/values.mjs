@@ -1,0 +1,137 @@
+// Values of the report as they are shown: as `cimaroly show` prints them, and whole.
+
+import { elementAt, lastElements } from "./elements.mjs";
+import { counted, grouped, hex, hexOf, quoted, shown } from "./text.mjs";
+
+const WHOLE = 32;
+const FRONT = 16;
+const TEXT_TAGS = new Set([0x0c, 0x12, 0x13, 0x16, 0x1a, 0x1e]);
+const TIME_TAGS = new Set([0x17, 0x18]);
+const LONGEST_TEXT = 4000;
+const LONGEST_IDENTIFIER = 200;
+const TEXT_FIELDS = new Set(["dNSName", "rfc822Name", "uniformResourceIdentifier"]);
+
+// Whether a text is the bytes in hexadecimal with colons.
+function isHexOf(text, bytes, start, end) {
+  if (text.length !== Math.max(0, 3 * (end - start) - 1)) return false;
+  for (let at = start, to = 0; at < end; at += 1, to += 3) {
+    if (text.slice(to, to + 2) !== hexOf(bytes[at])) return false;
+  }
+  return true;
+}
+
+function decoded(bytes, { tag, content, end }) {
+  const encoding = tag === 0x1e ? "utf-16be" : "utf-8";
+  return new TextDecoder(encoding, { ignoreBOM: true }).decode(bytes.subarray(content, end));
+}
+
+// Whether a string of the report is text of the input: it is then the content of the innermost element.
+function isText(label, text, bytes, elements) {
+  const innermost = elements[elements.length - 1];
+  if (text === "") return TEXT_TAGS.has(innermost.tag) || TEXT_FIELDS.has(label);
+  if (innermost.end - innermost.content < text.length) return false;
+  return decoded(bytes, innermost) === text;
+}
+
+// Bytes as they are printed on one line: behind their number where they are too many.
+function shortHex(text) {
+  return text.length <= 3 * WHOLE ? text : `${text.slice(0, 3 * FRONT - 1)}:..`;
+}
+
+function octets(text) {
+  const count = Math.ceil(text.length / 3);
+  if (count === 0) return { kind: "octets", text: "0 bytes", whole: "0 bytes" };
+  const front = count > WHOLE ? `${count} bytes, ` : "";
+  return { kind: "octets", text: front + shortHex(text), whole: text };
+}
+
+// The tag of the element whose content a string of the report has in hexadecimal, 0 where it has a whole element, and
+// null where it has none.
+function heldTag(text, bytes, elements) {
+  for (const { tag, start, content, end } of elements) {
+    if (isHexOf(text, bytes, content, end)) return tag;
+    if (isHexOf(text, bytes, start, end)) return 0;
+  }
+  return null;
+}
+
+function stringValue(label, text, bytes, { start, end }) {
+  const elements = lastElements(bytes, start, end);
+  if (isText(label, text, bytes, elements)) return { kind: "text", text: quoted(text), whole: quoted(text) };
+  const tag = heldTag(text, bytes, elements);
+  if (tag === null || label === "iPAddress") return word(text);
+  return tag === 2 || label === "authorityCertSerialNumber" ? { kind: "integer", text, whole: text } : octets(text);
+}
+
+function word(text) {
+  return { kind: "word", text: shown(text), whole: shown(text) };
+}
+
+// A BIT STRING, or the number of a key: in decimal where it has at most 64 bits.
+function sized({ bits, value, at }, bytes) {
+  const isNumber = bytes[at[0]] === 2;
+  const digits = isNumber && value.startsWith("00:") ? value.slice(3) : value;
+  if (isNumber && bits <= 64) {
+    const decimal = BigInt(`0x${value.replaceAll(":", "") || "0"}`).toString();
+    return { kind: "number", text: decimal, whole: decimal };
+  }
+  const size = `${bits} bits`;
+  const text = digits === "" ? size : `${size}, ${shortHex(digits)}`;
+  return { kind: "octets", text, whole: digits === "" ? size : `${grouped(bits)} bits\n${digits}` };
+}
+
+function identifier({ id, name }) {
+  return { kind: "identifier", text: name ?? id, whole: name === undefined ? id : `${name} (${id})` };
+}
+
+/** Whether a member of a node is a node too. */
+export function isNode(it) {
+  return typeof it === "object" && it !== null && Array.isArray(it.at);
+}
+
+// The content of an object identifier with dots (X.690, 8.19).
+function dotted(content) {
+  const arcs = [];
+  let arc = 0n;
+  for (const byte of content) {
+    arc = arc * 128n + BigInt(byte & 0x7f);
+    if (byte & 0x80) continue;
+    if (arcs.length === 0) {
+      const first = arc < 80n ? arc / 40n : 2n;
+      arcs.push(first, arc - 40n * first);
+    } else arcs.push(arc);
+    arc = 0n;
+  }
+  return arcs.join(".");
+}
+
+// The content of an element of what isn't read: text where its tag says so.
+function elementValue({ at: [start, end] }, bytes) {
+  const element = elementAt(bytes, start, end);
+  if (element.tag & 0x20) return null;
+  if (TEXT_TAGS.has(element.tag) || TIME_TAGS.has(element.tag)) {
+    const text = quoted(decoded(bytes, element));
+    return { kind: "text", text: text.slice(0, LONGEST_TEXT), whole: text };
+  }
+  const content = bytes.subarray(element.content, end);
+  if (element.tag === 6 && content.length <= LONGEST_IDENTIFIER) return word(dotted(content));
+  const value = octets(hex(content.subarray(0, LONGEST_TEXT)));
+  return content.length > WHOLE ? { ...value, text: `${content.length} bytes, ${shortHex(value.whole)}` } : value;
+}
+
+/** The value of a node under a label, or null where it has none of its own. */
+export function valueOf(label, node, bytes) {
+  const { value } = node;
+  if (node.isElement) return elementValue(node, bytes);
+  if (node.hidden !== undefined) {
+    const text = `${counted(node.hidden, "byte")}, not shown`;
+    return { kind: "secret", text, whole: text };
+  }
+  if (value === undefined || isNode(value)) return null;
+  if (node.bits !== undefined) return sized(node, bytes);
+  if (value === null) return word("NULL");
+  if (Array.isArray(value)) return word(value.join(", "));
+  if (typeof value === "object") return identifier(value);
+  if (typeof value !== "string") return word(String(value));
+  return stringValue(label, value, bytes, { start: node.at[0], end: node.at[1] });
+}

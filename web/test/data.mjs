@@ -1,0 +1,39 @@
+// The files that the tests go over, and the program that they are compared with.
+
+import { spawnSync } from "node:child_process";
+import { existsSync, readFileSync, readdirSync } from "node:fs";
+import { fileURLToPath } from "node:url";
+
+const ROOT = new URL("../../", import.meta.url);
+
+/** The path of a file of the repository. */
+export function pathOf(name) {
+  return fileURLToPath(new URL(name, ROOT));
+}
+
+export const DATA = pathOf("tools/tests/data");
+
+/** The names of the samples: files in PEM or hexadecimal. */
+export const SAMPLES = readdirSync(DATA).filter((it) => /\.(pem|hex)$/.test(it)).sort();
+
+/** The bytes of a sample. */
+export function sample(name) {
+  return new Uint8Array(readFileSync(`${DATA}/${name}`));
+}
+
+const found = process.env.CIMAROLY ?? pathOf("dist/cimaroly");
+
+/** The path of the program, or null where it isn't there. */
+export const PROGRAM = existsSync(found) ? found : null;
+
+/** What the program prints. */
+export function run(...words) {
+  return spawnSync(PROGRAM, words, { encoding: "utf-8", maxBuffer: 1 << 28 }).stdout;
+}
+
+/** The rows of the table that the tests of every binding go over, by the names of their columns. */
+export function table() {
+  const [head, ...lines] = readFileSync(pathOf("bindings/tests/table.tsv"), "utf-8").trimEnd().split("\n");
+  const names = head.split("\t");
+  return lines.map((line) => Object.fromEntries(line.split("\t").map((it, index) => [names[index], it])));
+}
