@@ -1,6 +1,5 @@
 -- What callers promise.
 pub mod AlternativeNames
-pub mod Imports
 pub mod Reports
 pub mod Requested
 pub mod Rewriting

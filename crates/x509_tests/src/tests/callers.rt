@@ -1,6 +1,5 @@
 //! The callers of `x509_callers` over a certificate and a request that OpenSSL 3.0 wrote.
 
-use bumpalo::Bump;
 use picky_asn1_x509::{
     AlgorithmIdentifier, BitString, CertificationRequestInfo, Deviation, GeneralName, KeyUsage,
     from_bytes,
@@ -8,7 +7,6 @@ use picky_asn1_x509::{
 use std::alloc::Global;
 use std::process::Abort;
 use x509_callers::checker::{is_self_issued, is_signed_in_der, read};
-use x509_callers::importer::count_deviations;
 use x509_callers::inspector::{
     Description, NameText, Report, alternative_names, common_name, located,
 };
@@ -51,17 +49,6 @@ fn a_certificate_is_checked(rt: HostRuntime) {
     assert!(rt; bytes.get(4..294) == Some(read.signed));
     assert!(rt; is_signed_in_der(&read) && is_self_issued(&read.value));
     drop(read);
-}
-
-#[test]
-fn certificates_are_imported_in_one_arena(rt: HostRuntime) {
-    let mut arena = Bump::new(rt.alloc());
-    for (digits, count) in &[(CERTIFICATE, 0), (WITHOUT_NULL, 1), (CERTIFICATE, 0)] {
-        let bytes = bytes_of(&rt, rt.alloc(), *digits);
-        assert!(rt; count_deviations(&mut arena, &bytes).ok() == Some(*count));
-    }
-    let bytes = bytes_of(&rt, rt.alloc(), REQUEST);
-    assert!(rt; count_deviations(&mut arena, &bytes).is_err());
 }
 
 #[test]
