@@ -292,11 +292,29 @@ static void plain(const char *name, const uint8_t *input, size_t n) {
 static void plain(const char *name, const uint8_t *input, size_t n) { (void)name, (void)input, (void)n; }
 #endif
 
+size_t measured_in_arena(size_t times, const uint8_t *bytes, size_t len);
+
+/* Reads in one arena that is reset after each: many times less once, so that making the arena isn't counted. */
+static void in_arena(const char *name, const uint8_t *input, size_t n) {
+  size_t times[] = {1, 101};
+  for (int i = 0; i < 2 && !is_memory; i++) {
+    char label[128];
+    if (measured_in_arena(times[i], input, n) != times[i]) fail(name, "arena");
+    snprintf(label, sizeof label, "measured %s arena-%zu 1", name, times[i]);
+    CALLGRIND_TOGGLE_COLLECT;
+    measured_in_arena(times[i], input, n);
+    CALLGRIND_TOGGLE_COLLECT;
+    CALLGRIND_DUMP_STATS_AT(label);
+  }
+}
+
 static void certificates(void) {
   WHOLE("certificate", input_certificate, CERTIFICATE);
   plain("plain-certificate", input_certificate, sizeof input_certificate);
   WHOLE("certificate-1000-names", input_certificate_1000_names, CERTIFICATE);
   plain("plain-certificate-1000-names", input_certificate_1000_names, sizeof input_certificate_1000_names);
+  in_arena("certificate", input_certificate, sizeof input_certificate);
+  in_arena("certificate-1000-names", input_certificate_1000_names, sizeof input_certificate_1000_names);
   WHOLE("request", input_request, REQUEST);
   WHOLE("private-key", input_private_key, PRIVATE_KEY);
 }

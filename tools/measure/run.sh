@@ -17,18 +17,20 @@ upper="x509_prim_parts x509_prim x509_oids_objects x509_names_parts x509_names p
 # Builds the calls as a static library over a checkout's libraries: those that .ci/run or rt check left there, or else
 # those of a copy, which are proved first.
 build() {
-  local from=$1 to=$2 list="" uses="x509_der x509_keys"
+  local from=$1 to=$2 list="" uses="x509_der x509_keys" of_kit=""
   mkdir -p "$to/crates/measured/src" "$to/crates/measured/specs" "$to/crates/measured/proofs"
   for crate in $crates; do [ ! -d "$from/crates/$crate" ] || list="$list $crate"; done
   cp "$here/calls.rt.in" "$to/crates/measured/src/lib.rt"
+
   if [ -d "$from/crates/picky_asn1_x509" ]; then
     list="$list $upper"
     uses="$uses picky_asn1_x509"
+    of_kit="bumpalo"
     cat "$here/certificates.rt.in" >> "$to/crates/measured/src/lib.rt"
   fi
   touch "$to/crates/measured/specs/Lib.antt" "$to/crates/measured/proofs/Lib.antt"
   for crate in $list; do grep "^$crate:" "$from/crates.txt"; done > "$to/crates.txt"
-  echo "measured staticlib: $uses" >> "$to/crates.txt"
+  echo "measured staticlib: $uses $of_kit" >> "$to/crates.txt"
   if is_built "$from" $list; then build_over "$from" "$to"; else build_copy "$from" "$to"; fi
 }
 
@@ -43,7 +45,8 @@ build_over() {
   local from=$1 to=$2 crate words
   words=(--crate-name measured --crate-type staticlib src/lib.rt --jobs 1 --toolchain "$kit/toolchain")
   words+=(--antt-project "$kit/rattle/logic/antt-project.json" --logic-built "$kit/logic_built")
-  words+=(--extern "std=$kit/rlibs/std.rlib" -L "dependency=$kit/rlibs")
+  for crate in std $of_kit; do words+=(--extern "$crate=$kit/rlibs/$crate.rlib"); done
+  words+=(-L "dependency=$kit/rlibs")
   for crate in $list; do words+=(-L "dependency=$from/crates/$crate/out/rlib"); done
   for crate in $uses; do words+=(--extern "$crate=$from/crates/$crate/out/rlib/$crate.rlib"); done
   mkdir -p "$to/crates/measured/out"

@@ -77,6 +77,16 @@ def wholes(new):
             row(name, *map(whole, cells))
 
 
+def arenas(new):
+    """Reading in one arena that is reset after each certificate."""
+    names = [name for name in WHOLES if (name, "arena-101") in new.counts]
+    if names:
+        head("In an arena that is reset after each", "Input", "from_bytes and reset", "from_bytes with malloc")
+        for name in names:
+            each = (new.counts[name, "arena-101"] - new.counts[name, "arena-1"]) / 100
+            row(name, whole(each), whole(new.count(name, "read")))
+
+
 def compared(new):
     """The library's certificates beside those of hand-written Rust, if they were measured."""
     names = [name for name in WHOLES if f"plain-{name}" in new.inputs]
@@ -114,6 +124,7 @@ def tables(new):
         if is_single(name):
             row(name, whole(size), str(headers), *(whole(new.count(name, call, new.alone)) for call in ("read", *USES)))
     wholes(new)
+    arenas(new)
     compared(new)
     head("By depth, instructions", "Input", "bytes", "headers", "from_bytes", "encoded_len", "to_vec", "write_to_slice")
     for name, (size, headers) in new.inputs.items():

@@ -498,8 +498,8 @@ fn is_cloned<A: Heap>(
 
 /// The test of this name, over any such allocator.
 fn parameters_are_cloned_over<A: Heap>(rt: &impl Abort, heap: A) {
-    is_cloned(rt, heap, pss(heap), 1, PSS);
-    is_cloned(rt, heap, curve(heap), 1, CURVE);
+    is_cloned(rt, heap, pss(heap), 0, PSS);
+    is_cloned(rt, heap, curve(heap), 0, CURVE);
     is_cloned(rt, heap, authenticated(heap), 2, AUTHENTICATED);
 }
 

@@ -236,8 +236,13 @@ fn is_cloned<A: Heap, T: OwnClone + PartialEq>(rt: &impl Abort, heap: A, value: 
 #[test]
 fn identifiers_are_cloned(rt: HostRuntime) {
     let heap = Refusing::new(rt.alloc());
-    let value = ObjectIdentifier::from_arcs(&heap, &[2, 5, 4, 3]).expect(&rt, "lawful arcs");
-    let before = ObjectIdentifier::from_arcs(&heap, &[2, 5, 4, 3]).expect(&rt, "lawful arcs");
+    let short = [2, 5, 4, 3];
+    let value = ObjectIdentifier::from_arcs(&heap, &short).expect(&rt, "lawful arcs");
+    let before = ObjectIdentifier::from_arcs(&heap, &short).expect(&rt, "lawful arcs");
+    assert!(rt; clones_in_turn(&heap, &value, &before) == Some(0));
+    let long = [2, 5, u64::MAX, u64::MAX, u64::MAX];
+    let value = ObjectIdentifier::from_arcs(&heap, &long).expect(&rt, "lawful arcs");
+    let before = ObjectIdentifier::from_arcs(&heap, &long).expect(&rt, "lawful arcs");
     is_cloned(&rt, &heap, value, before);
 }
 
