@@ -1,0 +1,383 @@
+/*
+ * cimaroly.h: check, encode and look into X.509 structures in DER.
+ *
+ * Every call reads the whole of its input as one structure of a kind, and answers a status. What the calls promise is
+ * proved; docs/PROVED.md says of each call what.
+ *
+ * Rules for every call:
+ *
+ * - No pointer may be NULL, also where the size beside it is 0; only memory->at may, where memory->size is 0.
+ * - What is written may overlap neither the input nor anything else that the call is given.
+ * - Nothing is kept between calls, so any number of threads may call at once, each with memory of its own.
+ * - A call never calls malloc. It works in the memory that it is lent (struct cimaroly_memory), which is the caller's
+ *   again when it returns. The forms whose names end in _malloc take that memory from malloc, ask for more where it was
+ *   too little, and free it.
+ * - A result, a size or a count is written whatever the status is, and is all zeros where nothing else is said. A
+ *   buffer is written with CIMAROLY_OK alone; with every other status it is as it was.
+ * - Places count bytes of the input from 0. A span covers the bytes start..end, without the one at end.
+ *
+ * Link with -lcimaroly. libcimaroly.a needs memcpy, memmove and memset, and nothing else. It is for x86-64 processors with
+ * SSE4.2 (x86-64-v2).
+ */
+#ifndef CIMAROLY_H
+#define CIMAROLY_H
+
+#include <stdbool.h>
+#include <stddef.h>
+#include <stdint.h>
+#include <stdlib.h>
+
+#ifdef __cplusplus
+extern "C" {
+#endif
+
+/* As what an input is read. */
+enum cimaroly_kind {
+    CIMAROLY_CERTIFICATE = 1,     /* Certificate (RFC 5280, 4.1) */
+    CIMAROLY_REQUEST = 2,         /* CertificationRequest (RFC 2986, 4) */
+    CIMAROLY_PRIVATE_KEY = 3,     /* PrivateKeyInfo, or OneAsymmetricKey (RFC 5958, 2) */
+    CIMAROLY_PUBLIC_KEY = 4,      /* SubjectPublicKeyInfo (RFC 5280, 4.1.2.7) */
+    CIMAROLY_RSA_PRIVATE_KEY = 5, /* RSAPrivateKey (RFC 8017, A.1.2) */
+    CIMAROLY_RSA_PUBLIC_KEY = 6,  /* RSAPublicKey (RFC 8017, A.1.1) */
+    CIMAROLY_EC_PRIVATE_KEY = 7,  /* ECPrivateKey (RFC 5915, 3) */
+    CIMAROLY_NAME = 8,            /* Name (RFC 5280, 4.1.2.4) */
+    CIMAROLY_EXTENSIONS = 9,      /* Extensions (RFC 5280, 4.1) */
+    CIMAROLY_ALGORITHM = 10,      /* AlgorithmIdentifier (RFC 5280, 4.1.1.2), of an algorithm that is known */
+    CIMAROLY_RAW_ALGORITHM = 11   /* AlgorithmIdentifier with any parameters */
+};
+
+/* What a call answers. */
+enum cimaroly_status {
+    CIMAROLY_OK = 0,               /* the input encodes a value of the kind, and all is done */
+    CIMAROLY_REFUSED = 1,          /* the input encodes no value of the kind; cimaroly_check says why and where */
+    CIMAROLY_OUT_OF_MEMORY = 2,    /* the memory was too little: nothing is known of the input */
+    CIMAROLY_BUFFER_TOO_SHORT = 3, /* the size or the count that is needed is told, and the buffer is as it was */
+    CIMAROLY_UNKNOWN_KIND = 4,     /* the number is that of no kind, or of none that the call is for */
+    CIMAROLY_TOO_LONG = 5          /* what is to be written has 2^64 bytes or more */
+};
+
+/* Why an input is refused. */
+enum cimaroly_error {
+    CIMAROLY_ERROR_OUT_OF_MEMORY = 1,
+    CIMAROLY_ERROR_TRUNCATED = 2,
+    CIMAROLY_ERROR_LEFT_OVER = 3,
+    CIMAROLY_ERROR_WRONG_TAG = 4,
+    CIMAROLY_ERROR_BAD_LENGTH = 5,
+    CIMAROLY_ERROR_BAD_NUMBER = 6,
+    CIMAROLY_ERROR_BAD_BOOLEAN = 7,
+    CIMAROLY_ERROR_BAD_BITS = 8,
+    CIMAROLY_ERROR_BAD_OID = 9,
+    CIMAROLY_ERROR_BAD_TEXT = 10,
+    CIMAROLY_ERROR_BAD_TIME = 11,
+    CIMAROLY_ERROR_BAD_VERSION = 12,
+    CIMAROLY_ERROR_UNSUPPORTED = 13,
+    CIMAROLY_ERROR_UNIQUE_ID_NEEDS_V2 = 14,
+    CIMAROLY_ERROR_EXTENSIONS_NEED_V3 = 15
+};
+
+/* How an input that is read deviates from the one form that is written. README has a line on each. */
+enum cimaroly_deviation {
+    CIMAROLY_RSA_PARAMETERS_ABSENT = 1,
+    CIMAROLY_ALGORITHM_PARAMETERS_ABSENT = 2,
+    CIMAROLY_HASH_PARAMETERS_ABSENT = 3,
+    CIMAROLY_SALT_TOO_LARGE = 4,
+    CIMAROLY_DEFAULT_VERSION_ENCODED = 5,
+    CIMAROLY_EMPTY_EXTENSIONS_ENCODED = 6,
+    CIMAROLY_DEFAULT_CRITICALITY_ENCODED = 7,
+    CIMAROLY_AUTHORITY_KEY_FIELD_ORDER = 8,
+    CIMAROLY_GENERAL_NAME_FORM = 9,
+    CIMAROLY_SKIPPED_KEY_ELEMENT = 10
+};
+
+/*
+ * Memory that a call works in. `at` is aligned to 16, as what malloc gives. Sizes are in bytes; what stands behind the
+ * last multiple of 16 isn't used. The call writes both fields, and they are as they were when it returns. A certificate
+ * needs some 15 times its size and a few thousand bytes, a list of many small items up to 70 times its size, and
+ * cimaroly_report up to three times as much.
+ */
+struct cimaroly_memory {
+    void *at;
+    size_t size;
+};
+
+/* Bytes of the input, from `start` up to `end`. Of what the input doesn't have, both are 0. */
+struct cimaroly_span {
+    size_t start;
+    size_t end;
+};
+
+/* What a check finds. */
+struct cimaroly_verdict {
+    size_t counts[10]; /* how many deviations there are, that with number 1 first */
+    size_t headers;    /* how many headers of elements were decoded, also where the input is refused */
+    size_t error;      /* the cimaroly_error, or 0 */
+    size_t at;         /* the byte that the error stands at */
+};
+
+/* A deviation, and what it covers. */
+struct cimaroly_place {
+    size_t deviation; /* the cimaroly_deviation */
+    size_t start;
+    size_t end;
+};
+
+/* What the signature of a certificate or a request covers. */
+struct cimaroly_signed {
+    struct cimaroly_span part; /* the bytes that go to the verifier of signatures */
+    size_t inside[10];         /* how many deviations stand in them: if none does, they are in DER */
+    size_t outside[10];        /* how many stand outside of them */
+};
+
+/* Where the fields of a certificate stand, each with its tag and its length (RFC 5280, 4.1). */
+struct cimaroly_certificate {
+    struct cimaroly_span tbs_certificate;
+    struct cimaroly_span version; /* or none */
+    struct cimaroly_span serial_number;
+    struct cimaroly_span signature;
+    struct cimaroly_span issuer;
+    struct cimaroly_span validity;
+    struct cimaroly_span subject;
+    struct cimaroly_span subject_public_key_info;
+    struct cimaroly_span issuer_unique_id;  /* or none */
+    struct cimaroly_span subject_unique_id; /* or none */
+    struct cimaroly_span extensions;        /* or none */
+    struct cimaroly_span signature_algorithm;
+    struct cimaroly_span signature_value;
+};
+
+/* Where the fields of a request stand, each with its tag and its length (RFC 2986, 4). */
+struct cimaroly_request {
+    struct cimaroly_span certification_request_info;
+    struct cimaroly_span version;
+    struct cimaroly_span subject;
+    struct cimaroly_span subject_public_key_info;
+    struct cimaroly_span attributes;
+    struct cimaroly_span signature_algorithm;
+    struct cimaroly_span signature;
+};
+
+/* Where the fields of a private key stand, each with its tag and its length (RFC 5958, 2). */
+struct cimaroly_private_key {
+    struct cimaroly_span version;
+    struct cimaroly_span private_key_algorithm;
+    struct cimaroly_span private_key;
+    struct cimaroly_span skipped;    /* an element that isn't understood, such as attributes [0], or none */
+    struct cimaroly_span public_key; /* or none */
+};
+
+/* Where an extension and its fields stand, each with its tag and its length (RFC 5280, 4.1). */
+struct cimaroly_extension {
+    struct cimaroly_span whole;
+    struct cimaroly_span extn_id;
+    struct cimaroly_span critical; /* or none, where it is left out */
+    struct cimaroly_span extn_value;
+};
+
+/*
+ * Whether the input encodes a value of the kind, and how it deviates from the value's DER encoding.
+ *
+ * CIMAROLY_OK: it does; it is the DER encoding exactly where all ten counts are 0.
+ * CIMAROLY_REFUSED: it doesn't; `error` and `at` say why and where.
+ * CIMAROLY_OUT_OF_MEMORY: `error` is 1.
+ * CIMAROLY_UNKNOWN_KIND.
+ */
+uint32_t cimaroly_check(struct cimaroly_memory *memory, uint32_t kind, const uint8_t *der, size_t der_size,
+                        struct cimaroly_verdict *verdict);
+
+/*
+ * Writes the DER encoding of the value that the input encodes to the front of `out`, which has room for `out_size`
+ * bytes. Where the input has no deviation, these are its own bytes.
+ *
+ * CIMAROLY_OK, CIMAROLY_BUFFER_TOO_SHORT: *size is the encoding's.
+ * CIMAROLY_REFUSED, CIMAROLY_OUT_OF_MEMORY, CIMAROLY_UNKNOWN_KIND, CIMAROLY_TOO_LONG.
+ */
+uint32_t cimaroly_encode(struct cimaroly_memory *memory, uint32_t kind, const uint8_t *der, size_t der_size,
+                         uint8_t *out, size_t out_size, size_t *size);
+
+/*
+ * Writes where each deviation stands to the front of `places`, which has room for `room` of them: by start, and then by
+ * deviation.
+ *
+ * CIMAROLY_OK, CIMAROLY_BUFFER_TOO_SHORT: *count is how many there are.
+ * CIMAROLY_REFUSED, CIMAROLY_OUT_OF_MEMORY, CIMAROLY_UNKNOWN_KIND.
+ */
+uint32_t cimaroly_places(struct cimaroly_memory *memory, uint32_t kind, const uint8_t *der, size_t der_size,
+                         struct cimaroly_place *places, size_t room, size_t *count);
+
+/*
+ * What the signature of a certificate or a request covers.
+ *
+ * CIMAROLY_OK, CIMAROLY_REFUSED, CIMAROLY_OUT_OF_MEMORY.
+ * CIMAROLY_UNKNOWN_KIND: `kind` is neither CIMAROLY_CERTIFICATE nor CIMAROLY_REQUEST.
+ */
+uint32_t cimaroly_signed_part(struct cimaroly_memory *memory, uint32_t kind, const uint8_t *der, size_t der_size,
+                              struct cimaroly_signed *part);
+
+/*
+ * Where the fields of a certificate, a request or a private key stand.
+ *
+ * CIMAROLY_OK, CIMAROLY_REFUSED, CIMAROLY_OUT_OF_MEMORY.
+ */
+uint32_t cimaroly_certificate_fields(struct cimaroly_memory *memory, const uint8_t *der, size_t der_size,
+                                     struct cimaroly_certificate *fields);
+uint32_t cimaroly_request_fields(struct cimaroly_memory *memory, const uint8_t *der, size_t der_size,
+                                 struct cimaroly_request *fields);
+uint32_t cimaroly_private_key_fields(struct cimaroly_memory *memory, const uint8_t *der, size_t der_size,
+                                     struct cimaroly_private_key *fields);
+
+/*
+ * Writes where each extension stands, in the order of the input, to the front of `extensions`, which has room for
+ * `room` of them.
+ *
+ * CIMAROLY_OK, CIMAROLY_BUFFER_TOO_SHORT: *count is how many there are.
+ * CIMAROLY_REFUSED, CIMAROLY_OUT_OF_MEMORY.
+ * CIMAROLY_UNKNOWN_KIND: `kind` is neither CIMAROLY_CERTIFICATE nor CIMAROLY_EXTENSIONS.
+ */
+uint32_t cimaroly_extensions(struct cimaroly_memory *memory, uint32_t kind, const uint8_t *der, size_t der_size,
+                             struct cimaroly_extension *extensions, size_t room, size_t *count);
+
+/*
+ * Writes what stands in the input to the front of `out`, which has room for `out_size` bytes: one JSON object in UTF-8,
+ * without a line feed or a zero behind it. docs/JSON.md tells its members, of which `file`, `line` and `label` aren't
+ * there. The secret numbers of private keys are left out unless `secrets` is true.
+ *
+ * CIMAROLY_OK, CIMAROLY_BUFFER_TOO_SHORT: *size is the object's. Also where the input is refused: then the object says
+ * why and where.
+ * CIMAROLY_OUT_OF_MEMORY, CIMAROLY_UNKNOWN_KIND.
+ */
+uint32_t cimaroly_report(struct cimaroly_memory *memory, uint32_t kind, const uint8_t *der, size_t der_size,
+                         bool secrets, uint8_t *out, size_t out_size, size_t *size);
+
+/* The name of an error, in plain words; of another number "". */
+static inline const char *cimaroly_error_name(size_t error)
+{
+    static const char *const names[] = {
+        "",
+        "out of memory",
+        "truncated element",
+        "bytes left over",
+        "wrong tag",
+        "malformed length",
+        "malformed number",
+        "malformed truth value",
+        "malformed bit string",
+        "malformed object identifier",
+        "character not allowed",
+        "malformed time",
+        "unknown version",
+        "unsupported algorithm or choice",
+        "unique identifier without version 2",
+        "extensions without version 3",
+    };
+    return names[error < sizeof names / sizeof *names ? error : 0];
+}
+
+/* The name of a deviation, in plain words; of another number "". */
+static inline const char *cimaroly_deviation_name(size_t deviation)
+{
+    static const char *const names[] = {
+        "",
+        "RSA parameters absent",
+        "algorithm parameters absent",
+        "hash parameters absent",
+        "salt length too large",
+        "default version encoded",
+        "empty extensions encoded",
+        "default criticality encoded",
+        "authority key fields repeated or out of order",
+        "general name under the other kind of tag",
+        "element skipped behind a private key",
+    };
+    return names[deviation < sizeof names / sizeof *names ? deviation : 0];
+}
+
+/*
+ * Takes memory from malloc for a call on so many bytes, more than `memory` has, which is freed. False where malloc
+ * refuses it: then there is none. Begin with { NULL, 0 }, and free(memory->at) at last.
+ */
+static inline bool cimaroly_more_memory(struct cimaroly_memory *memory, size_t der_size)
+{
+    size_t size = 0;
+    if (memory->size > 0)
+        size = memory->size <= SIZE_MAX / 8 ? 4 * memory->size : 0;
+    else if (der_size <= SIZE_MAX / 64)
+        size = 16 * der_size + 16384;
+    free(memory->at);
+    memory->at = size > 0 ? malloc(size) : NULL;
+    memory->size = memory->at != NULL ? size : 0;
+    return memory->at != NULL;
+}
+
+/*
+ * The calls over memory from malloc. CIMAROLY_OUT_OF_MEMORY: malloc refused it, and the results are as they were or all
+ * zeros.
+ */
+#define CIMAROLY_OVER_MALLOC(der_size, call)                                                                         \
+    struct cimaroly_memory lent = {NULL, 0};                                                                         \
+    struct cimaroly_memory *memory = &lent;                                                                          \
+    uint32_t status = CIMAROLY_OUT_OF_MEMORY;                                                                        \
+    while (status == CIMAROLY_OUT_OF_MEMORY && cimaroly_more_memory(memory, der_size))                               \
+        status = call;                                                                                               \
+    free(lent.at);                                                                                                   \
+    return status
+
+static inline uint32_t cimaroly_check_malloc(uint32_t kind, const uint8_t *der, size_t der_size,
+                                             struct cimaroly_verdict *verdict)
+{
+    CIMAROLY_OVER_MALLOC(der_size, cimaroly_check(memory, kind, der, der_size, verdict));
+}
+
+static inline uint32_t cimaroly_encode_malloc(uint32_t kind, const uint8_t *der, size_t der_size, uint8_t *out,
+                                              size_t out_size, size_t *size)
+{
+    CIMAROLY_OVER_MALLOC(der_size, cimaroly_encode(memory, kind, der, der_size, out, out_size, size));
+}
+
+static inline uint32_t cimaroly_places_malloc(uint32_t kind, const uint8_t *der, size_t der_size,
+                                              struct cimaroly_place *places, size_t room, size_t *count)
+{
+    CIMAROLY_OVER_MALLOC(der_size, cimaroly_places(memory, kind, der, der_size, places, room, count));
+}
+
+static inline uint32_t cimaroly_signed_part_malloc(uint32_t kind, const uint8_t *der, size_t der_size,
+                                                   struct cimaroly_signed *part)
+{
+    CIMAROLY_OVER_MALLOC(der_size, cimaroly_signed_part(memory, kind, der, der_size, part));
+}
+
+static inline uint32_t cimaroly_certificate_fields_malloc(const uint8_t *der, size_t der_size,
+                                                          struct cimaroly_certificate *fields)
+{
+    CIMAROLY_OVER_MALLOC(der_size, cimaroly_certificate_fields(memory, der, der_size, fields));
+}
+
+static inline uint32_t cimaroly_request_fields_malloc(const uint8_t *der, size_t der_size,
+                                                      struct cimaroly_request *fields)
+{
+    CIMAROLY_OVER_MALLOC(der_size, cimaroly_request_fields(memory, der, der_size, fields));
+}
+
+static inline uint32_t cimaroly_private_key_fields_malloc(const uint8_t *der, size_t der_size,
+                                                          struct cimaroly_private_key *fields)
+{
+    CIMAROLY_OVER_MALLOC(der_size, cimaroly_private_key_fields(memory, der, der_size, fields));
+}
+
+static inline uint32_t cimaroly_extensions_malloc(uint32_t kind, const uint8_t *der, size_t der_size,
+                                                  struct cimaroly_extension *extensions, size_t room, size_t *count)
+{
+    CIMAROLY_OVER_MALLOC(der_size, cimaroly_extensions(memory, kind, der, der_size, extensions, room, count));
+}
+
+static inline uint32_t cimaroly_report_malloc(uint32_t kind, const uint8_t *der, size_t der_size, bool secrets,
+                                              uint8_t *out, size_t out_size, size_t *size)
+{
+    CIMAROLY_OVER_MALLOC(der_size, cimaroly_report(memory, kind, der, der_size, secrets, out, out_size, size));
+}
+
+#undef CIMAROLY_OVER_MALLOC
+
+#ifdef __cplusplus
+}
+#endif
+#endif
