@@ -45,6 +45,12 @@ function octets(text) {
   return { kind: "octets", text: front + shortHex(text), whole: text };
 }
 
+// What an extension holds that isn't known: always with its length.
+function kept({ length, value }) {
+  const size = counted(length, "byte");
+  return { kind: "octets", text: length === 0 ? size : `${size}, ${shortHex(value)}`, whole: value || size };
+}
+
 // The tag of the element whose content a string of the report has in hexadecimal, 0 where it has a whole element, and
 // null where it has none.
 function heldTag(text, bytes, elements) {
@@ -136,6 +142,7 @@ export function valueOf(label, node, bytes) {
   }
   if (value === undefined || isNode(value)) return null;
   if (node.bits !== undefined) return sized(node, bytes);
+  if (node.length !== undefined) return kept(node);
   if (value === null) return word("NULL");
   if (Array.isArray(value)) return word(value.join(", "));
   if (typeof value === "object") return identifier(value);
