@@ -181,8 +181,8 @@ pub extern "C" fn cimaroly_extensions(
     extensions: &mut [FlatExtension],
     count: &mut usize,
 ) -> u32
-    ensures certificate { kind ≡ 1 → Answers result (λ status. ExtensionsTold (certificate {A = Arena}) (λ v. length v.tbs_certificate.extensions) der.now extensions.old extensions.new status count.new) }
-    ensures list { kind ≡ 9 → Answers result (λ status. ExtensionsTold (list_shape {A = Arena}) length der.now extensions.old extensions.new status count.new) }
+    ensures certificate { kind ≡ 1 → Answers result (λ status. ExtensionsTold (certificate {A = Arena}) (λ v. v.tbs_certificate.extensions) der.now extensions.old extensions.new status count.new) }
+    ensures list { kind ≡ 9 → Answers result (λ status. ExtensionsTold (list_shape {A = Arena}) (λ v. v) der.now extensions.old extensions.new status count.new) }
     ensures unknown { (kind ≡ 1 → ⊥) → (kind ≡ 9 → ⊥) → (result ≡ 4) × Untouched extensions.old extensions.new count.new }
 {
     if kind != 1 && kind != 9 {

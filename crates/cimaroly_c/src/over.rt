@@ -132,7 +132,7 @@ pub(crate) fn certificate_extensions(
     bytes: &[u8],
     out: &mut [FlatExtension],
 ) -> Sized
-    ensures { ExtensionsTold (certificate {A = Arena}) (λ v. length v.tbs_certificate.extensions) bytes.now out.old out.new result.status result.size }
+    ensures { ExtensionsTold (certificate {A = Arena}) (λ v. v.tbs_certificate.extensions) bytes.now out.old out.new result.status result.size }
 {
     let arena = arena(block);
     of_certificate(&arena, bytes, out)
@@ -140,7 +140,7 @@ pub(crate) fn certificate_extensions(
 
 /// The extensions of a list.
 pub(crate) fn list_extensions(block: &OneBlock, bytes: &[u8], out: &mut [FlatExtension]) -> Sized
-    ensures { ExtensionsTold (extensions {A = Arena}) length bytes.now out.old out.new result.status result.size }
+    ensures { ExtensionsTold (extensions {A = Arena}) (λ v. v) bytes.now out.old out.new result.status result.size }
 {
     let arena = arena(block);
     of_extensions(&arena, bytes, out)

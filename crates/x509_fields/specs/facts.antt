@@ -4,5 +4,6 @@ pub mod Steps
 pub mod Fields
 pub mod Certificates
 pub mod Extensions
+pub mod ExtensionLists
 pub mod Keys
 pub mod Requests

@@ -4,6 +4,7 @@
 
 pub mod certificate;
 pub mod extension;
+pub mod extension_list;
 pub mod private_key;
 pub mod request;
 pub mod span;
@@ -11,6 +12,7 @@ pub mod walk;
 
 pub use crate::certificate::{CertificateFields, TbsCertificateFields};
 pub use crate::extension::ExtensionFields;
+pub use crate::extension_list::{certificate_extensions, listed_extensions};
 pub use crate::private_key::PrivateKeyInfoFields;
 pub use crate::request::{CertificationRequestFields, CertificationRequestInfoFields};
 pub use crate::span::Span;

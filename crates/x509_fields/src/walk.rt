@@ -1,6 +1,7 @@
 //! A walk over elements that stand one behind another.
 
-ghost use Rattle.std.specs.Prelude.{◌≡◌, ◌+◌, ◌<◌, ◌^◌, length};
+ghost use Rattle.std.specs.Prelude.{◌≡◌, ◌+◌, ◌<◌, ◌^◌, List, ℕ, length};
+ghost use Rattle.x509_fields.specs.Slices.{Covers};
 ghost use Rattle.x509_fields.specs.Walks.{Inside, Steps, StepsIf, StepsUnless};
 
 use crate::span::Span;
@@ -33,6 +34,17 @@ impl<'a> Walk<'a> {
         ensures at { result.at ≡ 0 }
     {
         Walk { rest: bytes, at: 0 }
+    }
+
+    /// The elements in a span of an input: none where the span doesn't lie in it.
+    pub fn over(bytes: &'a [u8], span: Span) -> Self
+        ensures { (slice : List ℕ) → Covers bytes.now span.start span.end slice → (result.rest ≡ slice) × (result.at ≡ span.start) }
+    {
+        let at = span.start;
+        match span.slice(bytes) {
+            Some(rest) => Walk { rest, at },
+            None => Walk { rest: &[], at },
+        }
     }
 
     /// Goes past the next element, and answers where it stands: an empty span where none does.

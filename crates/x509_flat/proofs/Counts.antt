@@ -1,14 +1,13 @@
--- What is told of as many extensions.
-use Rattle.std.proofs.Common.{◌≡◌, ℕ, List, length, subst}
-use Rattle.picky_asn1_x509.specs.declared.certificate.Certificate.{Certificate}
-use Rattle.x509_flat.specs.Extensions.{Front, NoRoom}
+-- What is told of the same extensions.
+use Rattle.std.proofs.Common.{◌≡◌, ℕ, List, subst}
+use Rattle.x509_der.specs.Tally.{Tally}
+use Rattle.picky_asn1_x509.specs.Extensions.{ExtensionFields}
+use Rattle.x509_flat.specs.Extensions.{Front, PutsExtensions}
 use Rattle.x509_flat.specs.declared.extensions.FlatExtension.{FlatExtension}
+use Rattle.x509_flat.specs.declared.status.Status.{Status}
 
-pub front_of : (n m : ℕ) (old new : List FlatExtension) (size : ℕ) → n ≡ m → Front n old new size → Front m old new size
-front_of n m old new size e = let P : ℕ → Type 0 = λ k. Front k old new size in subst P e
+pub sized_front : {A : Type 0} (list : List (ExtensionFields A)) (string : List ℕ) (whole : Tally) (old new : List FlatExtension) (n m : ℕ) → n ≡ m → Front list string whole old new n → Front list string whole old new m
+sized_front list string whole old new n m e = let P : ℕ → Type 0 = λ k. Front list string whole old new k in subst P e
 
-pub no_room_of : (n m : ℕ) (old new : List FlatExtension) (size : ℕ) → n ≡ m → NoRoom n old new size → NoRoom m old new size
-no_room_of n m old new size e = let P : ℕ → Type 0 = λ k. NoRoom k old new size in subst P e
-
-pub count_of : {A : Type 0} (n : ℕ) (v w : Certificate A) → n ≡ length v.tbs_certificate.extensions → v ≡ w → n ≡ length w.tbs_certificate.extensions
-count_of {A = A} n v w e is = let P : Certificate A → Type 0 = λ x. n ≡ length x.tbs_certificate.extensions in subst P is e
+pub puts_of : {A : Type 0} (list same : List (ExtensionFields A)) (string : List ℕ) (at : ℕ) (slice : List ℕ) (old new : List FlatExtension) (status : Status) (size : ℕ) → list ≡ same → PutsExtensions list string at slice old new status size → PutsExtensions same string at slice old new status size
+puts_of {A} list same string at slice old new status size e = let P : List (ExtensionFields A) → Type 0 = λ l. PutsExtensions l string at slice old new status size in subst P e

@@ -1,3 +1,4 @@
 -- Lemmas about what the calls answer.
 pub mod Counts
+pub mod ExtensionPlaces
 pub mod SignedParts

@@ -15,7 +15,7 @@ use Rattle.x509_names.specs.Names.{name}
 use Rattle.picky_asn1_x509.specs.Certificates.{certificate}
 use Rattle.picky_asn1_x509.specs.ExtensionLists.{extensions}
 use Rattle.picky_asn1_x509.specs.Requests.{request}
-use Rattle.picky_asn1_x509.specs.Types.{ReadError, Refused}
+use Rattle.picky_asn1_x509.specs.Types.{Refused}
 use Rattle.picky_asn1_x509.specs.Types.read_error as read_error
 use Rattle.x509_flat.specs.Statuses.{OnlyReads}
 use Rattle.x509_flat.specs.declared.check.Verdict.{Verdict}

@@ -1,15 +1,20 @@
 //! Where extensions stand.
 
-ghost use Rattle.std.specs.Prelude.{◌≡◌, ◌≤◌, length, drop};
+ghost use Rattle.std.specs.Prelude.{◌≡◌, ◌+◌, ◌<◌, ◌≤◌, ◌^◌, List, ℕ, length};
+ghost use Rattle.x509_der.specs.Items.{ItemsAt};
+ghost use Rattle.x509_der.specs.Tally.{Tally};
 ghost use Rattle.picky_asn1_x509.specs.Certificates.{certificate};
 ghost use Rattle.picky_asn1_x509.specs.ExtensionLists.{extensions};
-ghost use Rattle.x509_flat.specs.Extensions.{PutsExtensions, ExtensionsTold};
+ghost use Rattle.picky_asn1_x509.specs.Extensions.{extension as extension_shape};
+ghost use Rattle.x509_fields.specs.Spans.{FieldIn};
+ghost use Rattle.x509_flat.specs.Extensions.{ExtensionStands, ExtensionsTold, Front, PutsExtensions};
+ghost use Rattle.x509_flat.specs.Spans.{flat_span};
 
 use crate::span::FlatSpan;
 use crate::status::{Sized, Status, unsized_of};
-use picky_asn1_x509::{Certificate, Extension, Extensions, from_bytes};
+use picky_asn1_x509::{Certificate, Extension, Extensions, from_bytes, laws};
 use std::alloc::Allocator;
-use x509_fields::{CertificateFields, ExtensionFields, Span, Walk};
+use x509_fields::{ExtensionFields, Span, Walk, certificate_extensions, listed_extensions};
 
 /// Where an extension and its fields stand, each with its tag and its length (RFC 5280, 4.1).
 #[repr(C)]
@@ -26,60 +31,61 @@ pub struct FlatExtension {
 }
 
 /// A span behind more bytes.
-fn behind(start: usize, span: Span) -> FlatSpan {
+fn behind(start: usize, span: Span) -> FlatSpan
+    ensures start { start + span.start < 2 ^ 64 → result.start ≡ start + span.start }
+    ensures end { start + span.end < 2 ^ 64 → result.end ≡ start + span.end }
+{
     FlatSpan {
         start: start.saturating_add(span.start),
         end: start.saturating_add(span.end),
     }
 }
 
-/// An extension that a span of a slice encodes, which stands behind more bytes.
-fn placed<A: Allocator + Copy>(
-    extension: &Extension<A>,
-    slice: &[u8],
-    start: usize,
-    span: Span,
-) -> FlatExtension {
-    let whole = behind(start, span);
-    let item = span.slice(slice).unwrap_or(&[]);
-    let fields = ExtensionFields::of(extension, item);
+/// Where an extension and its fields stand in an input, of which a span encodes it.
+fn placed<A: Allocator + Copy>(extension: &Extension<A>, bytes: &[u8], span: Span) -> FlatExtension
+    ensures whole { result.whole ≡ flat_span span }
+    ensures stands { (whole : Tally) → FieldIn (extension_shape {A = A}) extension.now span bytes.now whole → ExtensionStands extension.now result bytes.now whole }
+{
+    let slice = span.slice(bytes).unwrap_or(&[]);
+    let fields = ExtensionFields::of(extension, slice);
     FlatExtension {
-        whole,
-        extn_id: behind(whole.start, fields.extn_id),
+        whole: FlatSpan::of(span),
+        extn_id: behind(span.start, fields.extn_id),
         critical: match fields.critical {
-            Some(critical) => behind(whole.start, critical),
+            Some(critical) => behind(span.start, critical),
             None => FlatSpan { start: 0, end: 0 },
         },
-        extn_value: behind(whole.start, fields.extn_value),
+        extn_value: behind(span.start, fields.extn_value),
     }
 }
 
-/// Writes where the extensions stand of a list, which the slice encodes, behind more bytes.
+/// Writes where the extensions of a list stand in an input, which are walked over.
 fn write_places<A: Allocator + Copy>(
     list: &[Extension<A>],
-    slice: &[u8],
-    start: usize,
+    bytes: &[u8],
+    items: Walk<'_>,
     out: &mut [FlatExtension],
 )
     requires { length list.now ≤ length out.old }
-    ensures { drop (length list.now) out.new ≡ drop (length list.now) out.old }
+    ensures { (whole : Tally) → ItemsAt (extension_shape {A = A}) bytes.now whole list.now items.entry.at items.entry.rest → Front list.now bytes.now whole out.old out.new (length list.now) }
 {
-    let mut items = Walk::of(slice).inside();
+    laws::spellings_are_lawful::<Extension<A>, A>();
+    let mut items = items;
     for (index, extension) in list.iter().enumerate() {
         let span = items.next();
-        out[index] = placed(extension, slice, start, span);
+        out[index] = placed(extension, bytes, span);
     }
 }
 
-/// Writes where the extensions stand of a list to the front of a slice that may be too short, and tells how many there
+/// Writes where the extensions of a list stand to the front of a slice that may be too short, and tells how many there
 /// are.
 fn put_places<A: Allocator + Copy>(
     list: &[Extension<A>],
-    slice: &[u8],
-    start: usize,
+    bytes: &[u8],
+    items: Walk<'_>,
     out: &mut [FlatExtension],
 ) -> Sized
-    ensures { PutsExtensions (length list.now) out.old out.new result.status result.size }
+    ensures { PutsExtensions list.now bytes.now items.entry.at items.entry.rest out.old out.new result.status result.size }
 {
     let size = list.len();
     if out.len() < size {
@@ -88,25 +94,10 @@ fn put_places<A: Allocator + Copy>(
             size,
         };
     }
-    write_places(list, slice, start, out);
+    write_places(list, bytes, items, out);
     Sized {
         status: Status::Done,
         size,
-    }
-}
-
-/// The list under the tag `[3]`, and how many bytes stand before it.
-fn list_under(bytes: &[u8], tagged: Option<Span>) -> (&[u8], usize) {
-    let Some(tagged) = tagged else {
-        return (&[], 0);
-    };
-    let Some(slice) = tagged.slice(bytes) else {
-        return (&[], 0);
-    };
-    let list = Walk::of(slice).inside().next();
-    match list.slice(slice) {
-        Some(list_slice) => (list_slice, tagged.start.saturating_add(list.start)),
-        None => (&[], 0),
     }
 }
 
@@ -116,13 +107,12 @@ pub fn of_certificate<A: Allocator + Copy>(
     bytes: &[u8],
     out: &mut [FlatExtension],
 ) -> Sized
-    ensures { ExtensionsTold (certificate {A = A}) (λ v. length v.tbs_certificate.extensions) bytes.now out.old out.new result.status result.size }
+    ensures { ExtensionsTold (certificate {A = A}) (λ v. v.tbs_certificate.extensions) bytes.now out.old out.new result.status result.size }
 {
     match from_bytes::<Certificate<A>, A>(alloc, bytes) {
         Ok(value) => {
-            let places = CertificateFields::of(&value, bytes);
-            let (slice, start) = list_under(bytes, places.fields.extensions);
-            let sized = put_places(&value.tbs_certificate.extensions.0, slice, start, out);
+            let items = certificate_extensions(&value, bytes);
+            let sized = put_places(&value.tbs_certificate.extensions.0, bytes, items, out);
             drop(value);
             sized
         }
@@ -136,11 +126,12 @@ pub fn of_extensions<A: Allocator + Copy>(
     bytes: &[u8],
     out: &mut [FlatExtension],
 ) -> Sized
-    ensures { ExtensionsTold (extensions {A = A}) length bytes.now out.old out.new result.status result.size }
+    ensures { ExtensionsTold (extensions {A = A}) (λ v. v) bytes.now out.old out.new result.status result.size }
 {
     match from_bytes::<Extensions<A>, A>(alloc, bytes) {
         Ok(value) => {
-            let sized = put_places(&value.0, bytes, 0, out);
+            let items = listed_extensions(&value, bytes);
+            let sized = put_places(&value.0, bytes, items, out);
             drop(value);
             sized
         }

@@ -1,5 +1,5 @@
 -- A walk over what is signed of a certificate.
-use Rattle.std.proofs.Common.{◌≡◌, ℕ, ◌+◌, ◌==◌, ◌<◌, true, false, List, [], ◌∷◌, ◌++◌, length, refl, sym, ap, ◌∙◌, subst, arith, append-nil, length-append, lit<, Option}
+use Rattle.std.proofs.Common.{◌≡◌, ℕ, ◌+◌, ◌==◌, List, [], ◌++◌, length, refl, sym, ap, ◌∙◌, subst, arith, append-nil, length-append, lit<}
 use Rattle.x509_der.specs.BitString.{bit_strings}
 use Rattle.x509_der.specs.Element.{element, header}
 use Rattle.x509_der.specs.Fields.{Stands}
@@ -21,7 +21,6 @@ use Rattle.picky_asn1_x509.specs.declared.certificate.Certificate.{Certificate}
 use Rattle.picky_asn1_x509.specs.declared.tbs_certificate.TbsCertificate.{TbsCertificate}
 use Rattle.x509_fields.specs.Certificates.{TbsFieldsIn, TbsIn, CertificateIn}
 use Rattle.x509_fields.specs.Walks.{Walk, Steps, StepsIf, Inside}
-use Rattle.x509_fields.specs.declared.span.Span.{Span}
 use Rattle.x509_fields.specs.declared.certificate.TbsCertificateFields.{TbsCertificateFields}
 use Rattle.x509_fields.specs.declared.certificate.CertificateFields.{CertificateFields}
 use Rattle.x509_fields.specs.facts.Fields.{Before, append_one, at_front, at_back, field_step, optional_step, other_tag, other_tag_if, element_raw, whole_content}

@@ -1,9 +1,8 @@
 -- A walk over an extension.
-use Rattle.std.proofs.Common.{◌≡◌, ℕ, ◌+◌, ◌==◌, ◌<◌, true, false, List, [], ◌++◌, length, refl, sym, ap, ◌∙◌, append-nil, lit<, arith, length-append}
+use Rattle.std.proofs.Common.{◌≡◌, ℕ, ◌+◌, List, [], ◌++◌, length, refl, sym, ap, ◌∙◌, append-nil, lit<, arith, length-append}
 use Rattle.x509_der.specs.Boolean.{booleans}
-use Rattle.x509_der.specs.Element.{element, header}
+use Rattle.x509_der.specs.Element.{header}
 use Rattle.x509_der.specs.ObjectIdentifier.{oids}
-use Rattle.x509_der.specs.Shape.{Follows}
 use Rattle.x509_der.specs.Tagged.{tagged}
 use Rattle.x509_der.specs.Tally.{Tally}
 use Rattle.x509_der.specs.laws.Tagged.{tagged_element}

@@ -1,5 +1,5 @@
 -- A walk over fields that stand one behind another.
-use Rattle.std.proofs.Common.{◌≡◌, ℕ, ◌+◌, ◌==◌, ◌<◌, true, false, List, [], ◌∷◌, ◌++◌, length, refl, sym, ap, ◌∙◌, subst, arith, length-append, Option, Some, None}
+use Rattle.std.proofs.Common.{◌≡◌, ℕ, ◌+◌, ◌==◌, ◌<◌, true, false, List, [], ◌∷◌, ◌++◌, length, refl, sym, ap, ◌∙◌, subst, arith, Option, Some, None}
 use Rattle.x509_der.specs.Element.{IsRaw, element, header, is_tag}
 use Rattle.x509_der.specs.Fields.{FieldAt}
 use Rattle.x509_der.specs.Optional.{Optional, OptionalAt}

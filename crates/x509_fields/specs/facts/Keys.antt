@@ -1,9 +1,7 @@
 -- A walk over a private key with its algorithm.
-use Rattle.std.proofs.Common.{◌≡◌, ℕ, ◌+◌, ◌==◌, ◌<◌, Bool, true, false, not, eqb, List, [], ◌++◌, length, refl, sym, ap, ◌∙◌, append-nil, lit<, arith, length-append, Option, Some, None}
+use Rattle.std.proofs.Common.{◌≡◌, ℕ, ◌+◌, ◌==◌, Bool, true, false, not, eqb, List, [], ◌++◌, length, refl, sym, ap, ◌∙◌, append-nil, lit<, arith, length-append, Option, Some, None}
 use Rattle.x509_der.specs.Element.{element, header}
 use Rattle.x509_der.specs.Optional.{OptionalAt}
-use Rattle.x509_der.specs.RawElement.{Raw}
-use Rattle.x509_der.specs.RawIn.{raws_in}
 use Rattle.x509_der.specs.Shape.{Begins, IsElement}
 use Rattle.x509_der.specs.SmallInteger.{small_integers}
 use Rattle.x509_der.specs.BitString.{bit_strings}
@@ -20,7 +18,7 @@ use Rattle.x509_fields.specs.Keys.{PrivateKeyIn}
 use Rattle.x509_fields.specs.Walks.{Walk, Steps, StepsIf, StepsUnless}
 use Rattle.x509_fields.specs.declared.private_key.PrivateKeyInfoFields.{PrivateKeyInfoFields}
 use Rattle.x509_fields.specs.declared.span.Span.{Span}
-use Rattle.x509_fields.specs.facts.Fields.{Before, Behind, FoundIf, at_front, at_back, append_one, empty_behind, field_step, raw_step, optional_step, element_raw}
+use Rattle.x509_fields.specs.facts.Fields.{Before, FoundIf, at_front, at_back, empty_behind, field_step, raw_step, optional_step, element_raw}
 
 not_is : (b : Bool) → not b ≡ true → b ≡ false
 not_is true h = cc

@@ -1,5 +1,5 @@
 -- A walk over what is signed of a request.
-use Rattle.std.proofs.Common.{◌≡◌, ℕ, ◌+◌, ◌<◌, true, List, [], ◌++◌, length, refl, sym, ap, ◌∙◌, subst, append-nil, lit<}
+use Rattle.std.proofs.Common.{◌≡◌, ℕ, ◌+◌, List, [], ◌++◌, length, refl, sym, ap, ◌∙◌, subst, append-nil, lit<}
 use Rattle.x509_der.specs.BitString.{bit_strings}
 use Rattle.x509_der.specs.Element.{element, header}
 use Rattle.x509_der.specs.Fields.{Stands}

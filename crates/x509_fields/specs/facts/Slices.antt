@@ -1,5 +1,5 @@
 -- A string is cut into what stands before a slice, the slice, and what stands behind it.
-use Rattle.std.proofs.Common.{◌≡◌, ℕ, ◌+◌, ◌≤◌, List, ◌++◌, length, take, drop, refl, sym, ap, ◌∙◌, arith, subst, append_assoc, length-append, Option, Some, None}
+use Rattle.std.proofs.Common.{◌≡◌, ℕ, ◌≤◌, List, ◌++◌, length, take, drop, sym, ap, ◌∙◌, arith, subst, append_assoc, length-append, Option, Some, None}
 use Rattle.std.proofs.lemmas.List.{take-append-drop, length-take-le}
 use Rattle.std.specs.Borrow.{Bor}
 use Rattle.std.specs.Prelude.{IsSomeAnd}
@@ -22,6 +22,12 @@ cut string slice start end order within is =
       from = sym before;
       to = omega (arith, front, before, ap length whole, length-append (take start (take end string)) slice);
     }
+
+-- a span covers one slice
+pub same_slice : (string slice other : List ℕ) (start end : ℕ) → Covers string start end slice → Covers string start end other → slice ≡ other
+same_slice string slice other start end k f =
+    let same = same_front k.before f.before (slice ++ k.after) (other ++ f.after) (sym k.from ∙ f.from) (sym k.bytes ∙ f.bytes) in
+    (same_front slice other k.after f.after (omega (arith, k.to, k.from, f.to, f.from)) same.1).0
 
 -- where a field stands, its span covers the bytes that encode it
 pub field_slice : {V : Type 0} (s : Shape V) (v : V) (span : Span) (string : List ℕ) (y : Tally) (r : Option (Bor (List ℕ))) → FieldIn s v span string y → SliceAt string span.start span.end r → IsSomeAnd r (λ slice. (z : Tally) × s.spelled v slice.now z)

@@ -1,5 +1,5 @@
 -- What a walk does where elements stand.
-use Rattle.std.proofs.Common.{◌≡◌, ℕ, ◌+◌, ◌≤◌, ◌==◌, true, List, [], ◌∷◌, ◌++◌, length, take, drop, get_or, refl, sym, ap, ◌∙◌, arith, length-append, eqb-true, eq-eqb, false, ◌<◌}
+use Rattle.std.proofs.Common.{◌≡◌, ℕ, ◌+◌, ◌≤◌, ◌==◌, true, List, [], ◌∷◌, ◌++◌, length, take, drop, get_or, refl, sym, ap, ◌∙◌, arith, length-append, eq-eqb, false, ◌<◌}
 use Rattle.std.proofs.Math.Seq.{drop-append_seam, take-append_seam}
 use Rattle.x509_der.specs.Types.{Element}
 use Rattle.x509_der.specs.Element.{IsRaw, digits, element, header, is_tag}
@@ -7,7 +7,7 @@ use Rattle.x509_der.specs.facts.Element.{element_one, element_length}
 use Rattle.x509_der.specs.FirstElement.{FoundAt}
 use Rattle.x509_der.specs.Reading.{NoFirst}
 use Rattle.x509_der.specs.Shape.{Follows}
-use Rattle.x509_fields.specs.Walks.{Walk, Goes, Steps, Inside}
+use Rattle.x509_fields.specs.Walks.{Walk, Steps, Inside}
 use Rattle.x509_fields.specs.declared.span.Span.{Span}
 
 pub found_end : (string : List ℕ) (e : Element) → FoundAt string e → e.end ≤ length string

@@ -1,26 +1,24 @@
-use Rattle.std.proofs.Common.{length, refl, ap, ◌∙◌}
-use Rattle.x509_flat.proofs.Counts.{front_of, no_room_of}
+use Rattle.std.proofs.Common.{refl, ◌∙◌}
+use Rattle.x509_flat.proofs.Counts.{puts_of}
 use Rattle.x509_flat.proofs.extensions.of_extensions.Goals as goal
 
 pub returns-in-Ok : goal.returns-in-Ok
-returns-in-Ok g c = record {
-  done = λ e. record {
-    value = c.in-Ok.value;
-    tally = c.in-Ok.ensures.read.0;
-    whole = c.in-Ok.ensures.read.1;
-    holds = front_of _ _ _ _ _ (ap length (c.deref.ensures.value ∙ c.value.view_is)) (c.put_places-sized.ensures.done e);
-  };
-  short = λ e. record {
-    value = c.in-Ok.value;
-    tally = c.in-Ok.ensures.read.0;
-    whole = c.in-Ok.ensures.read.1;
-    holds = no_room_of _ _ _ _ _ (ap length (c.deref.ensures.value ∙ c.value.view_is)) (c.put_places-sized.ensures.short e);
-  };
-  refused = λ e. absurd (c.put_places-sized.ensures.refused e);
-  memory = λ e. absurd (c.put_places-sized.ensures.memory e);
-  unknown = c.put_places-sized.ensures.unknown;
-  long = c.put_places-sized.ensures.long;
-}
+returns-in-Ok g c =
+    let whole = c.in-Ok.ensures.read.1 in
+    let puts = puts_of _ _ _ _ _ _ _ _ _ (c.deref.ensures.value ∙ c.value.view_is) c.put_places-sized.ensures in
+    record {
+      done = λ e. record {
+        value = c.in-Ok.value;
+        tally = c.in-Ok.ensures.read.0;
+        whole = whole;
+        holds = puts.done e c.in-Ok.ensures.read.0 (c.listed_extensions-items.ensures c.in-Ok.ensures.read.0 whole.spelled);
+      };
+      short = λ e. record { value = c.in-Ok.value; tally = c.in-Ok.ensures.read.0; whole = whole; holds = puts.short e };
+      refused = λ e. absurd (puts.refused e);
+      memory = λ e. absurd (puts.memory e);
+      unknown = puts.unknown;
+      long = puts.long;
+    }
 
 pub returns-in-Err : goal.returns-in-Err
 returns-in-Err g c = record {

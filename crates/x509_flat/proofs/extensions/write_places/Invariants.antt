@@ -1,6 +1,10 @@
-use Rattle.std.proofs.Common.{◌≡◌, drop, length}
+use Rattle.std.proofs.Common.{drop}
+use Rattle.x509_der.specs.Items.{ItemsAt}
+use Rattle.x509_der.specs.Tally.{Tally}
+use Rattle.picky_asn1_x509.specs.Extensions.{extension}
+use Rattle.x509_flat.proofs.ExtensionPlaces.{Told}
 use Rattle.x509_flat.proofs.extensions.write_places.Given as goal
 
--- what stands behind the list's places is as it was
+-- the places of what is behind the walk are written, and the rest of the list stands in front of it
 abbrev pub invariant-loop-index : goal.invariant-loop-index
-invariant-loop-index g l = drop (length l.list) l.out ≡ drop (length l.list) l.initial.out
+invariant-loop-index g l = (whole : Tally) → ItemsAt extension l.bytes whole l.list l.initial.items.at l.initial.items.rest → Told l.list (drop l.index l.list) l.initial.items.at l.items l.initial.out l.out l.index l.bytes whole

@@ -1,4 +1,3 @@
-use Rattle.std.proofs.Common.{refl, lit<}
 use Rattle.x509_fields.specs.facts.Certificates.{walked_certificate}
 use Rattle.x509_fields.proofs.certificate.CertificateFields.of.Goals as goal
 

@@ -1,5 +1,4 @@
-use Rattle.std.proofs.Common.{◌≡◌, [], ◌++◌, sym, ap, ◌∙◌, refl, append-nil, lit<}
-use Rattle.x509_der.specs.Element.{element}
+use Rattle.std.proofs.Common.{refl, lit<}
 use Rattle.x509_fields.specs.facts.Extensions.{walked_extension}
 use Rattle.x509_fields.specs.facts.Fields.{whole_content}
 use Rattle.x509_fields.proofs.extension.ExtensionFields.of.Goals as goal

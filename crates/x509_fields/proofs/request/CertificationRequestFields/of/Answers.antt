@@ -1,4 +1,3 @@
-use Rattle.std.proofs.Common.{refl, lit<}
 use Rattle.x509_fields.specs.facts.Requests.{walked_request}
 use Rattle.x509_fields.proofs.request.CertificationRequestFields.of.Goals as goal
 

@@ -1,6 +1,6 @@
-use Rattle.std.proofs.Common.{◌≡◌, ◌+◌, take, drop, ap, refl, ◌∙◌}
+use Rattle.std.proofs.Common.{◌≡◌, ◌+◌, take, drop, ap, ◌∙◌}
 use Rattle.x509_fields.specs.Walks.{Walk}
-use Rattle.x509_fields.specs.facts.Steps.{found_end, inside_found, inside_none}
+use Rattle.x509_fields.specs.facts.Steps.{found_end, inside_found}
 use Rattle.x509_fields.proofs.walk.Walk.inside.Goals as goal
 
 pub split_at-requires : goal.split_at-requires

@@ -1,6 +1,6 @@
 use Rattle.std.proofs.Common.{◌≡◌, ◌+◌, drop, ap, refl, ◌∙◌}
 use Rattle.x509_fields.specs.Walks.{Walk}
-use Rattle.x509_fields.specs.facts.Steps.{found_end, steps, stays}
+use Rattle.x509_fields.specs.facts.Steps.{found_end, steps}
 use Rattle.x509_fields.proofs.walk.Walk.next.Goals as goal
 
 pub split_at-requires : goal.split_at-requires

@@ -1,6 +1,6 @@
-use Rattle.std.proofs.Common.{◌≡◌, ap, refl, sym, length, arith}
+use Rattle.std.proofs.Common.{◌≡◌, ap, refl, length, arith}
 use Rattle.x509_fields.specs.Walks.{Walk}
-use Rattle.x509_fields.specs.facts.Steps.{no_element, other_element, begun}
+use Rattle.x509_fields.specs.facts.Steps.{no_element, other_element}
 use Rattle.x509_fields.proofs.walk.Walk.next_if.Goals as goal
 
 pub returns-in_default : goal.returns-in_default

@@ -1,4 +1,4 @@
-use Rattle.std.proofs.Common.{◌≡◌, ◌≤◌, ap, refl, sym, length, arith}
+use Rattle.std.proofs.Common.{◌≡◌, ◌≤◌, ap, refl, length, arith}
 use Rattle.x509_fields.specs.Walks.{Walk}
 use Rattle.x509_fields.specs.facts.Steps.{no_elements, same_element, other_element, not_empty}
 use Rattle.x509_fields.proofs.walk.Walk.next_unless.Goals as goal

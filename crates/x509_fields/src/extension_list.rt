@@ -1,0 +1,41 @@
+//! Where the extensions of a list stand.
+
+ghost use Rattle.std.specs.Prelude.{ℕ, List};
+ghost use Rattle.x509_der.specs.Items.{ItemsAt};
+ghost use Rattle.x509_der.specs.Tally.{Tally};
+ghost use Rattle.picky_asn1_x509.specs.Certificates.{certificate};
+ghost use Rattle.picky_asn1_x509.specs.ExtensionLists.{extensions};
+ghost use Rattle.picky_asn1_x509.specs.Extensions.{extension};
+
+use crate::certificate::CertificateFields;
+use crate::walk::Walk;
+use picky_asn1_x509::{Certificate, Extensions, laws};
+use std::alloc::Allocator;
+
+/// A walk over the extensions of a certificate, in the bytes that it was read from: each is the next element. It is over
+/// nothing where the certificate has none. Takes no memory.
+pub fn certificate_extensions<'a, A: Allocator + Copy>(
+    value: &Certificate<A>,
+    bytes: &'a [u8],
+) -> Walk<'a>
+    ensures { (y : Tally) → (certificate {A = A}).spelled value.now bytes.now y → ItemsAt (extension {A = A}) bytes.now y value.now.tbs_certificate.extensions result.at result.rest }
+{
+    laws::spellings_are_lawful::<Extensions<A>, A>();
+    let places = CertificateFields::of(value, bytes);
+    match places.fields.extensions {
+        Some(tagged) => Walk::over(bytes, tagged).inside().inside(),
+        None => Walk::of(&[]),
+    }
+}
+
+/// A walk over the extensions of a list, in the bytes that it was read from: each is the next element. Takes no memory.
+pub fn listed_extensions<'a, A: Allocator + Copy>(
+    value: &Extensions<A>,
+    bytes: &'a [u8],
+) -> Walk<'a>
+    ensures { (y : Tally) → (extensions {A = A}).spelled value.now bytes.now y → ItemsAt (extension {A = A}) bytes.now y value.now result.at result.rest }
+{
+    let _ = value;
+    laws::fields::<Extensions<A>, A>();
+    Walk::of(bytes).inside()
+}
