@@ -25,16 +25,16 @@ BUDGETS = [
     (17, ["x509_names", "x509_names_parts"]),
     (28, ["x509_keys_parts"]),
     (14, ["x509_keys"]),
-    (20, ["picky_asn1_x509_parts"]),
-    (0, ["picky_asn1_x509"]),
+    (22, ["picky_asn1_x509_parts"]),
+    (18, ["picky_asn1_x509"]),
     (18, ["x509_tool_parts", "x509_callers", "refusing"]),
-    (7, ["x509_fields"]),
+    (9, ["x509_fields"]),
     (2, ["x509_oids_algorithms", "x509_oids_objects"]),
     (6, ["x509_pem"]),
-    (5, ["x509_report_parts"]),
-    (3, ["x509_oid_names", "x509_report_fields", "x509_inspect_parts"]),
-    (0, ["x509_inspect", "cimaroly_work"]),
-    (21, ["lent_memory", "x509_flat", "x509_flat_report"]),
+    (7, ["x509_report_parts"]),
+    (6, ["x509_oid_names", "x509_report_fields", "x509_inspect_parts"]),
+    (4, ["x509_inspect", "cimaroly_work"]),
+    (32, ["lent_memory", "x509_flat", "x509_flat_report", "cimaroly_c"]),
 ]
 
 
