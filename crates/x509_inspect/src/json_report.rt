@@ -1,6 +1,6 @@
 //! A report as JSON: one object on one line.
 
-use crate::text_report::{FieldOf, NAMED, signed_span};
+use crate::text_report::{FieldOf, NAMED};
 use crate::told::{Task, read_told};
 use std::alloc::{AllocError, Allocator};
 use x509_der::{FromDer, Place, Refused};
@@ -65,8 +65,8 @@ fn write_value<T: Reported, A: Allocator + Copy>(
     };
     sink.member("result", result)?;
     write_deviations(sink, value, head.bytes, places)?;
-    if head.kind.is_signed() {
-        sink.place("signed", signed_span(head.bytes))?;
+    if let Some(span) = value.signed(head.bytes) {
+        sink.place("signed", span)?;
     }
     match head.extent {
         Extent::Fields(options) => value.tell(sink, head.bytes, options.secrets),

@@ -87,7 +87,6 @@ pub fn write_text<A: Allocator + Copy, W: Write>(
         kind,
         WriteText {
             alloc,
-            kind,
             bytes,
             options,
             out,

@@ -4,8 +4,8 @@ use crate::told::{Task, read_told};
 use std::alloc::Allocator;
 use std::fmt::{self, Display, Write};
 use x509_der::{FromDer, Place, Refused};
-use x509_inspect_parts::{Kind, Options};
-use x509_report::{Cursor, FieldSink, Reported, Secrets, Span, TextSink};
+use x509_inspect_parts::Options;
+use x509_report::{FieldSink, Reported, Secrets, Span, TextSink};
 
 /// Of how many deviations the field is told: to find one takes a walk over the whole.
 pub(crate) const NAMED: usize = 16;
@@ -13,8 +13,6 @@ pub(crate) const NAMED: usize = 16;
 /// A value with the bytes that it was read from and the deviations in them, which prints its report.
 #[derive(Drop)]
 pub struct TextReport<'a, T: Reported> {
-    /// The type.
-    pub kind: Kind,
     /// The value.
     pub value: &'a T,
     /// The bytes.
@@ -75,13 +73,6 @@ fn write_count<W: Write>(out: &mut W, count: usize) -> fmt::Result {
     }
 }
 
-/// The first inner element: what the signature of a signed structure covers.
-pub(crate) fn signed_span(bytes: &[u8]) -> Span {
-    let mut whole = Cursor::new(bytes);
-    let mut fields = whole.next().inside;
-    fields.next().span
-}
-
 impl<T: Reported> TextReport<'_, T> {
     /// Writes the line of a deviation, with the fields around it, where there are any.
     fn write_deviation<W: Write>(&self, out: &mut W, place: &Place) -> fmt::Result {
@@ -120,8 +111,7 @@ impl<T: Reported> TextReport<'_, T> {
         write_count(out, self.places.len())?;
         out.write_str("\n")?;
         self.value.summary(out)?;
-        if self.kind.is_signed() {
-            let Span { start, end } = signed_span(self.bytes);
+        if let Some(Span { start, end }) = self.value.signed(self.bytes) {
             writeln!(out, "  signed      {start}..{end}")?;
         }
         self.write_deviations(out)
@@ -142,8 +132,6 @@ impl<T: Reported> Display for TextReport<'_, T> {
 pub(crate) struct WriteText<'a, 'w, A, W: Write> {
     /// Where memory is asked for.
     pub(crate) alloc: A,
-    /// As which type the bytes are read.
-    pub(crate) kind: Kind,
     /// The bytes.
     pub(crate) bytes: &'a [u8],
     /// What is told.
@@ -155,14 +143,12 @@ pub(crate) struct WriteText<'a, 'w, A, W: Write> {
 /// Writes the report of a value.
 fn write_report<T: Reported, W: Write>(
     out: &mut W,
-    kind: Kind,
     value: &T,
     bytes: &[u8],
     places: &[Place],
     options: Options,
 ) -> fmt::Result {
     let report = TextReport {
-        kind,
         value,
         bytes,
         places,
@@ -177,13 +163,12 @@ impl<A: Allocator + Copy, W: Write> Task<A> for WriteText<'_, '_, A, W> {
     fn run<T: FromDer<A> + Reported>(self) -> Result<Result<usize, fmt::Error>, Refused> {
         let WriteText {
             alloc,
-            kind,
             bytes,
             options,
             out,
         } = self;
         let (value, places) = read_told::<T, A>(alloc, bytes)?;
-        let written = write_report(out, kind, &value, bytes, places.as_slice(), options);
+        let written = write_report(out, &value, bytes, places.as_slice(), options);
         drop(value);
         Ok(written.map(|()| places.len()))
     }

@@ -1,5 +1,5 @@
--- The names of the types, the labels of their PEM blocks, and which of them are signed.
-use Rattle.std.specs.Prelude.{◌≡◌, ◌⊎◌, ℕ, Bool, true, false, List, Option, Some, None, codes}
+-- The names of the types, and the labels of their PEM blocks.
+use Rattle.std.specs.Prelude.{◌≡◌, ◌⊎◌, ℕ, List, Option, Some, None, codes}
 use Rattle.x509_inspect_parts.specs.declared.kind.Kind.{Kind}
 use Rattle.x509_inspect_parts.specs.declared.kind.Kind.TheVariants.{Certificate, Request, PrivateKey, PublicKey, RsaPrivateKey, RsaPublicKey, EcPrivateKey, Name, Extensions, Algorithm, RawAlgorithm}
 
@@ -40,9 +40,3 @@ other_label_of _ = None
 -- a block with the label holds the type
 abbrev pub IsLabelled : Kind → List ℕ → Type 0
 IsLabelled kind label = (label_of kind ≡ Some label) ⊎ (other_label_of kind ≡ Some label)
-
--- what the signature covers is the type's first field (RFC 5280, 4.1; RFC 2986, 4)
-abbrev pub is_signed_kind : Kind → Bool
-is_signed_kind Certificate = true
-is_signed_kind Request = true
-is_signed_kind _ = false

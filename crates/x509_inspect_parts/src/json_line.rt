@@ -5,8 +5,8 @@ use crate::kind::Kind;
 use crate::options::Options;
 use std::alloc::{AllocError, Allocator};
 use x509_der::Refused;
+use x509_report_parts::JsonSink;
 use x509_report_parts::shown::ShownBytes;
-use x509_report_parts::{JsonSink, shielded};
 
 /// Where bytes come from.
 #[derive(Clone, Copy, Drop)]
@@ -109,7 +109,7 @@ pub fn write_refused<A: Allocator + Copy>(
 /// # Errors
 /// `AllocError` where memory is refused.
 pub fn line_of<A: Allocator + Copy>(alloc: A, sink: JsonSink<A>) -> Result<Vec<u8, A>, AllocError> {
-    let mut out = shielded(alloc, sink.into_inner())?;
+    let mut out = sink.finish(alloc)?;
     out.push(b'\n')?;
     Ok(out)
 }

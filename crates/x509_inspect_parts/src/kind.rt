@@ -1,7 +1,7 @@
 //! The types that are known.
 
 ghost use Rattle.std.specs.Prelude.{◌≡◌, ◌↔◌, IsTrue, IfSome, IfNone, Some, None};
-ghost use Rattle.x509_inspect_parts.specs.Kinds.{kind_name, label_of, is_signed_kind, IsLabelled};
+ghost use Rattle.x509_inspect_parts.specs.Kinds.{kind_name, label_of, IsLabelled};
 
 /// A type that bytes are read as.
 #[derive(Clone, Copy, Debug, PartialEq, Eq)]
@@ -132,12 +132,5 @@ impl Kind {
             Kind::EcPrivateKey => Some("EC PRIVATE KEY"),
             Kind::Name | Kind::Extensions | Kind::Algorithm | Kind::RawAlgorithm => None,
         }
-    }
-
-    /// Whether its first field is what its signature covers.
-    pub fn is_signed(self) -> bool
-        ensures { result ≡ is_signed_kind self }
-    {
-        matches!(self, Kind::Certificate | Kind::Request)
     }
 }

@@ -8,22 +8,24 @@ use std::alloc::Allocator;
 use x509_report_parts::{Cursor, Element, Label, Moment, Shape, Sink, Span, Value};
 
 /// Tells attributes.
-pub(crate) fn attributes<A: Allocator, S: Sink>(
+pub(crate) fn attributes<A: Allocator + Copy, S: Sink>(
     sink: &mut S,
+    bytes: &[u8],
     at: Element<'_>,
     value: &Attributes<A>,
 ) -> Result<(), S::Error> {
     let mut items = at.inside;
     sink.begin(Label::Field("attributes"), at.span, Shape::Items)?;
     for item in &value.0 {
-        attribute(sink, items.next(), item)?;
+        attribute(sink, bytes, items.next(), item)?;
     }
     sink.end()
 }
 
 /// Tells an attribute: its values as the items of a node.
-fn attribute<A: Allocator, S: Sink>(
+fn attribute<A: Allocator + Copy, S: Sink>(
     sink: &mut S,
+    bytes: &[u8],
     at: Element<'_>,
     value: &Attribute<A>,
 ) -> Result<(), S::Error> {
@@ -35,20 +37,21 @@ fn attribute<A: Allocator, S: Sink>(
         return sink.field(label, at.span, Value::Raw(element.as_bytes()));
     }
     sink.begin(label, at.span, Shape::Items)?;
-    items_of(sink, values.inside, &value.value)?;
+    items_of(sink, bytes, values.inside, &value.value)?;
     sink.end()
 }
 
 /// Tells the values of an attribute.
-fn items_of<A: Allocator, S: Sink>(
+fn items_of<A: Allocator + Copy, S: Sink>(
     sink: &mut S,
+    bytes: &[u8],
     mut items: Cursor<'_>,
     value: &AttributeValues<A>,
 ) -> Result<(), S::Error> {
     match value {
         AttributeValues::Extensions(lists) => {
             for list in &lists.0 {
-                extensions(sink, "Extensions", items.next(), list)?;
+                extensions(sink, "Extensions", bytes, items.next(), list)?;
             }
             Ok(())
         }

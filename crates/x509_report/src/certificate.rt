@@ -1,6 +1,7 @@
 //! Certificates.
 
 use crate::extension::extensions;
+use crate::places::{field_at, place, whole};
 use crate::reported::Reported;
 use picky_asn1_x509::{
     BitString, Certificate, Extension, ExtensionView, GeneralNames, TbsCertificate, Time, Validity,
@@ -8,11 +9,12 @@ use picky_asn1_x509::{
 };
 use std::alloc::Allocator;
 use std::fmt::{self, Write};
+use x509_fields::{CertificateFields, Span as FieldSpan, TbsCertificateFields};
 use x509_report_fields::algorithm::algorithm;
 use x509_report_fields::key::{bits, public_key, public_line};
 use x509_report_fields::name::{NameLine, NamesLine, name};
 use x509_report_parts::values::Stamp;
-use x509_report_parts::{Cursor, Element, Label, Moment, Secrets, Shape, Sink, Value};
+use x509_report_parts::{Element, Label, Moment, Secrets, Shape, Sink, Span, Value};
 
 /// The second that a time says.
 pub(crate) fn moment_of(time: &Time) -> Moment {
@@ -29,18 +31,14 @@ pub(crate) fn moment_of(time: &Time) -> Moment {
 }
 
 /// Tells the version, where it is encoded.
-fn version<S: Sink>(
-    sink: &mut S,
-    at: Option<Element<'_>>,
-    version: Version,
-) -> Result<(), S::Error> {
+fn version<S: Sink>(sink: &mut S, at: Option<FieldSpan>, version: Version) -> Result<(), S::Error> {
     let word = match version {
         Version::V1 => "v1",
         Version::V2 => "v2",
         Version::V3 => "v3",
     };
     match at {
-        Some(at) => sink.field(Label::Field("version"), at.span, Value::Word(word)),
+        Some(at) => sink.field(Label::Field("version"), place(at), Value::Word(word)),
         None => Ok(()),
     }
 }
@@ -60,11 +58,11 @@ fn validity<S: Sink>(sink: &mut S, at: Element<'_>, value: &Validity) -> Result<
 fn unique_id<A: Allocator, S: Sink>(
     sink: &mut S,
     field: &'static str,
-    at: Option<Element<'_>>,
+    at: Option<FieldSpan>,
     value: &Option<BitString<A>>,
 ) -> Result<(), S::Error> {
     match (at, value) {
-        (Some(at), Some(value)) => sink.field(Label::Field(field), at.span, bits(value)),
+        (Some(at), Some(value)) => sink.field(Label::Field(field), place(at), bits(value)),
         _ => Ok(()),
     }
 }
@@ -72,37 +70,55 @@ fn unique_id<A: Allocator, S: Sink>(
 /// Tells the fields that each certificate has.
 fn head<A: Allocator, S: Sink>(
     sink: &mut S,
-    fields: &mut Cursor<'_>,
+    bytes: &[u8],
+    at: &TbsCertificateFields,
     value: &TbsCertificate<A>,
 ) -> Result<(), S::Error> {
+    let span = place(at.serial_number);
     let serial = Value::Integer(value.serial_number.as_bytes());
-    sink.field(Label::Field("serialNumber"), fields.next().span, serial)?;
-    algorithm(sink, "signature", fields.next(), &value.signature)?;
-    name(sink, "issuer", fields.next(), &value.issuer)?;
-    validity(sink, fields.next(), &value.validity)?;
-    name(sink, "subject", fields.next(), &value.subject)?;
+    sink.field(Label::Field("serialNumber"), span, serial)?;
+    let signature = field_at(bytes, at.signature);
+    algorithm(sink, "signature", signature, &value.signature)?;
+    name(sink, "issuer", field_at(bytes, at.issuer), &value.issuer)?;
+    validity(sink, field_at(bytes, at.validity), &value.validity)?;
+    name(sink, "subject", field_at(bytes, at.subject), &value.subject)?;
     let key = &value.subject_public_key_info;
-    public_key(sink, "subjectPublicKeyInfo", fields.next(), key)
+    let at = field_at(bytes, at.subject_public_key_info);
+    public_key(sink, "subjectPublicKeyInfo", at, key)
+}
+
+/// Tells the fields that a certificate may lack.
+fn tail<A: Allocator + Copy, S: Sink>(
+    sink: &mut S,
+    bytes: &[u8],
+    at: &TbsCertificateFields,
+    value: &TbsCertificate<A>,
+) -> Result<(), S::Error> {
+    let issuer = at.issuer_unique_id;
+    unique_id(sink, "issuerUniqueID", issuer, &value.issuer_unique_id)?;
+    let subject = at.subject_unique_id;
+    unique_id(sink, "subjectUniqueID", subject, &value.subject_unique_id)?;
+    match at.extensions {
+        Some(at) => {
+            let mut inside = field_at(bytes, at).inside;
+            extensions(sink, "extensions", bytes, inside.next(), &value.extensions)
+        }
+        None => Ok(()),
+    }
 }
 
 /// Tells what is signed.
-fn tbs_certificate<A: Allocator, S: Sink>(
+fn tbs_certificate<A: Allocator + Copy, S: Sink>(
     sink: &mut S,
-    at: Element<'_>,
+    bytes: &[u8],
+    at: &CertificateFields,
     value: &TbsCertificate<A>,
 ) -> Result<(), S::Error> {
-    let mut fields = at.inside;
-    sink.begin(Label::Field("tbsCertificate"), at.span, Shape::Fields)?;
-    version(sink, fields.next_if(0xa0), value.version)?;
-    head(sink, &mut fields, value)?;
-    let issuer = fields.next_if(0x81);
-    unique_id(sink, "issuerUniqueID", issuer, &value.issuer_unique_id)?;
-    let subject = fields.next_if(0x82);
-    unique_id(sink, "subjectUniqueID", subject, &value.subject_unique_id)?;
-    if let Some(found) = fields.next_if(0xa3) {
-        let mut inside = found.inside;
-        extensions(sink, "extensions", inside.next(), &value.extensions)?;
-    }
+    let span = place(at.tbs_certificate);
+    sink.begin(Label::Field("tbsCertificate"), span, Shape::Fields)?;
+    version(sink, at.fields.version, value.version)?;
+    head(sink, bytes, &at.fields, value)?;
+    tail(sink, bytes, &at.fields, value)?;
     sink.end()
 }
 
@@ -125,23 +141,23 @@ fn write_parties<A: Allocator, W: Write>(out: &mut W, value: &TbsCertificate<A>)
     writeln!(out, "  issuer      {}", NameLine(&value.issuer))
 }
 
-impl<A: Allocator> Reported for Certificate<A> {
+impl<A: Allocator + Copy> Reported for Certificate<A> {
     const TITLE: &'static str = "Certificate";
 
     fn tell<S: Sink>(&self, sink: &mut S, bytes: &[u8], _secrets: Secrets) -> Result<(), S::Error> {
-        let at = Cursor::new(bytes).next();
-        let mut fields = at.inside;
-        sink.begin(Label::Field("Certificate"), at.span, Shape::Fields)?;
-        tbs_certificate(sink, fields.next(), &self.tbs_certificate)?;
-        let field = "signatureAlgorithm";
-        algorithm(sink, field, fields.next(), &self.signature_algorithm)?;
+        let at = CertificateFields::of(self, bytes);
+        sink.begin(Label::Field("Certificate"), whole(bytes), Shape::Fields)?;
+        tbs_certificate(sink, bytes, &at, &self.tbs_certificate)?;
+        let field = field_at(bytes, at.signature_algorithm);
+        algorithm(sink, "signatureAlgorithm", field, &self.signature_algorithm)?;
+        let span = place(at.signature_value);
         let signature = bits(&self.signature_value.0);
-        sink.field(
-            Label::Field("signatureValue"),
-            fields.next().span,
-            signature,
-        )?;
+        sink.field(Label::Field("signatureValue"), span, signature)?;
         sink.end()
+    }
+
+    fn signed(&self, bytes: &[u8]) -> Option<Span> {
+        Some(place(CertificateFields::of(self, bytes).tbs_certificate))
     }
 
     fn summary<W: Write>(&self, out: &mut W) -> fmt::Result {

@@ -1,6 +1,7 @@
 //! Extensions.
 
 use crate::extension_values::{authority, basic_constraints, key_usage, purposes};
+use crate::places::extn_value_at;
 use crate::reported::Reported;
 use picky_asn1_x509::{Extension, ExtensionView, Extensions, GeneralNames};
 use std::alloc::Allocator;
@@ -9,36 +10,34 @@ use x509_report_fields::name::{NamesLine, general_names};
 use x509_report_parts::{Cursor, Element, Label, Secrets, Shape, Sink, Span, Value};
 
 /// Tells extensions.
-pub(crate) fn extensions<A: Allocator, S: Sink>(
+pub(crate) fn extensions<A: Allocator + Copy, S: Sink>(
     sink: &mut S,
     field: &'static str,
+    bytes: &[u8],
     at: Element<'_>,
     value: &Extensions<A>,
 ) -> Result<(), S::Error> {
     let mut items = at.inside;
     sink.begin(Label::Field(field), at.span, Shape::Items)?;
     for item in &value.0 {
-        extension(sink, items.next(), item)?;
+        extension(sink, bytes, items.next().span, item)?;
     }
     sink.end()
 }
 
 /// Tells an extension.
-fn extension<A: Allocator, S: Sink>(
+fn extension<A: Allocator + Copy, S: Sink>(
     sink: &mut S,
-    at: Element<'_>,
+    bytes: &[u8],
+    at: Span,
     value: &Extension<A>,
 ) -> Result<(), S::Error> {
-    let mut fields = at.inside;
-    // extnID and critical come first
-    let _extn_id = fields.next();
-    let _critical = fields.next_if(1);
-    let mut string = fields.next().inside;
+    let mut string = extn_value_at(bytes, at, value).inside;
     let label = Label::Extension {
         content: value.extn_id().0.content(),
         is_critical: value.critical(),
     };
-    held(sink, label, at.span, string.next(), value.extn_value())
+    held(sink, label, at, string.next(), value.extn_value())
 }
 
 /// Tells what an extension holds.
@@ -83,11 +82,12 @@ fn alternative<A: Allocator, S: Sink>(
     sink.end()
 }
 
-impl<A: Allocator> Reported for Extensions<A> {
+impl<A: Allocator + Copy> Reported for Extensions<A> {
     const TITLE: &'static str = "Extensions";
 
     fn tell<S: Sink>(&self, sink: &mut S, bytes: &[u8], _secrets: Secrets) -> Result<(), S::Error> {
-        extensions(sink, "Extensions", Cursor::new(bytes).next(), self)
+        let at = Cursor::new(bytes).next();
+        extensions(sink, "Extensions", bytes, at, self)
     }
 
     fn summary<W: Write>(&self, out: &mut W) -> fmt::Result {

@@ -8,6 +8,7 @@ mod attribute;
 mod certificate;
 mod extension;
 mod extension_values;
+mod places;
 mod private_key;
 mod reported;
 mod request;

@@ -1,5 +1,6 @@
 //! Private keys.
 
+use crate::places::{field_at, place, whole};
 use crate::reported::Reported;
 use picky_asn1_x509::{
     BitString, ECPrivateKey, EcParameters, IntegerAsn1, PrivateKeyInfo, PrivateKeyValue,
@@ -7,6 +8,7 @@ use picky_asn1_x509::{
 };
 use std::alloc::Allocator;
 use std::fmt::{self, Write};
+use x509_fields::PrivateKeyInfoFields;
 use x509_report_fields::algorithm::algorithm;
 use x509_report_fields::key::{KeyLine, bits, line_of, size, sized};
 use x509_report_parts::{Cursor, Element, Label, Secrets, Shape, Sink, Value};
@@ -149,17 +151,18 @@ fn private_key<A: Allocator, S: Sink>(
 /// Tells what stands behind a private key: an element that was skipped, and the public key.
 fn tail<A: Allocator, S: Sink>(
     sink: &mut S,
-    fields: &mut Cursor<'_>,
+    bytes: &[u8],
+    at: &PrivateKeyInfoFields,
     public_key: &Option<BitString<A>>,
 ) -> Result<(), S::Error> {
-    if matches!(fields.tag(), Some(tag) if tag != 0xa1) {
-        let skipped = fields.next();
+    if let Some(skipped) = at.skipped {
+        let skipped = field_at(bytes, skipped);
         let label = Label::Field("skipped");
         sink.field(label, skipped.span, Value::Octets(skipped.inside.rest))?;
     }
-    match public_key {
-        Some(key) => sink.field(Label::Field("publicKey"), fields.next().span, bits(key)),
-        None => Ok(()),
+    match (at.public_key, public_key) {
+        (Some(at), Some(key)) => sink.field(Label::Field("publicKey"), place(at), bits(key)),
+        _ => Ok(()),
     }
 }
 
@@ -175,19 +178,20 @@ fn private_line<A: Allocator>(value: &PrivateKeyInfo<A>) -> KeyLine<'_> {
     }
 }
 
-impl<A: Allocator> Reported for PrivateKeyInfo<A> {
+impl<A: Allocator + Copy> Reported for PrivateKeyInfo<A> {
     const TITLE: &'static str = "Private key";
 
     fn tell<S: Sink>(&self, sink: &mut S, bytes: &[u8], secrets: Secrets) -> Result<(), S::Error> {
-        let at = Cursor::new(bytes).next();
-        let mut fields = at.inside;
-        sink.begin(Label::Field("PrivateKeyInfo"), at.span, Shape::Fields)?;
+        let at = PrivateKeyInfoFields::of(self, bytes);
+        let label = Label::Field("PrivateKeyInfo");
+        sink.begin(label, whole(bytes), Shape::Fields)?;
         let version = Value::Word(if self.version == 0 { "v1" } else { "v2" });
-        sink.field(Label::Field("version"), fields.next().span, version)?;
-        let field = "privateKeyAlgorithm";
-        algorithm(sink, field, fields.next(), &self.private_key_algorithm)?;
-        private_key(sink, fields.next(), &self.private_key, secrets)?;
-        tail(sink, &mut fields, &self.public_key)?;
+        sink.field(Label::Field("version"), place(at.version), version)?;
+        let (field, kind) = ("privateKeyAlgorithm", &self.private_key_algorithm);
+        algorithm(sink, field, field_at(bytes, at.private_key_algorithm), kind)?;
+        let key = field_at(bytes, at.private_key);
+        private_key(sink, key, &self.private_key, secrets)?;
+        tail(sink, bytes, &at, &self.public_key)?;
         sink.end()
     }
 

@@ -1,7 +1,7 @@
 //! What can be reported.
 
 use std::fmt::{self, Write};
-use x509_report_parts::{Secrets, Sink};
+use x509_report_parts::{Secrets, Sink, Span};
 
 /// A type whose values can be reported.
 pub trait Reported {
@@ -13,6 +13,12 @@ pub trait Reported {
     /// # Errors
     /// What the sink fails with.
     fn tell<S: Sink>(&self, sink: &mut S, bytes: &[u8], secrets: Secrets) -> Result<(), S::Error>;
+
+    /// Where what a signature covers stands in the bytes that the value was read from, if the type is signed.
+    fn signed(&self, bytes: &[u8]) -> Option<Span> {
+        let _ = bytes;
+        None
+    }
 
     /// Writes the lines that say the most important, each behind two spaces and a word in twelve columns.
     ///

@@ -1,14 +1,16 @@
 //! Certification requests.
 
 use crate::attribute::attributes;
+use crate::places::{field_at, place, whole};
 use crate::reported::Reported;
 use picky_asn1_x509::{CertificationRequest, CertificationRequestInfo};
 use std::alloc::Allocator;
 use std::fmt::{self, Write};
+use x509_fields::CertificationRequestFields;
 use x509_report_fields::algorithm::algorithm;
 use x509_report_fields::key::{bits, public_key, public_line};
 use x509_report_fields::name::{NameLine, name};
-use x509_report_parts::{Cursor, Element, Label, Secrets, Shape, Sink, Value};
+use x509_report_parts::{Label, Secrets, Shape, Sink, Span, Value};
 
 /// The version of a request: `v1` is 0 (RFC 2986, 4.1).
 fn version_of(version: u8) -> Value<'static> {
@@ -19,36 +21,43 @@ fn version_of(version: u8) -> Value<'static> {
 }
 
 /// Tells what is signed.
-fn request_info<A: Allocator, S: Sink>(
+fn request_info<A: Allocator + Copy, S: Sink>(
     sink: &mut S,
-    at: Element<'_>,
+    bytes: &[u8],
+    at: &CertificationRequestFields,
     value: &CertificationRequestInfo<A>,
 ) -> Result<(), S::Error> {
-    let mut fields = at.inside;
     let label = Label::Field("certificationRequestInfo");
-    sink.begin(label, at.span, Shape::Fields)?;
+    sink.begin(label, place(at.certification_request_info), Shape::Fields)?;
+    let at = at.fields;
     let version = version_of(value.version);
-    sink.field(Label::Field("version"), fields.next().span, version)?;
-    name(sink, "subject", fields.next(), &value.subject)?;
-    let key = &value.subject_public_key_info;
-    public_key(sink, "subjectPKInfo", fields.next(), key)?;
-    attributes(sink, fields.next(), &value.attributes.0)?;
+    sink.field(Label::Field("version"), place(at.version), version)?;
+    name(sink, "subject", field_at(bytes, at.subject), &value.subject)?;
+    let key = field_at(bytes, at.subject_public_key_info);
+    public_key(sink, "subjectPKInfo", key, &value.subject_public_key_info)?;
+    let list = field_at(bytes, at.attributes);
+    attributes(sink, bytes, list, &value.attributes.0)?;
     sink.end()
 }
 
-impl<A: Allocator> Reported for CertificationRequest<A> {
+impl<A: Allocator + Copy> Reported for CertificationRequest<A> {
     const TITLE: &'static str = "Certification request";
 
     fn tell<S: Sink>(&self, sink: &mut S, bytes: &[u8], _secrets: Secrets) -> Result<(), S::Error> {
-        let at = Cursor::new(bytes).next();
-        let mut fields = at.inside;
-        sink.begin(Label::Field("CertificationRequest"), at.span, Shape::Fields)?;
-        request_info(sink, fields.next(), &self.certification_request_info)?;
-        let field = "signatureAlgorithm";
-        algorithm(sink, field, fields.next(), &self.signature_algorithm)?;
+        let at = CertificationRequestFields::of(self, bytes);
+        let label = Label::Field("CertificationRequest");
+        sink.begin(label, whole(bytes), Shape::Fields)?;
+        request_info(sink, bytes, &at, &self.certification_request_info)?;
+        let field = field_at(bytes, at.signature_algorithm);
+        algorithm(sink, "signatureAlgorithm", field, &self.signature_algorithm)?;
         let signature = bits(&self.signature.0);
-        sink.field(Label::Field("signature"), fields.next().span, signature)?;
+        sink.field(Label::Field("signature"), place(at.signature), signature)?;
         sink.end()
+    }
+
+    fn signed(&self, bytes: &[u8]) -> Option<Span> {
+        let at = CertificationRequestFields::of(self, bytes);
+        Some(place(at.certification_request_info))
     }
 
     fn summary<W: Write>(&self, out: &mut W) -> fmt::Result {

@@ -17,6 +17,16 @@ pub struct JsonSink<A: Allocator = Global> {
     scratch: String<A>,
     /// Whether the node that is open has items, in the lowest bit; in the others, those around it.
     lists: u64,
+    /// Whether all characters of the strings that were written are shown as they are.
+    is_shown: bool,
+}
+
+/// Whether all characters of a text are shown as they are, or are controls that `json::Writer` escapes.
+fn is_shown(text: &str) -> bool {
+    if text.is_ascii() {
+        return !text.as_bytes().contains(&0x7f);
+    }
+    text.chars().all(is_plain)
 }
 
 impl<A: Allocator + Copy> JsonSink<A> {
@@ -26,21 +36,30 @@ impl<A: Allocator + Copy> JsonSink<A> {
             writer: Writer::new(out),
             scratch: String::new(alloc),
             lists: 0,
+            is_shown: true,
         }
     }
 
-    /// What was written.
-    pub fn into_inner(self) -> Vec<u8, A> {
+    /// What was written, in which each character without a glyph stands as an escape.
+    ///
+    /// # Errors
+    /// `AllocError` where memory is refused.
+    pub fn finish(self, alloc: A) -> Result<Vec<u8, A>, AllocError> {
         let JsonSink {
             writer,
             scratch,
+            is_shown,
             ..
         } = self;
         drop(scratch);
-        writer.into_inner()
+        let text = writer.into_inner();
+        if is_shown {
+            return Ok(text);
+        }
+        shielded(alloc, text)
     }
 
-    /// What writes around the nodes.
+    /// What writes around the nodes. It isn't for text of the input, which `finish` wouldn't know of.
     pub fn writer(&mut self) -> &mut Writer<A> {
         &mut self.writer
     }
@@ -50,9 +69,22 @@ impl<A: Allocator + Copy> JsonSink<A> {
     /// # Errors
     /// `AllocError` where memory is refused.
     pub fn printed<T: Display>(&mut self, value: &T) -> Result<(), AllocError> {
+        self.ascii(value)?;
+        self.is_shown = self.is_shown && is_shown(self.scratch.as_str());
+        Ok(())
+    }
+
+    /// Writes what a value prints as a string, which is digits, letters and marks of ASCII.
+    fn ascii<T: Display>(&mut self, value: &T) -> Result<(), AllocError> {
         self.scratch.clear();
         write!(self.scratch, "{value}")?;
         self.writer.string(self.scratch.as_str())
+    }
+
+    /// Writes a string.
+    fn string(&mut self, text: &str) -> Result<(), AllocError> {
+        self.is_shown = self.is_shown && is_shown(text);
+        self.writer.string(text)
     }
 
     /// Writes a member that is a string.
@@ -61,7 +93,7 @@ impl<A: Allocator + Copy> JsonSink<A> {
     /// `AllocError` where memory is refused.
     pub fn member(&mut self, name: &str, text: &str) -> Result<(), AllocError> {
         self.writer.key(name)?;
-        self.writer.string(text)
+        self.string(text)
     }
 
     /// Writes a member that is a number.
@@ -88,9 +120,12 @@ impl<A: Allocator + Copy> JsonSink<A> {
     /// Writes an object identifier's members: `id`, with dots, and `name`, if it has one here.
     fn identifier(&mut self, content: &[u8]) -> Result<(), AllocError> {
         self.writer.key("id")?;
-        self.printed(&Dotted(content))?;
+        self.ascii(&Dotted(content))?;
         match name_in(content) {
-            Some(name) => self.member("name", name),
+            Some(name) => {
+                self.writer.key("name")?;
+                self.writer.string(name)
+            }
             None => Ok(()),
         }
     }
@@ -108,7 +143,8 @@ impl<A: Allocator + Copy> JsonSink<A> {
             return self.object(span);
         }
         self.object(span)?;
-        self.member("field", name)
+        self.writer.key("field")?;
+        self.writer.string(name)
     }
 
     /// Begins an object under a label.
@@ -151,13 +187,13 @@ impl<A: Allocator + Copy> JsonSink<A> {
     fn bits(&mut self, count: u64, bytes: &[u8]) -> Result<(), AllocError> {
         self.count("bits", count)?;
         self.writer.key("value")?;
-        self.printed(&Hex(bytes))
+        self.ascii(&Hex(bytes))
     }
 
     /// Writes a value.
     fn value(&mut self, value: Value<'_>) -> Result<(), AllocError> {
         match value {
-            Value::Text(text) => self.writer.string(text),
+            Value::Text(text) => self.string(text),
             Value::Utf16(bytes) => self.printed(&Utf16(bytes)),
             Value::Word(word) => self.writer.string(word),
             Value::Words(words) => self.words(words),
@@ -168,10 +204,10 @@ impl<A: Allocator + Copy> JsonSink<A> {
             | Value::Raw(bytes)
             | Value::Kept(bytes)
             | Value::Sized(_, bytes)
-            | Value::Bits(_, bytes) => self.printed(&Hex(bytes)),
+            | Value::Bits(_, bytes) => self.ascii(&Hex(bytes)),
             Value::Flag(flag) => self.writer.boolean(flag),
-            Value::Time(moment) => self.printed(&Stamp(moment)),
-            Value::Address(bytes) => self.printed(&Address(bytes)),
+            Value::Time(moment) => self.ascii(&Stamp(moment)),
+            Value::Address(bytes) => self.ascii(&Address(bytes)),
             Value::Null | Value::Hidden(_) => self.writer.null(),
         }
     }
@@ -239,10 +275,7 @@ fn put<A: Allocator>(out: &mut String<A>, c: char) -> Result<(), AllocError> {
 ///
 /// # Errors
 /// `AllocError` where memory is refused.
-pub fn shielded<A: Allocator + Copy>(alloc: A, text: Vec<u8, A>) -> Result<Vec<u8, A>, AllocError> {
-    if text.is_ascii() && !text.contains(&0x7f) {
-        return Ok(text);
-    }
+fn shielded<A: Allocator + Copy>(alloc: A, text: Vec<u8, A>) -> Result<Vec<u8, A>, AllocError> {
     let mut out = String::new(alloc);
     if let Ok(text) = str::from_utf8(&text) {
         for c in text.chars() {

@@ -13,7 +13,7 @@ pub mod values;
 
 pub use crate::cursor::{Cursor, Element, Span};
 pub use crate::field_sink::FieldSink;
-pub use crate::json_sink::{JsonSink, shielded};
+pub use crate::json_sink::JsonSink;
 pub use crate::secrets::Secrets;
 pub use crate::sink::{Label, Moment, Shape, Sink, Value};
 pub use crate::text_sink::{Identifiers, TextSink};

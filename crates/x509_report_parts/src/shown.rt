@@ -80,7 +80,7 @@ fn write_char<W: Write>(out: &mut W, frame: Frame, c: char) -> fmt::Result {
 }
 
 /// Whether all characters of a text are letters and digits of ASCII, or stand for nothing in any frame.
-fn is_harmless(text: &str) -> bool {
+pub(crate) fn is_harmless(text: &str) -> bool {
     text.bytes().all(
         |b| matches!(b, b'a'..=b'z' | b'A'..=b'Z' | b'0'..=b'9' | b' ' | b'-' | b'.' | b'/' | b':' | b'@' | b'*'),
     )
@@ -95,11 +95,12 @@ struct Escaping<'w, W: Write> {
 
 impl<W: Write> Write for Escaping<'_, W> {
     fn write_str(&mut self, text: &str) -> fmt::Result {
-        if is_harmless(text) {
+        let frame = self.frame;
+        if is_harmless(text) || text.chars().all(|c| is_plain(c) && !is_mark(frame, c)) {
             return self.out.write_str(text);
         }
         for c in text.chars() {
-            write_char(self.out, self.frame, c)?;
+            write_char(self.out, frame, c)?;
         }
         Ok(())
     }

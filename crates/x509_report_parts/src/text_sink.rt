@@ -1,7 +1,7 @@
 //! A report as text, a line for each node.
 
 use crate::cursor::Span;
-use crate::shown::{Frame, Shown};
+use crate::shown::{Frame, Shown, is_harmless};
 use crate::sink::{Label, Shape, Sink, Value};
 use crate::values::{Address, Dotted, Hex, ShortHex, Stamp, Utf16, name_in};
 use std::fmt::{self, Display, Write};
@@ -45,10 +45,30 @@ impl<W: Write> Write for Counted<'_, W> {
 }
 
 impl<W: Write> Counted<'_, W> {
+    /// Writes a text of ASCII.
+    fn put(&mut self, text: &str) -> fmt::Result {
+        self.count = self.count.saturating_add(text.len());
+        self.out.write_str(text)
+    }
+
+    /// Writes so many spaces; as many as there are at a time, where these are fewer.
+    fn space(&mut self, count: usize) -> fmt::Result {
+        self.put(SPACES.get(..count).unwrap_or(SPACES))
+    }
+
     /// Writes spaces up to a column, and at least some.
     fn pad(&mut self, column: usize, least: usize) -> fmt::Result {
-        let missing = column.saturating_sub(self.count).max(least);
-        self.write_str(SPACES.get(..missing).unwrap_or(SPACES))
+        self.space(column.saturating_sub(self.count).max(least))
+    }
+
+    /// Writes a text of the input between quotation marks.
+    fn quote(&mut self, text: &str) -> fmt::Result {
+        if !is_harmless(text) {
+            return write_text(self, &text);
+        }
+        self.put("\"")?;
+        self.put(text)?;
+        self.put("\"")
     }
 }
 
@@ -71,12 +91,21 @@ pub struct Named<'a>(pub &'a [u8], pub Identifiers);
 
 impl Display for Named<'_> {
     fn fmt<W: Write>(&self, f: &mut fmt::Formatter<W>) -> fmt::Result {
-        let dotted = Dotted(self.0);
-        match (name_in(self.0), self.1) {
-            (Some(name), Identifiers::Named) => f.write_str(name),
-            (Some(name), Identifiers::Dotted) => write!(f, "{name} ({dotted})"),
-            (None, _) => write!(f, "{dotted}"),
-        }
+        write_identifier(f, self.0, self.1)
+    }
+}
+
+/// Writes an object identifier, by its content.
+fn write_identifier<W: Write>(
+    out: &mut W,
+    content: &[u8],
+    identifiers: Identifiers,
+) -> fmt::Result {
+    let dotted = Dotted(content);
+    match (name_in(content), identifiers) {
+        (Some(name), Identifiers::Named) => out.write_str(name),
+        (Some(name), Identifiers::Dotted) => write!(out, "{name} ({dotted})"),
+        (None, _) => write!(out, "{dotted}"),
     }
 }
 
@@ -145,13 +174,17 @@ fn write_text<W: Write, T: Display>(out: &mut W, text: &T) -> fmt::Result {
 }
 
 /// Writes a value.
-fn write_value<W: Write>(out: &mut W, value: Value<'_>, identifiers: Identifiers) -> fmt::Result {
+fn write_value<W: Write>(
+    out: &mut Counted<'_, W>,
+    value: Value<'_>,
+    identifiers: Identifiers,
+) -> fmt::Result {
     match value {
-        Value::Text(text) => write_text(out, &text),
+        Value::Text(text) => out.quote(text),
         Value::Utf16(bytes) => write_text(out, &Utf16(bytes)),
-        Value::Word(word) => out.write_str(word),
+        Value::Word(word) => out.put(word),
         Value::Words(words) => write_words(out, words),
-        Value::Identifier(content) => write!(out, "{}", Named(content, identifiers)),
+        Value::Identifier(content) => write_identifier(out, content, identifiers),
         Value::Number(number) => write!(out, "{number}"),
         Value::Integer(bytes) => write!(out, "{}", Hex(bytes)),
         Value::Sized(count, bytes) => write_number(out, count, bytes),
@@ -161,7 +194,7 @@ fn write_value<W: Write>(out: &mut W, value: Value<'_>, identifiers: Identifiers
         Value::Flag(flag) => write!(out, "{flag}"),
         Value::Time(moment) => write!(out, "{}", Stamp(moment)),
         Value::Address(bytes) => write!(out, "{}", Address(bytes)),
-        Value::Null => out.write_str("NULL"),
+        Value::Null => out.put("NULL"),
         Value::Hidden(count) => write!(out, "{count} bytes, not shown"),
     }
 }
@@ -187,9 +220,7 @@ impl<'w, W: Write> TextSink<'w, W> {
     /// value has begun.
     fn start(&mut self, label: Label<'_>) -> Result<bool, fmt::Error> {
         self.out.count = 0;
-        for _ in 0..self.depth {
-            self.out.write_str("  ")?;
-        }
+        self.out.space(self.depth.saturating_mul(2))?;
         self.label(label)?;
         let is_critical = matches!(
             label,
@@ -200,7 +231,7 @@ impl<'w, W: Write> TextSink<'w, W> {
         );
         if is_critical {
             self.out.pad(VALUES, 2)?;
-            self.out.write_str("critical")?;
+            self.out.put("critical")?;
         }
         Ok(is_critical)
     }
@@ -208,7 +239,7 @@ impl<'w, W: Write> TextSink<'w, W> {
     /// Writes what stands between a label, or a value before it, and a value.
     fn separate(&mut self, has_begun: bool) -> fmt::Result {
         if has_begun {
-            self.out.write_str(", ")
+            self.out.put(", ")
         } else {
             self.out.pad(VALUES, 2)
         }
@@ -218,9 +249,9 @@ impl<'w, W: Write> TextSink<'w, W> {
     fn label(&mut self, label: Label<'_>) -> fmt::Result {
         let identifiers = self.identifiers;
         match label {
-            Label::Field(name) => self.out.write_str(name),
+            Label::Field(name) => self.out.put(name),
             Label::Identifier(content) | Label::Extension { content, .. } => {
-                write!(self.out, "{}", Named(content, identifiers))
+                write_identifier(&mut self.out, content, identifiers)
             }
         }
     }
@@ -238,7 +269,8 @@ impl<'w, W: Write> TextSink<'w, W> {
             _ => 7,
         };
         self.out.pad(PLACES - width, 2)?;
-        writeln!(self.out, "{start}..{end}")
+        // what a line ends with isn't counted
+        writeln!(self.out.out, "{start}..{end}")
     }
 
     /// Writes a field on the line of several.
@@ -246,7 +278,7 @@ impl<'w, W: Write> TextSink<'w, W> {
         self.separate(has_begun)?;
         if !is_plain(value) {
             self.label(label)?;
-            self.out.write_str(" ")?;
+            self.out.put(" ")?;
         }
         write_value(&mut self.out, value, self.identifiers)
     }
@@ -298,7 +330,7 @@ impl<W: Write> Sink for TextSink<'_, W> {
                 self.line = None;
                 if !has_begun {
                     self.out.pad(VALUES, 2)?;
-                    self.out.write_str("empty")?;
+                    self.out.put("empty")?;
                 }
                 self.finish(span)
             }

@@ -4,13 +4,27 @@ ghost use Rattle.std.specs.Prelude.{◌≤◌, ◌<◌, length};
 
 use crate::sink::Moment;
 use std::fmt::{self, Display, Write};
+use std::str;
 use x509_der::Arcs;
 use x509_oid_names::name_of;
 
 /// The hexadecimal digits.
-const DIGITS: [&'static str; 16] = [
-    "0", "1", "2", "3", "4", "5", "6", "7", "8", "9", "a", "b", "c", "d", "e", "f",
+const DIGITS: [u8; 16] = [
+    b'0', b'1', b'2', b'3', b'4', b'5', b'6', b'7', b'8', b'9', b'a', b'b', b'c', b'd', b'e', b'f',
 ];
+
+/// How many bytes are written at a time.
+const GROUP: usize = 16;
+
+/// Puts the digits of bytes behind the colons that stand there, as in `:0a:ff`.
+fn put_digits(room: &mut [u8; 3 * GROUP], bytes: &[u8]) {
+    for (index, byte) in bytes.iter().enumerate() {
+        if index < GROUP {
+            room[3 * index + 1] = DIGITS[usize::from(*byte / 16)];
+            room[3 * index + 2] = DIGITS[usize::from(*byte % 16)];
+        }
+    }
+}
 
 /// Bytes in lower-case hexadecimal with colons between them, as in `0a:ff`.
 #[derive(Clone, Copy, Drop)]
@@ -18,14 +32,15 @@ pub struct Hex<'a>(pub &'a [u8]);
 
 impl Display for Hex<'_> {
     fn fmt<W: Write>(&self, f: &mut fmt::Formatter<W>) -> fmt::Result {
-        let mut is_first = true;
-        for byte in self.0 {
-            if !is_first {
-                f.write_str(":")?;
-            }
-            is_first = false;
-            f.write_str(DIGITS[usize::from(*byte / 16)])?;
-            f.write_str(DIGITS[usize::from(*byte % 16)])?;
+        let mut room = [b':'; 3 * GROUP];
+        // the first byte has no colon before it
+        let mut start = 1;
+        for group in self.0.chunks(GROUP) {
+            put_digits(&mut room, group);
+            let end = group.len().saturating_mul(3);
+            let digits = room.get(start..end).unwrap_or(&[]);
+            f.write_str(str::from_utf8(digits).unwrap_or(""))?;
+            start = 0;
         }
         Ok(())
     }
@@ -64,6 +79,15 @@ impl Display for Stamp {
     }
 }
 
+/// The last arcs of an object identifier under 2.5, as those of most attributes and extensions are, where there are two
+/// and each is below 128.
+fn under_2_5(content: &[u8]) -> Option<(u8, u8)> {
+    match content {
+        [0x55, third @ 0..=127, last @ 0..=127] => Some((*third, *last)),
+        _ => None,
+    }
+}
+
 /// An object identifier with dots, as in `2.5.4.3`, by its content. Bytes that are no object identifier's content stand in
 /// hexadecimal.
 #[derive(Clone, Copy, Drop)]
@@ -71,6 +95,9 @@ pub struct Dotted<'a>(pub &'a [u8]);
 
 impl Display for Dotted<'_> {
     fn fmt<W: Write>(&self, f: &mut fmt::Formatter<W>) -> fmt::Result {
+        if let Some((third, last)) = under_2_5(self.0) {
+            return write!(f, "2.5.{third}.{last}");
+        }
         let Some(arcs) = Arcs::in_content(self.0) else {
             return write!(f, "{}", Hex(self.0));
         };
@@ -91,6 +118,9 @@ const NAMED: usize = 16;
 
 /// The name of the object identifier with this content, if it has one here.
 pub fn name_in(content: &[u8]) -> Option<&'static str> {
+    if let Some((third, last)) = under_2_5(content) {
+        return name_of(&[2, 5, u64::from(third), u64::from(last)]);
+    }
     let mut room = [0; NAMED];
     let mut count: usize = 0;
     for arc in Arcs::in_content(content)? {
