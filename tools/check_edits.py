@@ -22,7 +22,7 @@ BUDGETS = [
     (25, ["x509_der"]),
     (20, ["x509_der_parts"]),
     (10, ["x509_prim", "x509_prim_parts"]),
-    (17, ["x509_names", "x509_names_parts"]),
+    (18, ["x509_names", "x509_names_parts"]),
     (28, ["x509_keys_parts"]),
     (14, ["x509_keys"]),
     (22, ["picky_asn1_x509_parts"]),

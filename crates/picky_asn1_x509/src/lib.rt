@@ -105,6 +105,7 @@ pub use x509_keys::SubjectPublicKeyInfo;
 pub use x509_keys::UnsupportedAlgorithmError;
 pub use x509_names::AttributeTypeAndValue;
 pub use x509_names::AttributeTypeAndValueParameters;
+pub use x509_names::Boxed;
 pub use x509_names::DirectoryName;
 pub use x509_names::DirectoryString;
 pub use x509_names::EdiPartyName;

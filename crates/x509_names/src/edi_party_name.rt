@@ -8,6 +8,7 @@ ghost use Rattle.x509_names.specs.EdiPartyNames.{edi_parts, edi_inner, edi_base,
 ghost use Rattle.x509_names.specs.EdiPartyNames.{edi_party_name as edi_names};
 ghost use Rattle.x509_names.specs.facts.EdiPartyNames.{edi_same, assigner_apart};
 
+use crate::boxed::TakesMemory;
 use std::alloc::{AllocError, Allocator, Global};
 use x509_der::parts::{
     Constructed, Content, Explicit0, Explicit1, Field, Join, OneTag, Optional, Reader,
@@ -164,6 +165,10 @@ impl<A: Allocator + Copy> Content<A> for EdiPartyName<A> {
     ghost open = { λ b. refl };
 
     ghost content_agrees = { λ v. refl };
+}
+
+impl<A: Allocator + Copy> TakesMemory<A> for EdiPartyName<A> {
+    ghost takes_memory = { λ h. h.0.0 };
 }
 
 impl<A: Allocator + Copy> FromDer<A> for EdiPartyName<A> {

@@ -11,15 +11,16 @@ ghost use Rattle.x509_names.specs.GeneralNames.{strict_name, loose_name, general
 ghost use Rattle.x509_names.specs.GeneralNames.{general_name as general_names};
 ghost use Rattle.x509_names.specs.facts.GeneralNames.{general_keeps, general_lawful, general_element};
 
+use crate::boxed::Boxed;
 use crate::edi_party_name::EdiPartyName;
 use crate::name::Name;
 use crate::other_name::OtherName;
 use std::alloc::{AllocError, Allocator, Global};
 use x509_der::parts::Choice::{First, Second};
 use x509_der::parts::{
-    Choice, ContentOf, Explicit0, Explicit1, Explicit2, Explicit4, Explicit5, Explicit6, Explicit7,
-    Explicit8, Field, Found, Implicit1, Implicit2, Implicit4, Implicit6, Implicit7, Implicit8,
-    Reader, Tag, Tagged, View, element_len, read_viewed, write_element,
+    Choice, Content, ContentOf, Explicit0, Explicit1, Explicit2, Explicit4, Explicit5, Explicit6,
+    Explicit7, Explicit8, Field, Found, Implicit1, Implicit2, Implicit4, Implicit6, Implicit7,
+    Implicit8, Reader, Tag, Tagged, View, element_len, read_viewed, write_element,
 };
 use x509_der::{
     Asn1SequenceOf, CloneEq, Deviation, FromDer, ObjectIdentifierAsn1, OctetStringAsn1, ReadError,
@@ -44,11 +45,14 @@ pub type GeneralNames<A = Global> = Asn1SequenceOf<GeneralName<A>, A>;
 ///
 /// The forms under 1, 2, 6, 7 and 8 are also read under the explicit tag, and a `Name` under the byte 84 with its
 /// content alone, each with the deviation `GeneralNameForm`.
+///
+/// # Memory
+/// The two large forms, which are rare, are on the heap, so that a list of names is small.
 #[derive(Drop)]
 #[derive_where(Debug, PartialEq, Eq)]
 pub enum GeneralName<A: Allocator = Global> {
     /// A name of the form that an object identifier tells.
-    OtherName(OtherName<A>),
+    OtherName(Boxed<OtherName<A>, A>),
     /// A mail address (RFC 5280, 4.2.1.6; RFC 2821). What stands in it isn't looked at.
     Rfc822Name(Ia5StringAsn1<A>),
     /// A name of the domain name system. What stands in it isn't looked at.
@@ -56,7 +60,7 @@ pub enum GeneralName<A: Allocator = Global> {
     /// A name of the directory.
     DirectoryName(Name<A>),
     /// A party to electronic data interchange.
-    EdiPartyName(EdiPartyName<A>),
+    EdiPartyName(Boxed<EdiPartyName<A>, A>),
     /// A URI. What stands in it isn't looked at.
     Uri(Ia5StringAsn1<A>),
     /// An address of the internet protocol, in network byte order: 4 or 16 bytes by the standard, and any number here.
@@ -66,20 +70,25 @@ pub enum GeneralName<A: Allocator = Global> {
 }
 
 impl<A: Allocator> GeneralName<A> {
-    /// A party to electronic data interchange, and who named it, where that is to be said. Takes no memory.
+    /// A party to electronic data interchange, and who named it, where that is to be said.
+    ///
+    /// # Errors
+    /// `AllocError` where memory is refused. The names are dropped then.
     pub fn new_edi_party_name(
+        alloc: A,
         party_name: DirectoryString<A>,
         name_assigner: Option<DirectoryString<A>>,
-    ) -> Self
-        ensures { result ≡ form.EdiPartyName (record {
+    ) -> Result<Self, AllocError>
+        ensures { IfOk result (λ general. general ≡ form.EdiPartyName (record {
           name_assigner = name_assigner;
           party_name = party_name;
-        }) }
+        })) }
     {
-        GeneralName::EdiPartyName(EdiPartyName {
+        let name = EdiPartyName {
             name_assigner,
             party_name,
-        })
+        };
+        Ok(GeneralName::EdiPartyName(Boxed::new(alloc, name)?))
     }
 }
 
@@ -134,7 +143,7 @@ impl<A: Allocator> SameEq for GeneralName<A> {
 /// The alternatives that are written, the first half of them.
 type StrictFront<A> = Choice<
     Choice<
-        Tagged<Explicit0, ContentOf<OtherName<A>>>,
+        Tagged<Explicit0, ContentOf<Boxed<OtherName<A>, A>>>,
         Tagged<Implicit1, ContentOf<Ia5StringAsn1<A>>>,
     >,
     Choice<Tagged<Implicit2, ContentOf<Ia5StringAsn1<A>>>, Tagged<Explicit4, Name<A>>>,
@@ -143,7 +152,7 @@ type StrictFront<A> = Choice<
 /// The other half.
 type StrictBack<A> = Choice<
     Choice<
-        Tagged<Explicit5, ContentOf<EdiPartyName<A>>>,
+        Tagged<Explicit5, ContentOf<Boxed<EdiPartyName<A>, A>>>,
         Tagged<Implicit6, ContentOf<Ia5StringAsn1<A>>>,
     >,
     Choice<
@@ -311,11 +320,11 @@ impl<A: Allocator + Copy> Field<A> for GeneralName<A> {
 
     fn known(&self) {
         match self {
-            GeneralName::OtherName(name) => name.known(),
+            GeneralName::OtherName(name) => name.known_content(),
             GeneralName::Rfc822Name(text) | GeneralName::DnsName(text) | GeneralName::Uri(text) =>
                 Field::<A>::known(text),
             GeneralName::DirectoryName(name) => name.known(),
-            GeneralName::EdiPartyName(name) => name.known(),
+            GeneralName::EdiPartyName(name) => name.known_content(),
             GeneralName::IpAddress(octets) => octets.known(),
             GeneralName::RegisteredId(id) => id.known(),
         }

@@ -8,6 +8,7 @@ ghost use Rattle.x509_names.specs.OtherNames.{other_parts, other_inner, other_ba
 ghost use Rattle.x509_names.specs.OtherNames.{other_name as other_names};
 ghost use Rattle.x509_names.specs.facts.OtherNames.{other_same};
 
+use crate::boxed::TakesMemory;
 use std::alloc::{AllocError, Allocator, Global};
 use x509_der::parts::{
     Constructed, Content, Explicit0, Field, Join, OneTag, Reader, SEQUENCE_TAG, Sequence,
@@ -156,6 +157,10 @@ impl<A: Allocator + Copy> Content<A> for OtherName<A> {
     ghost open = { λ b. refl };
 
     ghost content_agrees = { λ v. refl };
+}
+
+impl<A: Allocator + Copy> TakesMemory<A> for OtherName<A> {
+    ghost takes_memory = { λ h. h.1 };
 }
 
 impl<A: Allocator + Copy> FromDer<A> for OtherName<A> {

@@ -26,6 +26,7 @@ mod root {
     pub use picky_asn1_x509::BmpCharSet;
     pub use picky_asn1_x509::BmpString;
     pub use picky_asn1_x509::BmpStringAsn1;
+    pub use picky_asn1_x509::Boxed;
     pub use picky_asn1_x509::Certificate;
     pub use picky_asn1_x509::CertificationRequest;
     pub use picky_asn1_x509::CertificationRequestInfo;
@@ -196,7 +197,7 @@ mod laws {
 /// In `name`.
 mod name {
     pub use picky_asn1_x509::name::{
-        DirectoryName, EdiPartyName, GeneralName, GeneralNames, Name, NameAttr,
+        Boxed, DirectoryName, EdiPartyName, GeneralName, GeneralNames, Name, NameAttr,
         NamePrettyFormatter, OtherName, RdnSequence, RelativeDistinguishedName,
     };
 }
