@@ -2,7 +2,8 @@
  * cimaroly.h: check, encode and look into X.509 structures in DER.
  *
  * Every call reads the whole of its input as one structure of a kind, and answers a status. What the calls promise is
- * proved; docs/PROVED.md says of each call what.
+ * proved; docs/PROVED.md says of each call what. Tested, not proved: that a call leaves memory->at and memory->size as
+ * they were, and which text cimaroly_report writes.
  *
  * Rules for every call:
  *
