@@ -33,7 +33,7 @@ BUDGETS = [
     (6, ["x509_pem"]),
     (7, ["x509_report_parts"]),
     (6, ["x509_oid_names", "x509_report_fields", "x509_inspect_parts"]),
-    (4, ["x509_inspect", "cimaroly_work"]),
+    (5, ["x509_inspect", "cimaroly_work", "cimaroly_parts"]),
     (32, ["lent_memory", "x509_flat", "x509_flat_report", "cimaroly_c"]),
 ]
 
