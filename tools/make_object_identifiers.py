@@ -49,6 +49,9 @@ NAMES_HEAD = """//! The names of object identifiers, as the standards spell them
 //! `tools/further_names.tsv`.
 #![tactic(auto)]
 
+mod iso;
+mod itu;
+
 /// The name of an object identifier, if it has one here.
 pub fn name_of(arcs: &[u64]) -> Option<&'static str> {
     let (last, front) = arcs.split_last()?;
@@ -56,34 +59,45 @@ pub fn name_of(arcs: &[u64]) -> Option<&'static str> {
 """
 
 
+# What the names under an arc stand in, by that arc: one file for all would be long.
+MODULES = {0: "itu", 1: "iso", 2: "itu"}
+MODULE_HEADS = {
+    "iso": "//! Names of ISO's identifiers, under arc 1. This file is written by `tools/make_object_identifiers.py`.\n",
+    "itu": "//! Names of ITU-T's identifiers, under arc 0, and of those that it shares with ISO, under arc 2. This file is written by\n"
+    "//! `tools/make_object_identifiers.py`.\n",
+}
+
+
 def rows_of(name):
     with open(HERE / name, newline="", encoding="utf-8") as file:
         return list(csv.DictReader(file, delimiter="\t"))
 
 
-def write(crate, text):
-    target = HERE.parent / "crates" / crate / "src" / "lib.rt"
+def write(crate, text, file="lib.rt"):
+    target = HERE.parent / "crates" / crate / "src" / file
     target.parent.mkdir(parents=True, exist_ok=True)
     target.write_text(text, encoding="utf-8")
 
 
-def names_text(rows):
+def write_names(rows):
     """The crate of names: a function for the identifiers under each front, since one for all takes long to prove."""
     fronts = {}
     for row in rows:
         *front, last = row["arcs"].split(".")
         fronts.setdefault(tuple(map(int, front)), []).append((int(last), row["name"]))
     text = NAMES_HEAD
-    for front in sorted(fronts):
-        text += f"        [{', '.join(map(str, front))}] => under_{'_'.join(map(str, front))}(*last),\n"
-    text += "        _ => None,\n    }\n}\n"
+    modules = dict(MODULE_HEADS)
     for front, named in sorted(fronts.items()):
-        text += f"\n/// The names under {'.'.join(map(str, front))}.\n"
-        text += f"fn under_{'_'.join(map(str, front))}(last: u64) -> Option<&'static str> {{\n    match last {{\n"
+        module, function = MODULES[front[0]], f"under_{'_'.join(map(str, front))}"
+        text += f"        [{', '.join(map(str, front))}] => {module}::{function}(*last),\n"
+        modules[module] += f"\n/// The names under {'.'.join(map(str, front))}.\n"
+        modules[module] += f"pub(crate) fn {function}(last: u64) -> Option<&'static str> {{\n    match last {{\n"
         for last, name in sorted(named):
-            text += f'        {last} => Some("{name}"),\n'
-        text += "        _ => None,\n    }\n}\n"
-    return text
+            modules[module] += f'        {last} => Some("{name}"),\n'
+        modules[module] += "        _ => None,\n    }\n}\n"
+    write("x509_oid_names", text + "        _ => None,\n    }\n}\n")
+    for module, text in modules.items():
+        write("x509_oid_names", text, f"{module}.rt")
 
 
 TESTS_HEAD = """//! The identifiers of the two tables, each with its name. This file is written by `tools/make_object_identifiers.py`.
@@ -126,7 +140,7 @@ def main():
                     **row, listed=" ∷ ".join(arcs + ["[]"]), array=", ".join(arcs)
                 )
         write(crate, text)
-    write("x509_oid_names", names_text(rows + rows_of("further_names.tsv")))
+    write_names(rows + rows_of("further_names.tsv"))
     (HERE.parent / "crates/x509_report_tests/src/tests/names.rt").write_text(tests_text(rows), encoding="utf-8")
 
 

@@ -1,0 +1,398 @@
+//! Names of ISO's identifiers, under arc 1. This file is written by `tools/make_object_identifiers.py`.
+
+/// The names under 1.2.840.10040.4.
+pub(crate) fn under_1_2_840_10040_4(last: u64) -> Option<&'static str> {
+    match last {
+        3 => Some("id-dsa-with-sha1"),
+        _ => None,
+    }
+}
+
+/// The names under 1.2.840.10045.2.
+pub(crate) fn under_1_2_840_10045_2(last: u64) -> Option<&'static str> {
+    match last {
+        1 => Some("id-ecPublicKey"),
+        _ => None,
+    }
+}
+
+/// The names under 1.2.840.10045.3.1.
+pub(crate) fn under_1_2_840_10045_3_1(last: u64) -> Option<&'static str> {
+    match last {
+        1 => Some("secp192r1"),
+        7 => Some("secp256r1"),
+        _ => None,
+    }
+}
+
+/// The names under 1.2.840.10045.4.3.
+pub(crate) fn under_1_2_840_10045_4_3(last: u64) -> Option<&'static str> {
+    match last {
+        2 => Some("ecdsa-with-SHA256"),
+        3 => Some("ecdsa-with-SHA384"),
+        4 => Some("ecdsa-with-SHA512"),
+        _ => None,
+    }
+}
+
+/// The names under 1.2.840.10046.2.
+pub(crate) fn under_1_2_840_10046_2(last: u64) -> Option<&'static str> {
+    match last {
+        1 => Some("dhpublicnumber"),
+        _ => None,
+    }
+}
+
+/// The names under 1.2.840.48018.1.2.
+pub(crate) fn under_1_2_840_48018_1_2(last: u64) -> Option<&'static str> {
+    match last {
+        2 => Some("ms-krb5"),
+        _ => None,
+    }
+}
+
+/// The names under 1.2.840.113549.
+pub(crate) fn under_1_2_840_113549(last: u64) -> Option<&'static str> {
+    match last {
+        2 => Some("digestAlgorithm"),
+        _ => None,
+    }
+}
+
+/// The names under 1.2.840.113549.1.1.
+pub(crate) fn under_1_2_840_113549_1_1(last: u64) -> Option<&'static str> {
+    match last {
+        1 => Some("rsaEncryption"),
+        4 => Some("md5WithRSAEncryption"),
+        5 => Some("sha1WithRSAEncryption"),
+        8 => Some("id-mgf1"),
+        10 => Some("id-RSASSA-PSS"),
+        11 => Some("sha256WithRSAEncryption"),
+        12 => Some("sha384WithRSAEncryption"),
+        13 => Some("sha512WithRSAEncryption"),
+        14 => Some("sha224WithRSAEncryption"),
+        _ => None,
+    }
+}
+
+/// The names under 1.2.840.113549.1.5.
+pub(crate) fn under_1_2_840_113549_1_5(last: u64) -> Option<&'static str> {
+    match last {
+        12 => Some("id-PBKDF2"),
+        13 => Some("id-PBES2"),
+        _ => None,
+    }
+}
+
+/// The names under 1.2.840.113549.1.7.
+pub(crate) fn under_1_2_840_113549_1_7(last: u64) -> Option<&'static str> {
+    match last {
+        1 => Some("id-data"),
+        2 => Some("id-signedData"),
+        3 => Some("id-envelopedData"),
+        6 => Some("id-encryptedData"),
+        _ => None,
+    }
+}
+
+/// The names under 1.2.840.113549.1.9.
+pub(crate) fn under_1_2_840_113549_1_9(last: u64) -> Option<&'static str> {
+    match last {
+        1 => Some("emailAddress"),
+        2 => Some("unstructuredName"),
+        3 => Some("contentType"),
+        4 => Some("messageDigest"),
+        5 => Some("signingTime"),
+        6 => Some("countersignature"),
+        7 => Some("challengePassword"),
+        14 => Some("extensionRequest"),
+        20 => Some("friendlyName"),
+        21 => Some("localKeyId"),
+        _ => None,
+    }
+}
+
+/// The names under 1.2.840.113549.1.9.22.
+pub(crate) fn under_1_2_840_113549_1_9_22(last: u64) -> Option<&'static str> {
+    match last {
+        1 => Some("x509Certificate"),
+        _ => None,
+    }
+}
+
+/// The names under 1.2.840.113549.1.9.23.
+pub(crate) fn under_1_2_840_113549_1_9_23(last: u64) -> Option<&'static str> {
+    match last {
+        1 => Some("x509CRL"),
+        _ => None,
+    }
+}
+
+/// The names under 1.2.840.113549.1.12.1.
+pub(crate) fn under_1_2_840_113549_1_12_1(last: u64) -> Option<&'static str> {
+    match last {
+        3 => Some("pbeWithSHAAnd3-KeyTripleDES-CBC"),
+        6 => Some("pbeWithSHAAnd40BitRC2-CBC"),
+        _ => None,
+    }
+}
+
+/// The names under 1.2.840.113549.1.12.10.1.
+pub(crate) fn under_1_2_840_113549_1_12_10_1(last: u64) -> Option<&'static str> {
+    match last {
+        1 => Some("keyBag"),
+        2 => Some("pkcs8ShroudedKeyBag"),
+        3 => Some("certBag"),
+        4 => Some("crlBag"),
+        5 => Some("secretBag"),
+        6 => Some("safeContentsBag"),
+        _ => None,
+    }
+}
+
+/// The names under 1.2.840.113549.2.
+pub(crate) fn under_1_2_840_113549_2(last: u64) -> Option<&'static str> {
+    match last {
+        5 => Some("id-md5"),
+        7 => Some("id-hmacWithSHA1"),
+        8 => Some("id-hmacWithSHA224"),
+        9 => Some("id-hmacWithSHA256"),
+        10 => Some("id-hmacWithSHA384"),
+        11 => Some("id-hmacWithSHA512"),
+        _ => None,
+    }
+}
+
+/// The names under 1.2.840.113554.1.2.
+pub(crate) fn under_1_2_840_113554_1_2(last: u64) -> Option<&'static str> {
+    match last {
+        2 => Some("krb5"),
+        _ => None,
+    }
+}
+
+/// The names under 1.2.840.113554.1.2.2.
+pub(crate) fn under_1_2_840_113554_1_2_2(last: u64) -> Option<&'static str> {
+    match last {
+        3 => Some("krb5-user-to-user"),
+        _ => None,
+    }
+}
+
+/// The names under 1.3.6.1.4.1.311.2.1.
+pub(crate) fn under_1_3_6_1_4_1_311_2_1(last: u64) -> Option<&'static str> {
+    match last {
+        4 => Some("SPC_INDIRECT_DATA"),
+        11 => Some("SPC_STATEMENT_TYPE"),
+        12 => Some("SPC_SP_OPUS_INFO"),
+        15 => Some("SPC_PE_IMAGE_DATA"),
+        30 => Some("SPC_SIPINFO"),
+        _ => None,
+    }
+}
+
+/// The names under 1.3.6.1.4.1.311.2.2.
+pub(crate) fn under_1_3_6_1_4_1_311_2_2(last: u64) -> Option<&'static str> {
+    match last {
+        10 => Some("NTLMSSP"),
+        30 => Some("NEGOEX"),
+        _ => None,
+    }
+}
+
+/// The names under 1.3.6.1.4.1.311.3.2.
+pub(crate) fn under_1_3_6_1_4_1_311_3_2(last: u64) -> Option<&'static str> {
+    match last {
+        1 => Some("timestampRequest"),
+        _ => None,
+    }
+}
+
+/// The names under 1.3.6.1.4.1.311.3.3.
+pub(crate) fn under_1_3_6_1_4_1_311_3_3(last: u64) -> Option<&'static str> {
+    match last {
+        1 => Some("RFC3161_counterSign"),
+        _ => None,
+    }
+}
+
+/// The names under 1.3.6.1.4.1.311.10.
+pub(crate) fn under_1_3_6_1_4_1_311_10(last: u64) -> Option<&'static str> {
+    match last {
+        1 => Some("CTL"),
+        _ => None,
+    }
+}
+
+/// The names under 1.3.6.1.4.1.311.10.3.
+pub(crate) fn under_1_3_6_1_4_1_311_10_3(last: u64) -> Option<&'static str> {
+    match last {
+        9 => Some("ROOT_LIST_SIGNER"),
+        13 => Some("KP_LIFETIME_SIGNING"),
+        _ => None,
+    }
+}
+
+/// The names under 1.3.6.1.4.1.311.10.11.
+pub(crate) fn under_1_3_6_1_4_1_311_10_11(last: u64) -> Option<&'static str> {
+    match last {
+        9 => Some("CERT_ENHKEY_USAGE_PROP_ID"),
+        11 => Some("CERT_FRIENDLY_NAME_PROP_ID"),
+        20 => Some("CERT_KEY_IDENTIFIER_PROP_ID"),
+        29 => Some("CERT_SUBJECT_NAME_MD5_HASH_PROP_ID"),
+        83 => Some("CERT_ROOT_PROGRAM_CERT_POLICIES_PROP_ID"),
+        98 => Some("CERT_AUTH_ROOT_SHA256_HASH_PROP_ID"),
+        104 => Some("CERT_DISALLOWED_FILETIME_PROP_ID"),
+        105 => Some("CERT_ROOT_PROGRAM_CHAIN_POLICIES_PROP_ID"),
+        122 => Some("CERT_DISALLOWED_ENHKEY_USAGE_PROP_ID"),
+        126 => Some("reservedPropertyId-126"),
+        127 => Some("reservedPropertyId-127"),
+        _ => None,
+    }
+}
+
+/// The names under 1.3.6.1.4.1.311.20.2.
+pub(crate) fn under_1_3_6_1_4_1_311_20_2(last: u64) -> Option<&'static str> {
+    match last {
+        2 => Some("KP_SMARTCARD_LOGON"),
+        3 => Some("NT_PRINCIPAL_NAME"),
+        _ => None,
+    }
+}
+
+/// The names under 1.3.6.1.4.1.311.60.2.1.
+pub(crate) fn under_1_3_6_1_4_1_311_60_2_1(last: u64) -> Option<&'static str> {
+    match last {
+        1 => Some("jurisdictionLocalityName"),
+        2 => Some("jurisdictionStateOrProvinceName"),
+        3 => Some("jurisdictionCountryName"),
+        _ => None,
+    }
+}
+
+/// The names under 1.3.6.1.4.1.311.60.3.
+pub(crate) fn under_1_3_6_1_4_1_311_60_3(last: u64) -> Option<&'static str> {
+    match last {
+        2 => Some("AUTO_UPDATE_END_REVOCATION"),
+        _ => None,
+    }
+}
+
+/// The names under 1.3.6.1.4.1.311.74.
+pub(crate) fn under_1_3_6_1_4_1_311_74(last: u64) -> Option<&'static str> {
+    match last {
+        1 => Some("protectionDescriptorType"),
+        _ => None,
+    }
+}
+
+/// The names under 1.3.6.1.4.1.311.74.1.
+pub(crate) fn under_1_3_6_1_4_1_311_74_1(last: u64) -> Option<&'static str> {
+    match last {
+        1 => Some("sidProtected"),
+        2 => Some("keyFileProtected"),
+        5 => Some("sddlProtected"),
+        8 => Some("localProtected"),
+        _ => None,
+    }
+}
+
+/// The names under 1.3.6.1.4.1.11129.2.4.
+pub(crate) fn under_1_3_6_1_4_1_11129_2_4(last: u64) -> Option<&'static str> {
+    match last {
+        2 => Some("signedCertificateTimestampList"),
+        3 => Some("precertificatePoison"),
+        _ => None,
+    }
+}
+
+/// The names under 1.3.6.1.5.2.
+pub(crate) fn under_1_3_6_1_5_2(last: u64) -> Option<&'static str> {
+    match last {
+        5 => Some("iakerb"),
+        7 => Some("pku2u"),
+        _ => None,
+    }
+}
+
+/// The names under 1.3.6.1.5.2.3.
+pub(crate) fn under_1_3_6_1_5_2_3(last: u64) -> Option<&'static str> {
+    match last {
+        1 => Some("id-pkinit-authData"),
+        2 => Some("id-pkinit-DHKeyData"),
+        _ => None,
+    }
+}
+
+/// The names under 1.3.6.1.5.5.
+pub(crate) fn under_1_3_6_1_5_5(last: u64) -> Option<&'static str> {
+    match last {
+        2 => Some("spnego"),
+        _ => None,
+    }
+}
+
+/// The names under 1.3.6.1.5.5.7.1.
+pub(crate) fn under_1_3_6_1_5_5_7_1(last: u64) -> Option<&'static str> {
+    match last {
+        1 => Some("id-pe-authorityInfoAccess"),
+        11 => Some("id-pe-subjectInfoAccess"),
+        24 => Some("id-pe-tlsfeature"),
+        _ => None,
+    }
+}
+
+/// The names under 1.3.6.1.5.5.7.3.
+pub(crate) fn under_1_3_6_1_5_5_7_3(last: u64) -> Option<&'static str> {
+    match last {
+        1 => Some("id-kp-serverAuth"),
+        2 => Some("id-kp-clientAuth"),
+        3 => Some("id-kp-codeSigning"),
+        4 => Some("id-kp-emailProtection"),
+        5 => Some("id-kp-ipsecEndSystem"),
+        6 => Some("id-kp-ipsecTunnel"),
+        7 => Some("id-kp-ipsecUser"),
+        8 => Some("id-kp-timeStamping"),
+        9 => Some("id-kp-OCSPSigning"),
+        _ => None,
+    }
+}
+
+/// The names under 1.3.14.3.2.
+pub(crate) fn under_1_3_14_3_2(last: u64) -> Option<&'static str> {
+    match last {
+        26 => Some("id-sha1"),
+        _ => None,
+    }
+}
+
+/// The names under 1.3.101.
+pub(crate) fn under_1_3_101(last: u64) -> Option<&'static str> {
+    match last {
+        110 => Some("id-X25519"),
+        111 => Some("id-X448"),
+        112 => Some("id-Ed25519"),
+        113 => Some("id-Ed448"),
+        _ => None,
+    }
+}
+
+/// The names under 1.3.132.0.
+pub(crate) fn under_1_3_132_0(last: u64) -> Option<&'static str> {
+    match last {
+        1 => Some("sect163k1"),
+        15 => Some("sect163r2"),
+        16 => Some("sect283k1"),
+        17 => Some("sect283r1"),
+        26 => Some("sect233k1"),
+        27 => Some("sect233r1"),
+        33 => Some("secp224r1"),
+        34 => Some("secp384r1"),
+        35 => Some("secp521r1"),
+        36 => Some("sect409k1"),
+        37 => Some("sect409r1"),
+        38 => Some("sect571k1"),
+        39 => Some("sect571r1"),
+        _ => None,
+    }
+}
