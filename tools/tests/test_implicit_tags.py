@@ -56,23 +56,23 @@ class ImplicitTags(unittest.TestCase):
         return run.stdout
 
     def test_of_the_same_form(self):
-        self.assertIn("run=ended status=0", self.tried("Implicit1", "u8", "\\x81\\x01\\x05"))
+        self.assertIn("run=ended status=0", self.tried("ContextPrimitive<1>", "u8", "\\x81\\x01\\x05"))
 
     def test_of_a_choice(self):
-        said = self.tried("Implicit1", "x509_der::parts::Choice<u8, bool>", "\\x81\\x01\\x05")
+        said = self.tried("ContextPrimitive<1>", "x509_der::parts::Choice<u8, bool>", "\\x81\\x01\\x05")
         self.assertIn("the trait bound `Choice<u8, bool>: OneTag<Global>` is not satisfied", said)
 
     def test_of_any_element(self):
-        said = self.tried("Implicit1", "x509_der::Asn1RawDer<Global>", "\\x81\\x01\\x05")
+        said = self.tried("ContextPrimitive<1>", "x509_der::Asn1RawDer<Global>", "\\x81\\x01\\x05")
         self.assertIn("OneTag<Global>` is not satisfied", said)
 
     def test_of_a_list_under_a_primitive_tag(self):
-        said = self.tried("Implicit1", LIST, "\\x81\\x03\\x02\\x01\\x05")
-        self.assertIn("the trait bound `Implicit1: TagOf<<Asn1SequenceOf<u8> as OneTag<Global>>::Form>` is not satisfied", said)
+        said = self.tried("ContextPrimitive<1>", LIST, "\\x81\\x03\\x02\\x01\\x05")
+        self.assertIn("the trait bound `ContextPrimitive<1>: TagOf<<Asn1SequenceOf<u8> as OneTag<Global>>::Form>` is not satisfied", said)
 
     def test_of_a_number_under_a_constructed_tag(self):
-        said = self.tried("Explicit1", "u8", "\\xA1\\x01\\x05")
-        self.assertIn("the trait bound `Explicit1: TagOf<", said)
+        said = self.tried("ContextConstructed<1>", "u8", "\\xA1\\x01\\x05")
+        self.assertIn("the trait bound `ContextConstructed<1>: TagOf<", said)
 
 
 if __name__ == "__main__":

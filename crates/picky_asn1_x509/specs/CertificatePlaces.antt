@@ -6,11 +6,11 @@ use Rattle.x509_der.specs.Items.{ItemsAt}
 use Rattle.x509_der.specs.Tally.{Tally}
 use Rattle.x509_names.specs.Types.{Version}
 use Rattle.picky_asn1_x509_parts.specs.Extensions.{ExtensionFields}
-use Rattle.picky_asn1_x509_parts.specs.RequestAttributes.{attribute}
+use Rattle.picky_asn1_x509_parts.specs.Attribute.{attribute}
 use Rattle.picky_asn1_x509_parts.specs.declared.attribute.Attribute.{Attribute}
 use Rattle.picky_asn1_x509.specs.Certificates.{signature_fields}
 use Rattle.picky_asn1_x509.specs.Requests.{info_parts, info_inner, request_info}
-use Rattle.picky_asn1_x509.specs.TbsCertificates.{version_in, list_in, core_of, tbs_inner, tbs_certificate}
+use Rattle.picky_asn1_x509.specs.TbsCertificates.{version_in, list_in, required_of, tbs_inner, tbs_certificate}
 use Rattle.picky_asn1_x509.specs.declared.certificate.Certificate.{Certificate}
 use Rattle.picky_asn1_x509.specs.declared.certification_request.CertificationRequest.{CertificationRequest}
 use Rattle.picky_asn1_x509.specs.declared.certification_request.CertificationRequestInfo.{CertificationRequestInfo}
@@ -24,7 +24,7 @@ pub record TbsAt {A : Type 0} (v : TbsCertificate A) (string : List ℕ) (y : Ta
   pub version_means : version_in version ≡ v.version
   pub extensions : Option (List (ExtensionFields A))
   pub extensions_mean : list_in extensions ≡ v.extensions
-  pub fields : Stands tbs_inner (version, (core_of v, (v.issuer_unique_id, (v.subject_unique_id, extensions)))) (header content) content string y
+  pub fields : Stands tbs_inner (version, (required_of v, (v.issuer_unique_id, (v.subject_unique_id, extensions)))) (header content) content string y
 
 -- the signed part right behind the header, and behind it the algorithm and the signature
 pub record CertificateAt {A : Type 0} (v : Certificate A) (string : List ℕ) (y : Tally) : Type 0 where

@@ -49,8 +49,8 @@ pub use Rattle.x509_names.specs.EdiPartyNames
 pub use Rattle.x509_names.specs.GeneralNames
 pub use Rattle.x509_names.specs.NameTexts
 pub use Rattle.x509_names.specs.Names
-pub use Rattle.x509_names.specs.Times as TimeChoices
 pub use Rattle.x509_names.specs.OtherNames
+pub use Rattle.x509_names.specs.Time
 pub use Rattle.x509_names.specs.Validities
 pub use Rattle.x509_names.specs.Versions
 pub use Rattle.x509_keys.specs.AesAuthEncParams
@@ -80,15 +80,15 @@ pub use Rattle.x509_keys.specs.RsassaPss
 pub use Rattle.x509_keys.specs.ShaVariants
 pub use Rattle.x509_keys.specs.SubjectPublicKeyInfos
 pub use Rattle.x509_keys.specs.Unsupported
-pub use Rattle.picky_asn1_x509_parts.specs.Constraints
+pub use Rattle.picky_asn1_x509_parts.specs.Attribute
+pub use Rattle.picky_asn1_x509_parts.specs.AuthorityKeyIdentifier
+pub use Rattle.picky_asn1_x509_parts.specs.AuthorityKeyIdentifierLaws
+pub use Rattle.picky_asn1_x509_parts.specs.BasicConstraints
+pub use Rattle.picky_asn1_x509_parts.specs.ExtendedKeyUsage
 pub use Rattle.picky_asn1_x509_parts.specs.ExtensionLists
 pub use Rattle.picky_asn1_x509_parts.specs.Extensions
-pub use Rattle.picky_asn1_x509_parts.specs.KeyAuthorities
-pub use Rattle.picky_asn1_x509_parts.specs.KeyAuthorityLaws
-pub use Rattle.picky_asn1_x509_parts.specs.KeyPurposes
 pub use Rattle.picky_asn1_x509_parts.specs.KeyUsages
 pub use Rattle.picky_asn1_x509_parts.specs.Lending
-pub use Rattle.picky_asn1_x509_parts.specs.RequestAttributes
 pub mod CertificatePlaces
 pub mod Certificates
 pub mod LookUps

@@ -1,11 +1,11 @@
 -- What the extensions of a certificate hold.
 use Rattle.std.specs.Prelude.{ℕ, List, Option, Some, None}
 pub use Rattle.picky_asn1_x509_parts.specs.FirstExtensions.{has_identifier, first_of}
-use Rattle.picky_asn1_x509_parts.specs.Constraints.{Constraints}
+use Rattle.picky_asn1_x509_parts.specs.BasicConstraints.{Constraints}
 use Rattle.picky_asn1_x509_parts.specs.Extensions.{ExtensionFields}
-use Rattle.picky_asn1_x509_parts.specs.KeyAuthorities.{KeyAuthority}
-use Rattle.picky_asn1_x509_parts.specs.declared.extension.ExtensionValue.{ExtensionValue}
-use Rattle.picky_asn1_x509_parts.specs.declared.extension.ExtensionValue.TheVariants as value
+use Rattle.picky_asn1_x509_parts.specs.AuthorityKeyIdentifier.{KeyAuthority}
+use Rattle.picky_asn1_x509_parts.specs.declared.extension_value.ExtensionValue.{ExtensionValue}
+use Rattle.picky_asn1_x509_parts.specs.declared.extension_value.ExtensionValue.TheVariants as value
 
 -- the octets of a subject key identifier (RFC 5280, 4.2.1.2)
 abbrev pub subject_key_in : {A : Type 0} → ExtensionValue A → Option (List ℕ)

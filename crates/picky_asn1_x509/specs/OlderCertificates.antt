@@ -12,17 +12,17 @@ use Rattle.picky_asn1_x509_parts.specs.Extensions.{ExtensionFields}
 use Rattle.picky_asn1_x509.specs.Certificates.{SignatureFields, signature_fields}
 use Rattle.picky_asn1_x509.specs.declared.certificate.Certificate.{Certificate}
 use Rattle.picky_asn1_x509.specs.declared.tbs_certificate.TbsCertificate.{TbsCertificate}
-use Rattle.picky_asn1_x509.specs.TbsCertificates.{CoreFields, version_field, core, extensions_field, version_in, written_version, version_kinds, list_in, written_list, list_kinds, extensions_fit, tbs_with}
+use Rattle.picky_asn1_x509.specs.TbsCertificates.{RequiredFields, version_field, required_fields, extensions_field, version_in, written_version, version_kinds, list_in, written_list, list_kinds, extensions_fit, tbs_with}
 
 -- the version, what every certificate has, the extensions
 abbrev pub OlderFields : Type 0 → Type 0
-OlderFields A = Option Version × (CoreFields A × Option (List (ExtensionFields A)))
+OlderFields A = Option Version × (RequiredFields A × Option (List (ExtensionFields A)))
 
 abbrev pub OlderTbs : Type 0 → Type 0
-OlderTbs A = Version × (CoreFields A × List (ExtensionFields A))
+OlderTbs A = Version × (RequiredFields A × List (ExtensionFields A))
 
 abbrev pub older_inner : {A : Type 0} → Shape (OlderFields A)
-older_inner = join (λ j. j.0) (λ j. j.1) (optional version_field) (join (λ j. j.0) (λ j. j.1) core (optional extensions_field))
+older_inner = join (λ j. j.0) (λ j. j.1) (optional version_field) (join (λ j. j.0) (λ j. j.1) required_fields (optional extensions_field))
 
 -- SEQUENCE { version [0] EXPLICIT Version DEFAULT v1, serialNumber, signature, issuer, validity, subject,
 -- subjectPublicKeyInfo, extensions [3] EXPLICIT Extensions OPTIONAL }

@@ -11,7 +11,7 @@ use Rattle.x509_der.specs.Tagged.{tagged}
 use Rattle.x509_names.specs.Names.{Sets, name, name_bytes}
 use Rattle.x509_keys.specs.SubjectPublicKeyInfos.{subject_public_key_info, subject_bytes}
 use Rattle.x509_keys.specs.declared.subject_public_key_info.SubjectPublicKeyInfo.{SubjectPublicKeyInfo}
-use Rattle.picky_asn1_x509_parts.specs.RequestAttributes.{attribute, attribute_bytes}
+use Rattle.picky_asn1_x509_parts.specs.Attribute.{attribute, attribute_bytes}
 use Rattle.picky_asn1_x509_parts.specs.declared.attribute.Attribute.{Attribute}
 use Rattle.picky_asn1_x509.specs.Certificates.{SignatureFields, signature_fields, signature_bytes}
 use Rattle.picky_asn1_x509.specs.declared.certification_request.CertificationRequest.{CertificationRequest}

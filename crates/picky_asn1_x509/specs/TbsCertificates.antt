@@ -25,8 +25,8 @@ use Rattle.picky_asn1_x509_parts.specs.ExtensionLists.{extensions, extensions_by
 use Rattle.picky_asn1_x509.specs.declared.tbs_certificate.TbsCertificate.{TbsCertificate}
 
 -- what every certificate has: the serial number, the algorithm of the signature, the issuer, the validity, the subject and its public key
-abbrev pub CoreFields : Type 0 → Type 0
-CoreFields A = List ℕ × (Algorithm A × (Sets A × (Validity × (Sets A × SubjectPublicKeyInfo A))))
+abbrev pub RequiredFields : Type 0 → Type 0
+RequiredFields A = List ℕ × (Algorithm A × (Sets A × (Validity × (Sets A × SubjectPublicKeyInfo A))))
 
 -- what may stand behind it: the unique identifiers of issuer and subject, and the extensions
 abbrev pub EndFields : Type 0 → Type 0
@@ -34,7 +34,7 @@ EndFields A = Option (List Bool) × (Option (List Bool) × Option (List (Extensi
 
 -- the fields as they stand in the SEQUENCE
 abbrev pub TbsFields : Type 0 → Type 0
-TbsFields A = Option Version × (CoreFields A × EndFields A)
+TbsFields A = Option Version × (RequiredFields A × EndFields A)
 
 -- version [0] EXPLICIT Version
 abbrev pub version_field : Shape Version
@@ -42,8 +42,8 @@ version_field = tagged 160 version
 
 -- serialNumber INTEGER, signature AlgorithmIdentifier, issuer Name, validity Validity, subject Name,
 -- subjectPublicKeyInfo SubjectPublicKeyInfo
-abbrev pub core : {A : Type 0} → Shape (CoreFields A)
-core =
+abbrev pub required_fields : {A : Type 0} → Shape (RequiredFields A)
+required_fields =
     join (λ j. j.0) (λ j. j.1) (tagged 2 integers)
     (join (λ j. j.0) (λ j. j.1) algorithm_identifier
     (join (λ j. j.0) (λ j. j.1) name
@@ -68,8 +68,8 @@ ends =
     (join (λ j. j.0) (λ j. j.1) (optional subject_id_field) (optional extensions_field))
 
 -- the fields that stand behind the version
-abbrev pub after_version : {A : Type 0} → Shape (CoreFields A × EndFields A)
-after_version = join (λ j. j.0) (λ j. j.1) core ends
+abbrev pub after_version : {A : Type 0} → Shape (RequiredFields A × EndFields A)
+after_version = join (λ j. j.0) (λ j. j.1) required_fields ends
 
 abbrev pub tbs_inner : {A : Type 0} → Shape (TbsFields A)
 tbs_inner = join (λ j. j.0) (λ j. j.1) (optional version_field) after_version
@@ -144,7 +144,7 @@ refusal_where false = UniqueIdNeedsV2
 abbrev pub tbs_refusal : {A : Type 0} → TbsFields A → ReadError
 tbs_refusal f = refusal_where (ids_fit (version_in f.0) f.1.1.0 f.1.1.1.0)
 
-abbrev pub tbs_with : {A : Type 0} → Version → CoreFields A → Option (List Bool) → Option (List Bool) → List (ExtensionFields A) → TbsCertificate A
+abbrev pub tbs_with : {A : Type 0} → Version → RequiredFields A → Option (List Bool) → Option (List Bool) → List (ExtensionFields A) → TbsCertificate A
 tbs_with n c i s es = record {
   version = n;
   serial_number = c.0;
@@ -158,15 +158,15 @@ tbs_with n c i s es = record {
   extensions = es;
 }
 
-abbrev pub core_of : {A : Type 0} → TbsCertificate A → CoreFields A
-core_of v = (v.serial_number, (v.signature, (v.issuer, (v.validity, (v.subject, v.subject_public_key_info)))))
+abbrev pub required_of : {A : Type 0} → TbsCertificate A → RequiredFields A
+required_of v = (v.serial_number, (v.signature, (v.issuer, (v.validity, (v.subject, v.subject_public_key_info)))))
 
 abbrev pub tbs_of : {A : Type 0} → TbsFields A → TbsCertificate A
 tbs_of f = tbs_with (version_in f.0) f.1.0 f.1.1.0 f.1.1.1.0 (list_in f.1.1.1.1)
 
 -- the fields that are written: neither version 1 nor an empty list
 abbrev pub tbs_back : {A : Type 0} → TbsCertificate A → TbsFields A
-tbs_back v = (written_version v.version, (core_of v, (v.issuer_unique_id, (v.subject_unique_id, written_list v.extensions))))
+tbs_back v = (written_version v.version, (required_of v, (v.issuer_unique_id, (v.subject_unique_id, written_list v.extensions))))
 
 -- certificates whose version doesn't fit aren't read; both deviations may stand over one element
 abbrev pub tbs_means : {A : Type 0} → TbsFields A → Option (TbsCertificate A × List Deviation)
@@ -185,8 +185,8 @@ abbrev pub tbs_certificate : {A : Type 0} → Shape (TbsCertificate A)
 tbs_certificate = seen tbs_meaning tbs_base
 
 -- what is written, also of parts that don't fit each other
-abbrev pub core_bytes : {A : Type 0} → CoreFields A → List ℕ
-core_bytes c = element 2 c.0 ++ (algorithm_bytes (written_fields c.1.0) ++ (element 48 (name_bytes c.1.1.0) ++ (validity.strict c.1.1.1.0 ++ (element 48 (name_bytes c.1.1.1.1.0) ++ subject_bytes c.1.1.1.1.1))))
+abbrev pub required_bytes : {A : Type 0} → RequiredFields A → List ℕ
+required_bytes c = element 2 c.0 ++ (algorithm_bytes (written_fields c.1.0) ++ (element 48 (name_bytes c.1.1.0) ++ (validity.strict c.1.1.1.0 ++ (element 48 (name_bytes c.1.1.1.1.0) ++ subject_bytes c.1.1.1.1.1))))
 
 abbrev pub id_bytes : ℕ → Option (List Bool) → List ℕ
 id_bytes t bits = optional_strict (λ b. element t (bit_content b)) bits
@@ -198,7 +198,7 @@ abbrev pub end_bytes : {A : Type 0} → EndFields A → List ℕ
 end_bytes e = id_bytes 129 e.0 ++ (id_bytes 130 e.1.0 ++ list_bytes e.1.1)
 
 abbrev pub fields_bytes : {A : Type 0} → TbsFields A → List ℕ
-fields_bytes f = (optional version_field).strict f.0 ++ (core_bytes f.1.0 ++ end_bytes f.1.1)
+fields_bytes f = (optional version_field).strict f.0 ++ (required_bytes f.1.0 ++ end_bytes f.1.1)
 
 abbrev pub tbs_bytes : {A : Type 0} → TbsCertificate A → List ℕ
 tbs_bytes v = element 48 (fields_bytes (tbs_back v))

@@ -2,10 +2,10 @@
 pub use Rattle.picky_asn1_x509_parts.specs.declared.attribute.Attribute.{Attribute}
 pub use Rattle.picky_asn1_x509_parts.specs.declared.attribute.AttributeValues.{AttributeValues}
 pub use Rattle.picky_asn1_x509_parts.specs.declared.attribute.AttributeValues.TheVariants as attribute_values
-pub use Rattle.picky_asn1_x509_parts.specs.declared.extension.ExtensionValue.{ExtensionValue}
-pub use Rattle.picky_asn1_x509_parts.specs.declared.extension.ExtensionValue.TheVariants as extension_value
-pub use Rattle.picky_asn1_x509_parts.specs.declared.extension.ExtensionView.{ExtensionView}
-pub use Rattle.picky_asn1_x509_parts.specs.declared.extension.ExtensionView.TheVariants as extension_view
+pub use Rattle.picky_asn1_x509_parts.specs.declared.extension_value.ExtensionValue.{ExtensionValue}
+pub use Rattle.picky_asn1_x509_parts.specs.declared.extension_value.ExtensionValue.TheVariants as extension_value
+pub use Rattle.picky_asn1_x509_parts.specs.declared.extension_view.ExtensionView.{ExtensionView}
+pub use Rattle.picky_asn1_x509_parts.specs.declared.extension_view.ExtensionView.TheVariants as extension_view
 pub use Rattle.x509_der.specs.Types.{Deviation}
 pub use Rattle.x509_der.specs.Types.deviation
 pub use Rattle.x509_der.specs.Types.{Place}

@@ -1,19 +1,15 @@
 -- Lemmas about the definitions.
 pub use Rattle.picky_asn1_x509_parts.specs.facts.AttributeFacts
 pub use Rattle.picky_asn1_x509_parts.specs.facts.AttributeSame
-pub use Rattle.picky_asn1_x509_parts.specs.facts.Constraints
+pub use Rattle.picky_asn1_x509_parts.specs.facts.AuthorityKeyIdentifierFacts
+pub use Rattle.picky_asn1_x509_parts.specs.facts.AuthorityKeyIdentifierLaws
+pub use Rattle.picky_asn1_x509_parts.specs.facts.BasicConstraints
 pub use Rattle.picky_asn1_x509_parts.specs.facts.ExtensionFacts
 pub use Rattle.picky_asn1_x509_parts.specs.facts.ExtensionListFacts
-pub use Rattle.picky_asn1_x509_parts.specs.facts.KeyAuthorityFacts
-pub use Rattle.picky_asn1_x509_parts.specs.facts.KeyAuthorityLaws
 pub use Rattle.picky_asn1_x509_parts.specs.facts.KeyUsages
-pub use Rattle.picky_asn1_x509_parts.specs.facts.SameAuthorities
 pub mod Certificates
 pub mod LookUps
 pub mod OlderCertificates
 pub mod Refusals
 pub mod Requests
-pub mod SameCertificates
 pub mod TbsCertificates
-pub use Rattle.picky_asn1_x509_parts.specs.facts.SameAttributes
-pub use Rattle.picky_asn1_x509_parts.specs.facts.SameExtensions

@@ -14,9 +14,9 @@ use crate::signed_read::SignedRead;
 pub use crate::tbs_certificate::TbsCertificate;
 use crate::three::{read_three, three_len, write_three};
 use picky_asn1_x509_parts::{AuthorityKeyIdentifier, BasicConstraints, Extension, ExtensionView};
-use std::alloc::{AllocError, Allocator, Global};
+use std::alloc::{Allocator, Global};
 use x509_der::parts::{
-    Field, Join, Reader, SEQUENCE_TAG, Sequence, Structure, Tagged, clone_three, read_first_field,
+    Field, Join, Reader, SEQUENCE_TAG, Sequence, Structure, Tagged, read_first_field,
 };
 use x509_der::{BitStringAsn1, CloneEq, FromDer, ReadError, ToDer, TooLong};
 use x509_keys::AlgorithmIdentifier;
@@ -29,6 +29,7 @@ use x509_keys::AlgorithmIdentifier;
 /// BIT STRING }` (RFC 5280, 4.1.1).
 #[derive(Drop)]
 #[derive_where(Debug, PartialEq, Eq)]
+#[derive_where(Clone; A: Copy)]
 pub struct Certificate<A: Allocator = Global> {
     /// What is signed.
     pub tbs_certificate: TbsCertificate<A>,
@@ -43,7 +44,7 @@ impl<A: Allocator> Certificate<A> {
     pub fn extensions(&self) -> &[Extension<A>]
         ensures { result.now ≡ self.now.tbs_certificate.extensions }
     {
-        self.tbs_certificate.extensions.0.as_slice()
+        self.tbs_certificate.extensions.0.0.as_slice()
     }
 
     /// The first extension with the object identifier that has these arcs (RFC 5280, 4.2). Takes no memory.
@@ -122,31 +123,12 @@ impl<A: Allocator + Copy> Certificate<A> {
             outside: read.outside,
         })
     }
-
-    /// An equal certificate.
-    ///
-    /// # Errors
-    /// `AllocError` where memory is refused.
-    pub fn clone(&self) -> Result<Self, AllocError>
-        ensures { IfOk result (λ copy. copy ≡ self.now) }
-    {
-        self.clone_eq()
-    }
 }
 
 impl<A: Allocator + Copy> CloneEq for Certificate<A> {
-    fn clone_eq(&self) -> Result<Self, AllocError> {
-        let (tbs_certificate, signature_algorithm, signature_value) = clone_three(
-            &self.tbs_certificate,
-            &self.signature_algorithm,
-            &self.signature_value,
-        )?;
-        Ok(Certificate {
-            tbs_certificate,
-            signature_algorithm,
-            signature_value,
-        })
-    }
+    ghost use Rattle.std.proofs.Common.{rules};
+
+    ghost exact = { Prim.search (rules) };
 }
 
 /// The signature behind its algorithm, owned.
@@ -223,7 +205,5 @@ impl<A: Allocator + Copy> Field<A> for Certificate<A> {
 }
 
 impl<A: Allocator + Copy> FromDer<A> for Certificate<A> {
-    ghost always = { tt };
-
-    ghost whole = { tt };
+    ghost stands_alone = { (tt, tt) };
 }

@@ -18,8 +18,8 @@ use picky_asn1_x509_parts::{Attribute, Attributes};
 use std::alloc::{AllocError, Allocator, Global};
 use std::marker::Model;
 use x509_der::parts::{
-    ContentOf, Explicit0, Field, Join, Reader, SEQUENCE_TAG, Sequence, Structure, Tag, Tagged,
-    clone_three, known_items, read_first_field,
+    ContentOf, ContextConstructed, Field, Join, Reader, SEQUENCE_TAG, Sequence, Structure, Tag,
+    Tagged, clone_three, known_items, read_first_field,
 };
 use x509_der::{Asn1SequenceOf, BitStringAsn1, CloneEq, FromDer, ReadError, ToDer, TooLong};
 use x509_keys::{AlgorithmIdentifier, SubjectPublicKeyInfo};
@@ -32,6 +32,7 @@ use x509_names::Name;
 /// is asked for, also where there are no attributes.
 #[derive(Drop)]
 #[derive_where(Debug, PartialEq, Eq)]
+#[derive_where(Clone; A: Copy)]
 pub struct OpenSslAttributes<A: Allocator = Global>(pub Attributes<A>);
 
 impl<A: Allocator> Model for OpenSslAttributes<A> {
@@ -53,22 +54,10 @@ impl<A: Allocator> From<Attributes<A>> for OpenSslAttributes<A> {
     }
 }
 
-impl<A: Allocator + Copy> OpenSslAttributes<A> {
-    /// An equal list.
-    ///
-    /// # Errors
-    /// `AllocError` where memory is refused.
-    pub fn clone(&self) -> Result<Self, AllocError>
-        ensures { IfOk result (λ copy. copy ≡ self.now) }
-    {
-        self.clone_eq()
-    }
-}
-
 impl<A: Allocator + Copy> CloneEq for OpenSslAttributes<A> {
-    fn clone_eq(&self) -> Result<Self, AllocError> {
-        Ok(OpenSslAttributes(self.0.clone_eq()?))
-    }
+    ghost use Rattle.std.proofs.Common.{rules};
+
+    ghost exact = { Prim.search (rules) };
 }
 
 impl<A: Allocator> OpenSslAttributes<A> {
@@ -89,7 +78,7 @@ impl<A: Allocator> OpenSslAttributes<A> {
 }
 
 /// The list under its tag, owned or borrowed.
-type ListNest<L> = Tagged<Explicit0, ContentOf<L>>;
+type ListNest<L> = Tagged<ContextConstructed<0>, ContentOf<L>>;
 
 impl<A: Allocator> ToDer for OpenSslAttributes<A> {
     ghost strict = { request_attributes_bytes };
@@ -128,7 +117,7 @@ impl<A: Allocator + Copy> Field<A> for OpenSslAttributes<A> {
     ghost agrees = { request_attributes_agree };
 
     fn starts(byte: u8) -> bool {
-        byte == Explicit0::BYTE
+        byte == ContextConstructed::<0>::BYTE
     }
 
     fn known(&self) {
@@ -141,9 +130,7 @@ impl<A: Allocator + Copy> Field<A> for OpenSslAttributes<A> {
 }
 
 impl<A: Allocator + Copy> FromDer<A> for OpenSslAttributes<A> {
-    ghost always = { tt };
-
-    ghost whole = { tt };
+    ghost stands_alone = { (tt, tt) };
 }
 
 /// The part of a request that is signed.
@@ -205,20 +192,10 @@ impl<A: Allocator> CertificationRequestInfo<A> {
     }
 }
 
-impl<A: Allocator + Copy> CertificationRequestInfo<A> {
-    /// An equal value.
-    ///
-    /// # Errors
-    /// `AllocError` where memory is refused.
-    pub fn clone(&self) -> Result<Self, AllocError>
-        ensures { IfOk result (λ copy. copy ≡ self.now) }
-    {
-        self.clone_eq()
-    }
-}
+impl<A: Allocator + Copy> Clone for CertificationRequestInfo<A> {
+    ghost is_clone = { λ x y. y ≡ x };
 
-impl<A: Allocator + Copy> CloneEq for CertificationRequestInfo<A> {
-    fn clone_eq(&self) -> Result<Self, AllocError> {
+    fn clone(&self) -> Result<Self, AllocError> {
         let (subject, subject_public_key_info, attributes) = clone_three(
             &self.subject,
             &self.subject_public_key_info,
@@ -231,6 +208,10 @@ impl<A: Allocator + Copy> CloneEq for CertificationRequestInfo<A> {
             attributes,
         })
     }
+}
+
+impl<A: Allocator + Copy> CloneEq for CertificationRequestInfo<A> {
+    ghost exact = { λ x y h. h };
 }
 
 /// The SEQUENCE, owned.
@@ -309,9 +290,7 @@ impl<A: Allocator + Copy> Field<A> for CertificationRequestInfo<A> {
 }
 
 impl<A: Allocator + Copy> FromDer<A> for CertificationRequestInfo<A> {
-    ghost always = { tt };
-
-    ghost whole = { tt };
+    ghost stands_alone = { (tt, tt) };
 }
 
 /// A request for a certificate: what is signed, and the signature. Whether the signature is right isn't looked at.
@@ -321,6 +300,7 @@ impl<A: Allocator + Copy> FromDer<A> for CertificationRequestInfo<A> {
 /// AlgorithmIdentifier, signature BIT STRING }` (RFC 2986, 4.2).
 #[derive(Drop)]
 #[derive_where(Debug, PartialEq, Eq)]
+#[derive_where(Clone; A: Copy)]
 pub struct CertificationRequest<A: Allocator = Global> {
     /// What is signed.
     pub certification_request_info: CertificationRequestInfo<A>,
@@ -355,31 +335,12 @@ impl<A: Allocator + Copy> CertificationRequest<A> {
             outside: read.outside,
         })
     }
-
-    /// An equal request.
-    ///
-    /// # Errors
-    /// `AllocError` where memory is refused.
-    pub fn clone(&self) -> Result<Self, AllocError>
-        ensures { IfOk result (λ copy. copy ≡ self.now) }
-    {
-        self.clone_eq()
-    }
 }
 
 impl<A: Allocator + Copy> CloneEq for CertificationRequest<A> {
-    fn clone_eq(&self) -> Result<Self, AllocError> {
-        let (certification_request_info, signature_algorithm, signature) = clone_three(
-            &self.certification_request_info,
-            &self.signature_algorithm,
-            &self.signature,
-        )?;
-        Ok(CertificationRequest {
-            certification_request_info,
-            signature_algorithm,
-            signature,
-        })
-    }
+    ghost use Rattle.std.proofs.Common.{rules};
+
+    ghost exact = { Prim.search (rules) };
 }
 
 /// The fields, owned.
@@ -457,7 +418,5 @@ impl<A: Allocator + Copy> Field<A> for CertificationRequest<A> {
 }
 
 impl<A: Allocator + Copy> FromDer<A> for CertificationRequest<A> {
-    ghost always = { tt };
-
-    ghost whole = { tt };
+    ghost stands_alone = { (tt, tt) };
 }

@@ -9,7 +9,7 @@ ghost use Rattle.picky_asn1_x509.specs.CertificatePlaces.{TbsAt, CertificateAt, 
 ghost use Rattle.picky_asn1_x509.specs.Certificates.{signature_fields, certificate_parts, certificate};
 ghost use Rattle.picky_asn1_x509.specs.OlderCertificates.{OlderTbs, older_tbs, without_ids, OlderCertificate, older_certificate, certificate_without_ids};
 ghost use Rattle.picky_asn1_x509.specs.Requests.{request_attributes, request_info, info_bytes, request_parts, request};
-ghost use Rattle.picky_asn1_x509.specs.TbsCertificates.{core, core_of, is_fitting, tbs_certificate, tbs_bytes};
+ghost use Rattle.picky_asn1_x509.specs.TbsCertificates.{required_fields, required_of, is_fitting, tbs_certificate, tbs_bytes};
 
 use crate::certificate::Certificate;
 use crate::certification_request::{
@@ -92,7 +92,7 @@ pub fn request_attributes_fields<A: Allocator + Copy>()
 /// A signed part is read back as itself exactly where its version fits its fields, and each of these is read back.
 pub fn tbs_certificates_read_back<A: Allocator>()
     ensures { (v : TbsCertificate A) → tbs_certificate.readable v ↔ ((is_fitting v ≡ true) ×
-        (core.readable (core_of v) × extensions.readable v.extensions)) }
+        (required_fields.readable (required_of v) × extensions.readable v.extensions)) }
 {}
 
 /// Rewriting what is signed: of a certificate that was read with its signed part, the slice is what is written of the
@@ -113,7 +113,7 @@ pub fn request_signed_part<A: Allocator>()
 /// What is encoded in the form without unique identifiers, the signed part or the whole certificate, is encoded in the
 /// full form too, with the same value in the other fields, no unique identifiers, and the same deviations, places and
 /// headers.
-pub fn older_certificates_stay<A: Allocator>()
+pub fn full_form_covers_form_without_unique_ids<A: Allocator>()
     ensures signed { (v : OlderTbs A) (string : List ℕ) (y : Tally) → older_tbs.spelled v string y →
         tbs_certificate.spelled (without_ids v) string y }
     ensures whole { (v : OlderCertificate A) (string : List ℕ) (y : Tally) →

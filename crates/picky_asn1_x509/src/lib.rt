@@ -14,6 +14,7 @@ pub mod name;
 pub mod oid;
 pub mod oids;
 pub mod private_key_info;
+mod required_fields;
 mod same_eq;
 pub mod signed_read;
 pub mod subject_public_key_info;
@@ -22,120 +23,48 @@ mod three;
 pub mod validity;
 pub mod version;
 
+// Certificates, requests, and what they hold.
 pub use crate::certificate::Certificate;
-pub use crate::certification_request::CertificationRequest;
-pub use crate::certification_request::CertificationRequestInfo;
-pub use crate::certification_request::OpenSslAttributes;
+pub use crate::certification_request::{
+    CertificationRequest, CertificationRequestInfo, OpenSslAttributes,
+};
 pub use crate::signed_read::SignedRead;
 pub use crate::tbs_certificate::TbsCertificate;
-pub use picky_asn1_x509_parts::Attribute;
-pub use picky_asn1_x509_parts::AttributeValues;
-pub use picky_asn1_x509_parts::Attributes;
-pub use picky_asn1_x509_parts::AuthorityKeyIdentifier;
-pub use picky_asn1_x509_parts::BasicConstraints;
-pub use picky_asn1_x509_parts::ExtendedKeyUsage;
-pub use picky_asn1_x509_parts::Extension;
-pub use picky_asn1_x509_parts::ExtensionView;
-pub use picky_asn1_x509_parts::Extensions;
-pub use picky_asn1_x509_parts::KeyIdentifier;
-pub use picky_asn1_x509_parts::KeyUsage;
-pub use picky_asn1_x509_parts::SubjectKeyIdentifier;
-pub use x509_der::Asn1RawDer;
-pub use x509_der::Asn1SequenceOf;
-pub use x509_der::Asn1SetOf;
-pub use x509_der::BitString;
-pub use x509_der::BitStringAsn1;
-pub use x509_der::BitStringAsn1Container;
-pub use x509_der::CloneEq;
-pub use x509_der::Deviation;
-pub use x509_der::Deviations;
-pub use x509_der::FromDer;
-pub use x509_der::IntegerAsn1;
-pub use x509_der::ObjectIdentifier;
-pub use x509_der::ObjectIdentifierAsn1;
-pub use x509_der::OctetStringAsn1;
-pub use x509_der::OctetStringAsn1Container;
-pub use x509_der::OidError;
-pub use x509_der::Place;
-pub use x509_der::RawIn;
-pub use x509_der::ReadError;
-pub use x509_der::Refused;
-pub use x509_der::SameEq;
-pub use x509_der::SliceError;
-pub use x509_der::Tags;
-pub use x509_der::ToDer;
-pub use x509_der::TooLong;
-pub use x509_der::WriteError;
-pub use x509_der::encoded_len;
-pub use x509_der::from_bytes;
+pub use picky_asn1_x509_parts::{
+    Attribute, AttributeValues, Attributes, AuthorityKeyIdentifier, BasicConstraints,
+    ExtendedKeyUsage, Extension, ExtensionView, Extensions, KeyIdentifier, KeyUsage,
+    SubjectKeyIdentifier,
+};
+
+// Elements of any type, and the calls on whole values.
 pub use x509_der::parts::Field;
-pub use x509_der::read_counted;
-pub use x509_der::read_explained;
-pub use x509_der::read_located;
-pub use x509_der::read_metered;
-pub use x509_der::to_vec;
-pub use x509_der::write_to_slice;
-pub use x509_keys::AesAuthEncParams;
-pub use x509_keys::AesMode;
-pub use x509_keys::AesParameters;
-pub use x509_keys::AlgorithmError;
-pub use x509_keys::AlgorithmIdentifier;
-pub use x509_keys::AlgorithmIdentifierParameters;
-pub use x509_keys::DigestInfo;
-pub use x509_keys::ECPrivateKey;
-pub use x509_keys::EcParameters;
-pub use x509_keys::EcPoint;
-pub use x509_keys::EncapsulatedEcPoint;
-pub use x509_keys::EncapsulatedEcSecret;
-pub use x509_keys::EncapsulatedMldsaPublicKey;
-pub use x509_keys::EncapsulatedRsaPublicKey;
-pub use x509_keys::HashAlgorithm;
-pub use x509_keys::MaskGenAlgorithm;
-pub use x509_keys::PRIVATE_KEY_INFO_VERSION_1;
-pub use x509_keys::PRIVATE_KEY_INFO_VERSION_2;
-pub use x509_keys::PrivateKeyInfo;
-pub use x509_keys::PrivateKeyValue;
-pub use x509_keys::PublicKey;
-pub use x509_keys::RawAlgorithmIdentifier;
-pub use x509_keys::RsaPrivateKey;
-pub use x509_keys::RsaPublicKey;
-pub use x509_keys::RsassaPssParams;
-pub use x509_keys::ShaVariant;
-pub use x509_keys::SubjectPublicKeyInfo;
-pub use x509_keys::UnsupportedAlgorithmError;
-pub use x509_names::AttributeTypeAndValue;
-pub use x509_names::AttributeTypeAndValueParameters;
-pub use x509_names::Boxed;
-pub use x509_names::DirectoryName;
-pub use x509_names::DirectoryString;
-pub use x509_names::EdiPartyName;
-pub use x509_names::GeneralName;
-pub use x509_names::GeneralNames;
-pub use x509_names::Name;
-pub use x509_names::NameAttr;
-pub use x509_names::NamePrettyFormatter;
-pub use x509_names::OtherName;
-pub use x509_names::RdnSequence;
-pub use x509_names::RelativeDistinguishedName;
-pub use x509_names::Time;
-pub use x509_names::Validity;
-pub use x509_names::Version;
-pub use x509_prim::AsciiCharSet;
-pub use x509_prim::BmpCharSet;
-pub use x509_prim::BmpString;
-pub use x509_prim::BmpStringAsn1;
-pub use x509_prim::CharSet;
-pub use x509_prim::CharSetError;
-pub use x509_prim::GeneralizedTime;
-pub use x509_prim::GeneralizedTimeAsn1;
-pub use x509_prim::Ia5CharSet;
-pub use x509_prim::Ia5String;
-pub use x509_prim::Ia5StringAsn1;
-pub use x509_prim::PrintableCharSet;
-pub use x509_prim::PrintableString;
-pub use x509_prim::PrintableStringAsn1;
-pub use x509_prim::RestrictedString;
-pub use x509_prim::RestrictedStringAsn1;
-pub use x509_prim::UTCTime;
-pub use x509_prim::UtcTimeAsn1;
-pub use x509_prim::Utf8String;
+pub use x509_der::{
+    Asn1RawDer, Asn1SequenceOf, Asn1SetOf, BitString, BitStringAsn1, BitStringAsn1Container,
+    CloneEq, Deviation, Deviations, FromDer, IntegerAsn1, ObjectIdentifier, ObjectIdentifierAsn1,
+    OctetStringAsn1, OctetStringAsn1Container, OidError, Place, RawIn, ReadError, Refused, SameEq,
+    SliceError, Tags, ToDer, TooLong, WriteError, encoded_len, from_bytes, read_counted,
+    read_explained, read_located, read_metered, to_vec, write_to_slice,
+};
+
+// Keys and their algorithms.
+pub use x509_keys::{
+    AesAuthEncParams, AesMode, AesParameters, AlgorithmError, AlgorithmIdentifier,
+    AlgorithmIdentifierParameters, DigestInfo, ECPrivateKey, EcParameters, EcPoint,
+    EncapsulatedEcPoint, EncapsulatedEcSecret, EncapsulatedMldsaPublicKey,
+    EncapsulatedRsaPublicKey, HashAlgorithm, MaskGenAlgorithm, PRIVATE_KEY_INFO_VERSION_1,
+    PRIVATE_KEY_INFO_VERSION_2, PrivateKeyInfo, PrivateKeyValue, PublicKey, RawAlgorithmIdentifier,
+    RsaPrivateKey, RsaPublicKey, RsassaPssParams, ShaVariant, SubjectPublicKeyInfo,
+    UnsupportedAlgorithmError,
+};
+
+// Names, times and character strings.
+pub use x509_names::{
+    AttributeTypeAndValue, AttributeTypeAndValueParameters, Boxed, DirectoryName, DirectoryString,
+    EdiPartyName, GeneralName, GeneralNames, Name, NameAttr, NamePrettyFormatter, OtherName,
+    RdnSequence, RelativeDistinguishedName, Time, Validity, Version,
+};
+pub use x509_prim::{
+    AsciiCharSet, BmpCharSet, BmpString, BmpStringAsn1, CharSet, CharSetError, GeneralizedTime,
+    GeneralizedTimeAsn1, Ia5CharSet, Ia5String, Ia5StringAsn1, PrintableCharSet, PrintableString,
+    PrintableStringAsn1, RestrictedString, RestrictedStringAsn1, UTCTime, UtcTimeAsn1, Utf8String,
+};

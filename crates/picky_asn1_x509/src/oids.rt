@@ -1,372 +1,99 @@
 //! Object identifiers: of each a constant, its dotted text, and a function that makes it.
 
-pub use x509_oids_algorithms::AES128_CBC;
-pub use x509_oids_algorithms::AES128_CCM;
-pub use x509_oids_algorithms::AES128_CFB;
-pub use x509_oids_algorithms::AES128_ECB;
-pub use x509_oids_algorithms::AES128_GCM;
-pub use x509_oids_algorithms::AES128_OFB;
-pub use x509_oids_algorithms::AES128_WRAP;
-pub use x509_oids_algorithms::AES128_WRAP_PAD;
-pub use x509_oids_algorithms::AES192_CBC;
-pub use x509_oids_algorithms::AES192_CCM;
-pub use x509_oids_algorithms::AES192_CFB;
-pub use x509_oids_algorithms::AES192_ECB;
-pub use x509_oids_algorithms::AES192_GCM;
-pub use x509_oids_algorithms::AES192_OFB;
-pub use x509_oids_algorithms::AES192_WRAP;
-pub use x509_oids_algorithms::AES192_WRAP_PAD;
-pub use x509_oids_algorithms::AES256_CBC;
-pub use x509_oids_algorithms::AES256_CCM;
-pub use x509_oids_algorithms::AES256_CFB;
-pub use x509_oids_algorithms::AES256_ECB;
-pub use x509_oids_algorithms::AES256_GCM;
-pub use x509_oids_algorithms::AES256_OFB;
-pub use x509_oids_algorithms::AES256_WRAP;
-pub use x509_oids_algorithms::AES256_WRAP_PAD;
-pub use x509_oids_algorithms::DIFFIE_HELLMAN;
-pub use x509_oids_algorithms::DIGEST_ALGORITHM;
-pub use x509_oids_algorithms::DSA_WITH_SHA1;
-pub use x509_oids_algorithms::DSA_WITH_SHA224;
-pub use x509_oids_algorithms::DSA_WITH_SHA256;
-pub use x509_oids_algorithms::DSA_WITH_SHA384;
-pub use x509_oids_algorithms::DSA_WITH_SHA512;
-pub use x509_oids_algorithms::EC_PUBLIC_KEY;
-pub use x509_oids_algorithms::ECDSA_WITH_SHA256;
-pub use x509_oids_algorithms::ECDSA_WITH_SHA384;
-pub use x509_oids_algorithms::ECDSA_WITH_SHA512;
-pub use x509_oids_algorithms::ED448;
-pub use x509_oids_algorithms::ED25519;
-pub use x509_oids_algorithms::HMAC_WITH_SHA1;
-pub use x509_oids_algorithms::HMAC_WITH_SHA224;
-pub use x509_oids_algorithms::HMAC_WITH_SHA256;
-pub use x509_oids_algorithms::HMAC_WITH_SHA384;
-pub use x509_oids_algorithms::HMAC_WITH_SHA512;
-pub use x509_oids_algorithms::ID_ECDSA_WITH_SHA3_224;
-pub use x509_oids_algorithms::ID_ECDSA_WITH_SHA3_256;
-pub use x509_oids_algorithms::ID_ECDSA_WITH_SHA3_384;
-pub use x509_oids_algorithms::ID_ECDSA_WITH_SHA3_512;
-pub use x509_oids_algorithms::ID_MGF1;
-pub use x509_oids_algorithms::ID_MLDSA_44;
-pub use x509_oids_algorithms::ID_MLDSA_65;
-pub use x509_oids_algorithms::ID_MLDSA_87;
-pub use x509_oids_algorithms::ID_RSASSA_PKCS1_V1_5_WITH_SHA3_224;
-pub use x509_oids_algorithms::ID_RSASSA_PKCS1_V1_5_WITH_SHA3_256;
-pub use x509_oids_algorithms::ID_RSASSA_PKCS1_V1_5_WITH_SHA3_384;
-pub use x509_oids_algorithms::ID_RSASSA_PKCS1_V1_5_WITH_SHA3_512;
-pub use x509_oids_algorithms::MD5;
-pub use x509_oids_algorithms::MD5_WITH_RSA_ENCRYPTHION;
-pub use x509_oids_algorithms::PBES2;
-pub use x509_oids_algorithms::PBKDF2;
-pub use x509_oids_algorithms::RSA_ENCRYPTION;
-pub use x509_oids_algorithms::RSASSA_PSS;
-pub use x509_oids_algorithms::SECP192R1;
-pub use x509_oids_algorithms::SECP224R1;
-pub use x509_oids_algorithms::SECP256R1;
-pub use x509_oids_algorithms::SECP384R1;
-pub use x509_oids_algorithms::SECP521R1;
-pub use x509_oids_algorithms::SECT163K1;
-pub use x509_oids_algorithms::SECT163R2;
-pub use x509_oids_algorithms::SECT233K1;
-pub use x509_oids_algorithms::SECT233R1;
-pub use x509_oids_algorithms::SECT283K1;
-pub use x509_oids_algorithms::SECT283R1;
-pub use x509_oids_algorithms::SECT409K1;
-pub use x509_oids_algorithms::SECT409R1;
-pub use x509_oids_algorithms::SECT571K1;
-pub use x509_oids_algorithms::SECT571R1;
-pub use x509_oids_algorithms::SHA1;
-pub use x509_oids_algorithms::SHA1_WITH_RSA_ENCRYPTION;
-pub use x509_oids_algorithms::SHA3_224;
-pub use x509_oids_algorithms::SHA3_256;
-pub use x509_oids_algorithms::SHA3_384;
-pub use x509_oids_algorithms::SHA3_512;
-pub use x509_oids_algorithms::SHA224;
-pub use x509_oids_algorithms::SHA224_WITH_RSA_ENCRYPTION;
-pub use x509_oids_algorithms::SHA256;
-pub use x509_oids_algorithms::SHA256_WITH_RSA_ENCRYPTION;
-pub use x509_oids_algorithms::SHA384;
-pub use x509_oids_algorithms::SHA384_WITH_RSA_ENCRYPTION;
-pub use x509_oids_algorithms::SHA512;
-pub use x509_oids_algorithms::SHA512_224;
-pub use x509_oids_algorithms::SHA512_256;
-pub use x509_oids_algorithms::SHA512_WITH_RSA_ENCRYPTION;
-pub use x509_oids_algorithms::SHAKE128;
-pub use x509_oids_algorithms::SHAKE256;
-pub use x509_oids_algorithms::X448;
-pub use x509_oids_algorithms::X25519;
-pub use x509_oids_algorithms::aes128_cbc;
-pub use x509_oids_algorithms::aes128_ccm;
-pub use x509_oids_algorithms::aes128_cfb;
-pub use x509_oids_algorithms::aes128_ecb;
-pub use x509_oids_algorithms::aes128_gcm;
-pub use x509_oids_algorithms::aes128_ofb;
-pub use x509_oids_algorithms::aes128_wrap;
-pub use x509_oids_algorithms::aes128_wrap_pad;
-pub use x509_oids_algorithms::aes192_cbc;
-pub use x509_oids_algorithms::aes192_ccm;
-pub use x509_oids_algorithms::aes192_cfb;
-pub use x509_oids_algorithms::aes192_ecb;
-pub use x509_oids_algorithms::aes192_gcm;
-pub use x509_oids_algorithms::aes192_ofb;
-pub use x509_oids_algorithms::aes192_wrap;
-pub use x509_oids_algorithms::aes192_wrap_pad;
-pub use x509_oids_algorithms::aes256_cbc;
-pub use x509_oids_algorithms::aes256_ccm;
-pub use x509_oids_algorithms::aes256_cfb;
-pub use x509_oids_algorithms::aes256_ecb;
-pub use x509_oids_algorithms::aes256_gcm;
-pub use x509_oids_algorithms::aes256_ofb;
-pub use x509_oids_algorithms::aes256_wrap;
-pub use x509_oids_algorithms::aes256_wrap_pad;
-pub use x509_oids_algorithms::diffie_hellman;
-pub use x509_oids_algorithms::digest_algorithm;
-pub use x509_oids_algorithms::dsa_with_sha1;
-pub use x509_oids_algorithms::dsa_with_sha224;
-pub use x509_oids_algorithms::dsa_with_sha256;
-pub use x509_oids_algorithms::dsa_with_sha384;
-pub use x509_oids_algorithms::dsa_with_sha512;
-pub use x509_oids_algorithms::ec_public_key;
-pub use x509_oids_algorithms::ecdsa_with_sha256;
-pub use x509_oids_algorithms::ecdsa_with_sha384;
-pub use x509_oids_algorithms::ecdsa_with_sha512;
-pub use x509_oids_algorithms::ed448;
-pub use x509_oids_algorithms::ed25519;
-pub use x509_oids_algorithms::hmac_with_sha1;
-pub use x509_oids_algorithms::hmac_with_sha224;
-pub use x509_oids_algorithms::hmac_with_sha256;
-pub use x509_oids_algorithms::hmac_with_sha384;
-pub use x509_oids_algorithms::hmac_with_sha512;
-pub use x509_oids_algorithms::id_ecdsa_with_sha3_224;
-pub use x509_oids_algorithms::id_ecdsa_with_sha3_256;
-pub use x509_oids_algorithms::id_ecdsa_with_sha3_384;
-pub use x509_oids_algorithms::id_ecdsa_with_sha3_512;
-pub use x509_oids_algorithms::id_mgf1;
-pub use x509_oids_algorithms::id_mldsa_44;
-pub use x509_oids_algorithms::id_mldsa_65;
-pub use x509_oids_algorithms::id_mldsa_87;
-pub use x509_oids_algorithms::id_rsassa_pkcs1_v1_5_with_sha3_224;
-pub use x509_oids_algorithms::id_rsassa_pkcs1_v1_5_with_sha3_256;
-pub use x509_oids_algorithms::id_rsassa_pkcs1_v1_5_with_sha3_384;
-pub use x509_oids_algorithms::id_rsassa_pkcs1_v1_5_with_sha3_512;
-pub use x509_oids_algorithms::md5;
-pub use x509_oids_algorithms::md5_with_rsa_encryption;
-pub use x509_oids_algorithms::pbes2;
-pub use x509_oids_algorithms::pbkdf2;
-pub use x509_oids_algorithms::rsa_encryption;
-pub use x509_oids_algorithms::rsassa_pss;
-pub use x509_oids_algorithms::secp192r1;
-pub use x509_oids_algorithms::secp224r1;
-pub use x509_oids_algorithms::secp256r1;
-pub use x509_oids_algorithms::secp384r1;
-pub use x509_oids_algorithms::secp521r1;
-pub use x509_oids_algorithms::sect163k1;
-pub use x509_oids_algorithms::sect163r2;
-pub use x509_oids_algorithms::sect233k1;
-pub use x509_oids_algorithms::sect233r1;
-pub use x509_oids_algorithms::sect283k1;
-pub use x509_oids_algorithms::sect283r1;
-pub use x509_oids_algorithms::sect409k1;
-pub use x509_oids_algorithms::sect409r1;
-pub use x509_oids_algorithms::sect571k1;
-pub use x509_oids_algorithms::sect571r1;
-pub use x509_oids_algorithms::sha1;
-pub use x509_oids_algorithms::sha1_with_rsa_encryption;
-pub use x509_oids_algorithms::sha3_224;
-pub use x509_oids_algorithms::sha3_256;
-pub use x509_oids_algorithms::sha3_384;
-pub use x509_oids_algorithms::sha3_512;
-pub use x509_oids_algorithms::sha224;
-pub use x509_oids_algorithms::sha224_with_rsa_encryption;
-pub use x509_oids_algorithms::sha256;
-pub use x509_oids_algorithms::sha256_with_rsa_encryption;
-pub use x509_oids_algorithms::sha384;
-pub use x509_oids_algorithms::sha384_with_rsa_encryption;
-pub use x509_oids_algorithms::sha512;
-pub use x509_oids_algorithms::sha512_224;
-pub use x509_oids_algorithms::sha512_256;
-pub use x509_oids_algorithms::sha512_with_rsa_encryption;
-pub use x509_oids_algorithms::shake128;
-pub use x509_oids_algorithms::shake256;
-pub use x509_oids_algorithms::x448;
-pub use x509_oids_algorithms::x25519;
-pub use x509_oids_objects::AT_COMMON_NAME;
-pub use x509_oids_objects::AT_COUNTRY_NAME;
-pub use x509_oids_objects::AT_GIVENNAME;
-pub use x509_oids_objects::AT_LOCALITY_NAME;
-pub use x509_oids_objects::AT_ORGANIZATION_NAME;
-pub use x509_oids_objects::AT_ORGANIZATIONAL_UNIT_NAME;
-pub use x509_oids_objects::AT_PHONE;
-pub use x509_oids_objects::AT_SERIAL_NUMBER;
-pub use x509_oids_objects::AT_STATE_OR_PROVINCE_NAME;
-pub use x509_oids_objects::AT_STREET_NAME;
-pub use x509_oids_objects::AT_SURNAME;
-pub use x509_oids_objects::ATTRIBUTE_PKCS12_FRIENDLY_NAME;
-pub use x509_oids_objects::ATTRIBUTE_PKCS12_LOCAL_KEY_ID;
-pub use x509_oids_objects::AUTHORITY_KEY_IDENTIFIER;
-pub use x509_oids_objects::AUTO_UPDATE_END_REVOCATION;
-pub use x509_oids_objects::BASIC_CONSTRAINTS;
-pub use x509_oids_objects::CERT_AUTH_ROOT_SHA256_HASH_PROP_ID;
-pub use x509_oids_objects::CERT_DISALLOWED_FILETIME_PROP_ID;
-pub use x509_oids_objects::CERT_ENHKEY_USAGE_PROP_ID;
-pub use x509_oids_objects::CERT_FRIENDLY_NAME_PROP_ID;
-pub use x509_oids_objects::CERT_KEY_IDENTIFIER_PROP_ID;
-pub use x509_oids_objects::CERT_ROOT_PROGRAM_CERT_POLICIES_PROP_ID;
-pub use x509_oids_objects::CERT_ROOT_PROGRAM_CHAIN_POLICIES_PROP_ID;
-pub use x509_oids_objects::CERT_SAFE_BAG_TYPE_X509;
-pub use x509_oids_objects::CERT_SUBJECT_NAME_MD5_HASH_PROP_ID;
-pub use x509_oids_objects::CERT_TRUST_LIST;
-pub use x509_oids_objects::CONTENT_INFO_TYPE_DATA;
-pub use x509_oids_objects::CONTENT_INFO_TYPE_ENCRYPTED_DATA;
-pub use x509_oids_objects::CONTENT_TYPE;
-pub use x509_oids_objects::COUNTER_SIGN;
-pub use x509_oids_objects::CRL_NUMBER;
-pub use x509_oids_objects::CRL_SAFE_BAG_TYPE_X509;
-pub use x509_oids_objects::DISALLOWED_ENHKEY_USAGE;
-pub use x509_oids_objects::EMAIL_ADDRESS;
-pub use x509_oids_objects::ENVELOPED_DATA;
-pub use x509_oids_objects::EXTENDED_KEY_USAGE;
-pub use x509_oids_objects::EXTENSION_REQ;
-pub use x509_oids_objects::GSS_PKU2U;
-pub use x509_oids_objects::IAKERB5;
-pub use x509_oids_objects::ISSUER_ALTERNATIVE_NAME;
-pub use x509_oids_objects::KEY_FILE_PROTECTION_DESCRIPTOR;
-pub use x509_oids_objects::KEY_USAGE;
-pub use x509_oids_objects::KP_ANY_EXTENDED_KEY_USAGE;
-pub use x509_oids_objects::KP_CLIENT_AUTH;
-pub use x509_oids_objects::KP_CODE_SIGNING;
-pub use x509_oids_objects::KP_EMAIL_PROTECTION;
-pub use x509_oids_objects::KP_IPSEC_END_SYSTEM;
-pub use x509_oids_objects::KP_IPSEC_USER;
-pub use x509_oids_objects::KP_IPSPEC_TUNNEL;
-pub use x509_oids_objects::KP_LIFETIME_SIGNING;
-pub use x509_oids_objects::KP_OCSP_SIGNING;
-pub use x509_oids_objects::KP_SERVER_AUTH;
-pub use x509_oids_objects::KP_TIME_STAMPING;
-pub use x509_oids_objects::KRB5;
-pub use x509_oids_objects::KRB5_USER_TO_USER;
-pub use x509_oids_objects::LOCAL_PROTECTION_DESCRIPTOR;
-pub use x509_oids_objects::MESSAGE_DIGEST;
-pub use x509_oids_objects::MS_COUNTER_SIGN;
-pub use x509_oids_objects::MS_KRB5;
-pub use x509_oids_objects::NEGOEX;
-pub use x509_oids_objects::NTLM_SSP;
-pub use x509_oids_objects::PKCS12_PBE_WITH_SHA_AND_3_KEY_TRIPLE_DES_CBC;
-pub use x509_oids_objects::PKCS12_PBE_WITH_SHA_AND_40_BIT_RC2_CBC;
-pub use x509_oids_objects::PKINIT_AUTH_DATA;
-pub use x509_oids_objects::PKINIT_DH_KEY_DATA;
-pub use x509_oids_objects::PROTECTION_DESCRIPTOR_TYPE;
-pub use x509_oids_objects::ROOT_LIST_SIGNER;
-pub use x509_oids_objects::SAFE_BAG_TYPE_CERT;
-pub use x509_oids_objects::SAFE_BAG_TYPE_CRL;
-pub use x509_oids_objects::SAFE_BAG_TYPE_KEY;
-pub use x509_oids_objects::SAFE_BAG_TYPE_SAFE_CONTENTS;
-pub use x509_oids_objects::SAFE_BAG_TYPE_SECRET;
-pub use x509_oids_objects::SAFE_BAG_TYPE_SHROUDED_KEY;
-pub use x509_oids_objects::SID_PROTECTION_DESCRIPTOR;
-pub use x509_oids_objects::SIGNED_DATA;
-pub use x509_oids_objects::SIGNING_TIME;
-pub use x509_oids_objects::SMART_CARD_LOGON;
-pub use x509_oids_objects::SPC_INDIRECT_DATA_OBJID;
-pub use x509_oids_objects::SPC_PE_IMAGE_DATAOBJ;
-pub use x509_oids_objects::SPC_SIPINFO_OBJID;
-pub use x509_oids_objects::SPC_SP_OPUS_INFO_OBJID;
-pub use x509_oids_objects::SPC_STATEMENT_TYPE;
-pub use x509_oids_objects::SPNEGO;
-pub use x509_oids_objects::SSDL_PROTECTION_DESCRIPTOR;
-pub use x509_oids_objects::SUBJECT_ALTERNATIVE_NAME;
-pub use x509_oids_objects::SUBJECT_KEY_IDENTIFIER;
-pub use x509_oids_objects::TIMESTAMP_REQUEST;
-pub use x509_oids_objects::UNKNOWN_RESERVED_PROP_ID_126;
-pub use x509_oids_objects::UNKNOWN_RESERVED_PROP_ID_127;
-pub use x509_oids_objects::USER_PRINCIPAL_NAME;
-pub use x509_oids_objects::at_common_name;
-pub use x509_oids_objects::at_country_name;
-pub use x509_oids_objects::at_given_name;
-pub use x509_oids_objects::at_locality_name;
-pub use x509_oids_objects::at_organization_name;
-pub use x509_oids_objects::at_organizational_unit_name;
-pub use x509_oids_objects::at_phone;
-pub use x509_oids_objects::at_serial_number;
-pub use x509_oids_objects::at_state_or_province_name;
-pub use x509_oids_objects::at_street_name;
-pub use x509_oids_objects::at_surname;
-pub use x509_oids_objects::attribute_pkcs12_friendly_name;
-pub use x509_oids_objects::attribute_pkcs12_local_key_id;
-pub use x509_oids_objects::authority_key_identifier;
-pub use x509_oids_objects::auto_update_end_revocation;
-pub use x509_oids_objects::basic_constraints;
-pub use x509_oids_objects::cert_auto_root_sha256_hash_prop_id;
-pub use x509_oids_objects::cert_disallowed_filetime_prop_id;
-pub use x509_oids_objects::cert_enhkey_usage_prop_id;
-pub use x509_oids_objects::cert_friendly_name_prop_id;
-pub use x509_oids_objects::cert_key_identifier_prop_id;
-pub use x509_oids_objects::cert_root_program_cert_policies_prop_id;
-pub use x509_oids_objects::cert_root_program_chain_policies_prop_id;
-pub use x509_oids_objects::cert_safe_bag_type_x509;
-pub use x509_oids_objects::cert_subject_name_md5_hash_prop_id;
-pub use x509_oids_objects::cert_trust_list;
-pub use x509_oids_objects::content_info_type_data;
-pub use x509_oids_objects::content_info_type_encrypted_data;
-pub use x509_oids_objects::content_type;
-pub use x509_oids_objects::counter_sign;
-pub use x509_oids_objects::crl_number;
-pub use x509_oids_objects::crl_safe_bag_type_x509;
-pub use x509_oids_objects::disallowed_enhkey_usage;
-pub use x509_oids_objects::email_address;
-pub use x509_oids_objects::enveloped_data;
-pub use x509_oids_objects::extended_key_usage;
-pub use x509_oids_objects::extension_request;
-pub use x509_oids_objects::gss_pku2u;
-pub use x509_oids_objects::iakerb5;
-pub use x509_oids_objects::issuer_alternative_name;
-pub use x509_oids_objects::key_file_protection_descriptor;
-pub use x509_oids_objects::key_usage;
-pub use x509_oids_objects::kp_any_extended_key_usage;
-pub use x509_oids_objects::kp_client_auth;
-pub use x509_oids_objects::kp_code_signing;
-pub use x509_oids_objects::kp_email_protection;
-pub use x509_oids_objects::kp_ipsec_end_system;
-pub use x509_oids_objects::kp_ipsec_tunnel;
-pub use x509_oids_objects::kp_ipsec_user;
-pub use x509_oids_objects::kp_lifetime_signing;
-pub use x509_oids_objects::kp_ocsp_signing;
-pub use x509_oids_objects::kp_server_auth;
-pub use x509_oids_objects::kp_time_stamping;
-pub use x509_oids_objects::kpinit_dh_key_data;
-pub use x509_oids_objects::krb5;
-pub use x509_oids_objects::krb5_user_to_user;
-pub use x509_oids_objects::local_protection_descriptor;
-pub use x509_oids_objects::message_digest;
-pub use x509_oids_objects::ms_counter_signature;
-pub use x509_oids_objects::ms_krb5;
-pub use x509_oids_objects::negoex;
-pub use x509_oids_objects::ntlm_ssp;
-pub use x509_oids_objects::pkcs12_pbe_with_sha_and_3_key_triple_des_cbc;
-pub use x509_oids_objects::pkcs12_pbe_with_sha_and_40_bit_rc2_cbc;
-pub use x509_oids_objects::pkinit_auth_data;
-pub use x509_oids_objects::protection_descriptor_type;
-pub use x509_oids_objects::root_list_signer;
-pub use x509_oids_objects::safe_bag_type_cert;
-pub use x509_oids_objects::safe_bag_type_crl;
-pub use x509_oids_objects::safe_bag_type_key;
-pub use x509_oids_objects::safe_bag_type_safe_contents;
-pub use x509_oids_objects::safe_bag_type_secret;
-pub use x509_oids_objects::safe_bag_type_shrouded_key;
-pub use x509_oids_objects::sid_protection_descriptor;
-pub use x509_oids_objects::signed_data;
-pub use x509_oids_objects::signing_time;
-pub use x509_oids_objects::smart_card_logon;
-pub use x509_oids_objects::spc_indirect_data_objid;
-pub use x509_oids_objects::spc_pe_image_dataobj;
-pub use x509_oids_objects::spc_sip_info_objid;
-pub use x509_oids_objects::spc_sp_opus_info_objid;
-pub use x509_oids_objects::spc_statement_type;
-pub use x509_oids_objects::spnego;
-pub use x509_oids_objects::ssdl_protection_descriptor;
-pub use x509_oids_objects::subject_alternative_name;
-pub use x509_oids_objects::subject_key_identifier;
-pub use x509_oids_objects::timestamp_request;
-pub use x509_oids_objects::unknown_reserved_prop_id_126;
-pub use x509_oids_objects::unknown_reserved_prop_id_127;
-pub use x509_oids_objects::user_principal_name;
+// The dotted texts of algorithms.
+pub use x509_oids_algorithms::{
+    AES128_CBC, AES128_CCM, AES128_CFB, AES128_ECB, AES128_GCM, AES128_OFB, AES128_WRAP,
+    AES128_WRAP_PAD, AES192_CBC, AES192_CCM, AES192_CFB, AES192_ECB, AES192_GCM, AES192_OFB,
+    AES192_WRAP, AES192_WRAP_PAD, AES256_CBC, AES256_CCM, AES256_CFB, AES256_ECB, AES256_GCM,
+    AES256_OFB, AES256_WRAP, AES256_WRAP_PAD, DIFFIE_HELLMAN, DIGEST_ALGORITHM, DSA_WITH_SHA1,
+    DSA_WITH_SHA224, DSA_WITH_SHA256, DSA_WITH_SHA384, DSA_WITH_SHA512, EC_PUBLIC_KEY,
+    ECDSA_WITH_SHA256, ECDSA_WITH_SHA384, ECDSA_WITH_SHA512, ED448, ED25519, HMAC_WITH_SHA1,
+    HMAC_WITH_SHA224, HMAC_WITH_SHA256, HMAC_WITH_SHA384, HMAC_WITH_SHA512, ID_ECDSA_WITH_SHA3_224,
+    ID_ECDSA_WITH_SHA3_256, ID_ECDSA_WITH_SHA3_384, ID_ECDSA_WITH_SHA3_512, ID_MGF1, ID_MLDSA_44,
+    ID_MLDSA_65, ID_MLDSA_87, ID_RSASSA_PKCS1_V1_5_WITH_SHA3_224,
+    ID_RSASSA_PKCS1_V1_5_WITH_SHA3_256, ID_RSASSA_PKCS1_V1_5_WITH_SHA3_384,
+    ID_RSASSA_PKCS1_V1_5_WITH_SHA3_512, MD5, MD5_WITH_RSA_ENCRYPTHION, PBES2, PBKDF2,
+    RSA_ENCRYPTION, RSASSA_PSS, SECP192R1, SECP224R1, SECP256R1, SECP384R1, SECP521R1, SECT163K1,
+    SECT163R2, SECT233K1, SECT233R1, SECT283K1, SECT283R1, SECT409K1, SECT409R1, SECT571K1,
+    SECT571R1, SHA1, SHA1_WITH_RSA_ENCRYPTION, SHA3_224, SHA3_256, SHA3_384, SHA3_512, SHA224,
+    SHA224_WITH_RSA_ENCRYPTION, SHA256, SHA256_WITH_RSA_ENCRYPTION, SHA384,
+    SHA384_WITH_RSA_ENCRYPTION, SHA512, SHA512_224, SHA512_256, SHA512_WITH_RSA_ENCRYPTION,
+    SHAKE128, SHAKE256, X448, X25519,
+};
+
+// The functions that make those of algorithms.
+pub use x509_oids_algorithms::{
+    aes128_cbc, aes128_ccm, aes128_cfb, aes128_ecb, aes128_gcm, aes128_ofb, aes128_wrap,
+    aes128_wrap_pad, aes192_cbc, aes192_ccm, aes192_cfb, aes192_ecb, aes192_gcm, aes192_ofb,
+    aes192_wrap, aes192_wrap_pad, aes256_cbc, aes256_ccm, aes256_cfb, aes256_ecb, aes256_gcm,
+    aes256_ofb, aes256_wrap, aes256_wrap_pad, diffie_hellman, digest_algorithm, dsa_with_sha1,
+    dsa_with_sha224, dsa_with_sha256, dsa_with_sha384, dsa_with_sha512, ec_public_key,
+    ecdsa_with_sha256, ecdsa_with_sha384, ecdsa_with_sha512, ed448, ed25519, hmac_with_sha1,
+    hmac_with_sha224, hmac_with_sha256, hmac_with_sha384, hmac_with_sha512, id_ecdsa_with_sha3_224,
+    id_ecdsa_with_sha3_256, id_ecdsa_with_sha3_384, id_ecdsa_with_sha3_512, id_mgf1, id_mldsa_44,
+    id_mldsa_65, id_mldsa_87, id_rsassa_pkcs1_v1_5_with_sha3_224,
+    id_rsassa_pkcs1_v1_5_with_sha3_256, id_rsassa_pkcs1_v1_5_with_sha3_384,
+    id_rsassa_pkcs1_v1_5_with_sha3_512, md5, md5_with_rsa_encryption, pbes2, pbkdf2,
+    rsa_encryption, rsassa_pss, secp192r1, secp224r1, secp256r1, secp384r1, secp521r1, sect163k1,
+    sect163r2, sect233k1, sect233r1, sect283k1, sect283r1, sect409k1, sect409r1, sect571k1,
+    sect571r1, sha1, sha1_with_rsa_encryption, sha3_224, sha3_256, sha3_384, sha3_512, sha224,
+    sha224_with_rsa_encryption, sha256, sha256_with_rsa_encryption, sha384,
+    sha384_with_rsa_encryption, sha512, sha512_224, sha512_256, sha512_with_rsa_encryption,
+    shake128, shake256, x448, x25519,
+};
+
+// The dotted texts of other objects.
+pub use x509_oids_objects::{
+    AT_COMMON_NAME, AT_COUNTRY_NAME, AT_GIVENNAME, AT_LOCALITY_NAME, AT_ORGANIZATION_NAME,
+    AT_ORGANIZATIONAL_UNIT_NAME, AT_PHONE, AT_SERIAL_NUMBER, AT_STATE_OR_PROVINCE_NAME,
+    AT_STREET_NAME, AT_SURNAME, ATTRIBUTE_PKCS12_FRIENDLY_NAME, ATTRIBUTE_PKCS12_LOCAL_KEY_ID,
+    AUTHORITY_KEY_IDENTIFIER, AUTO_UPDATE_END_REVOCATION, BASIC_CONSTRAINTS,
+    CERT_AUTH_ROOT_SHA256_HASH_PROP_ID, CERT_DISALLOWED_FILETIME_PROP_ID,
+    CERT_ENHKEY_USAGE_PROP_ID, CERT_FRIENDLY_NAME_PROP_ID, CERT_KEY_IDENTIFIER_PROP_ID,
+    CERT_ROOT_PROGRAM_CERT_POLICIES_PROP_ID, CERT_ROOT_PROGRAM_CHAIN_POLICIES_PROP_ID,
+    CERT_SAFE_BAG_TYPE_X509, CERT_SUBJECT_NAME_MD5_HASH_PROP_ID, CERT_TRUST_LIST,
+    CONTENT_INFO_TYPE_DATA, CONTENT_INFO_TYPE_ENCRYPTED_DATA, CONTENT_TYPE, COUNTER_SIGN,
+    CRL_NUMBER, CRL_SAFE_BAG_TYPE_X509, DISALLOWED_ENHKEY_USAGE, EMAIL_ADDRESS, ENVELOPED_DATA,
+    EXTENDED_KEY_USAGE, EXTENSION_REQ, GSS_PKU2U, IAKERB5, ISSUER_ALTERNATIVE_NAME,
+    KEY_FILE_PROTECTION_DESCRIPTOR, KEY_USAGE, KP_ANY_EXTENDED_KEY_USAGE, KP_CLIENT_AUTH,
+    KP_CODE_SIGNING, KP_EMAIL_PROTECTION, KP_IPSEC_END_SYSTEM, KP_IPSEC_USER, KP_IPSPEC_TUNNEL,
+    KP_LIFETIME_SIGNING, KP_OCSP_SIGNING, KP_SERVER_AUTH, KP_TIME_STAMPING, KRB5,
+    KRB5_USER_TO_USER, LOCAL_PROTECTION_DESCRIPTOR, MESSAGE_DIGEST, MS_COUNTER_SIGN, MS_KRB5,
+    NEGOEX, NTLM_SSP, PKCS12_PBE_WITH_SHA_AND_3_KEY_TRIPLE_DES_CBC,
+    PKCS12_PBE_WITH_SHA_AND_40_BIT_RC2_CBC, PKINIT_AUTH_DATA, PKINIT_DH_KEY_DATA,
+    PROTECTION_DESCRIPTOR_TYPE, ROOT_LIST_SIGNER, SAFE_BAG_TYPE_CERT, SAFE_BAG_TYPE_CRL,
+    SAFE_BAG_TYPE_KEY, SAFE_BAG_TYPE_SAFE_CONTENTS, SAFE_BAG_TYPE_SECRET,
+    SAFE_BAG_TYPE_SHROUDED_KEY, SID_PROTECTION_DESCRIPTOR, SIGNED_DATA, SIGNING_TIME,
+    SMART_CARD_LOGON, SPC_INDIRECT_DATA_OBJID, SPC_PE_IMAGE_DATAOBJ, SPC_SIPINFO_OBJID,
+    SPC_SP_OPUS_INFO_OBJID, SPC_STATEMENT_TYPE, SPNEGO, SSDL_PROTECTION_DESCRIPTOR,
+    SUBJECT_ALTERNATIVE_NAME, SUBJECT_KEY_IDENTIFIER, TIMESTAMP_REQUEST,
+    UNKNOWN_RESERVED_PROP_ID_126, UNKNOWN_RESERVED_PROP_ID_127, USER_PRINCIPAL_NAME,
+};
+
+// The functions that make those of other objects.
+pub use x509_oids_objects::{
+    at_common_name, at_country_name, at_given_name, at_locality_name, at_organization_name,
+    at_organizational_unit_name, at_phone, at_serial_number, at_state_or_province_name,
+    at_street_name, at_surname, attribute_pkcs12_friendly_name, attribute_pkcs12_local_key_id,
+    authority_key_identifier, auto_update_end_revocation, basic_constraints,
+    cert_auto_root_sha256_hash_prop_id, cert_disallowed_filetime_prop_id,
+    cert_enhkey_usage_prop_id, cert_friendly_name_prop_id, cert_key_identifier_prop_id,
+    cert_root_program_cert_policies_prop_id, cert_root_program_chain_policies_prop_id,
+    cert_safe_bag_type_x509, cert_subject_name_md5_hash_prop_id, cert_trust_list,
+    content_info_type_data, content_info_type_encrypted_data, content_type, counter_sign,
+    crl_number, crl_safe_bag_type_x509, disallowed_enhkey_usage, email_address, enveloped_data,
+    extended_key_usage, extension_request, gss_pku2u, iakerb5, issuer_alternative_name,
+    key_file_protection_descriptor, key_usage, kp_any_extended_key_usage, kp_client_auth,
+    kp_code_signing, kp_email_protection, kp_ipsec_end_system, kp_ipsec_tunnel, kp_ipsec_user,
+    kp_lifetime_signing, kp_ocsp_signing, kp_server_auth, kp_time_stamping, kpinit_dh_key_data,
+    krb5, krb5_user_to_user, local_protection_descriptor, message_digest, ms_counter_signature,
+    ms_krb5, negoex, ntlm_ssp, pkcs12_pbe_with_sha_and_3_key_triple_des_cbc,
+    pkcs12_pbe_with_sha_and_40_bit_rc2_cbc, pkinit_auth_data, protection_descriptor_type,
+    root_list_signer, safe_bag_type_cert, safe_bag_type_crl, safe_bag_type_key,
+    safe_bag_type_safe_contents, safe_bag_type_secret, safe_bag_type_shrouded_key,
+    sid_protection_descriptor, signed_data, signing_time, smart_card_logon,
+    spc_indirect_data_objid, spc_pe_image_dataobj, spc_sip_info_objid, spc_sp_opus_info_objid,
+    spc_statement_type, spnego, ssdl_protection_descriptor, subject_alternative_name,
+    subject_key_identifier, timestamp_request, unknown_reserved_prop_id_126,
+    unknown_reserved_prop_id_127, user_principal_name,
+};

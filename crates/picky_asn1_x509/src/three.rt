@@ -12,8 +12,8 @@ ghost use Rattle.x509_der.specs.Writing.{Measures};
 
 use std::alloc::Allocator;
 use x509_der::parts::{
-    Field, Join, Reader, Refusal, SEQUENCE_TAG, Sequence, Structure, Tagged, View, element_len,
-    read_sequence, read_viewed_or, write_element,
+    Field, Join, Reader, SEQUENCE_TAG, Sequence, Structure, Tagged, View, element_len,
+    read_sequence, read_viewed, write_element,
 };
 use x509_der::{ReadError, ToDer, TooLong};
 
@@ -107,9 +107,9 @@ pub(crate) fn read_three<
 ///
 /// # Errors
 /// As the fields; also where another element stands there, or its content has bytes behind them, and by the name that
-/// the type gives, where they mean nothing.
+/// `meaning` gives, where they mean nothing.
 pub(crate) fn read_three_meanings<
-    T: View<Tagged<Sequence, Join<F, Join<G, H>>>> + Refusal<Tagged<Sequence, Join<F, Join<G, H>>>>,
+    T: View<Tagged<Sequence, Join<F, Join<G, H>>>, A>,
     F: Field<A> + Drop,
     G: Field<A> + Drop,
     H: Field<A> + Drop,
@@ -123,5 +123,5 @@ pub(crate) fn read_three_meanings<
     ensures { Reads (seen T.view (tagged 48 (join (λ j. j.0) (λ j. j.1) F.shape
         (join (λ j. j.0) (λ j. j.1) G.shape H.shape)))) reader.old reader.new result }
 {
-    read_viewed_or::<T, Tagged<Sequence, Join<F, Join<G, H>>>, T, A>(alloc, reader)
+    read_viewed::<T, Tagged<Sequence, Join<F, Join<G, H>>>, A>(alloc, reader)
 }

@@ -2,7 +2,7 @@
 use Rattle.std.specs.Prelude.{◌≡◌, ◌↔◌, ℕ, List, Bool, true, false, not, Contains, Result, Ok, Err, IfOk, IsOkAnd, IsTrue, MatchResult}
 use Rattle.std.proofs.Common.{rules, subst}
 use Rattle.picky_asn1_x509_parts.specs.Extensions.{ExtensionFields, made}
-use Rattle.picky_asn1_x509_parts.specs.declared.extension.ExtensionValue.{ExtensionValue}
+use Rattle.picky_asn1_x509_parts.specs.declared.extension_value.ExtensionValue.{ExtensionValue}
 
 pub made_of : {A E : Type 0} (critical : Bool) (value : ExtensionValue A) (arcs : List ℕ) (id : Result (List ℕ) E) (result : Result (ExtensionFields A) E) → MatchResult id (λ i. IsOkAnd result (λ e. e ≡ made i critical value)) (λ e. result ≡ Err e) → IfOk id (λ i. i ≡ arcs) → IfOk result (λ e. e ≡ made arcs critical value)
 made_of critical value arcs (Ok i) result m h = search (rules)

@@ -1,10 +1,9 @@
 -- Extensions: an object identifier, which says what the value is, whether the extension is critical, and the value in an
 -- OCTET STRING (RFC 5280, 4.2).
-use Rattle.std.specs.Prelude.{◌≡◌, ℕ, ◌+◌, length, Bool, true, false, if◌then◌else◌, not, List, [], ◌∷◌, ◌++◌, Option, Some, None}
+use Rattle.std.specs.Prelude.{◌≡◌, ℕ, ◌+◌, length, Bool, true, false, if◌then◌else◌, List, [], ◌∷◌, ◌++◌, Option, Some, None}
 use Rattle.std.proofs.Common.{eqb}
 use Rattle.x509_der.specs.Types.{Deviation}
 use Rattle.x509_der.specs.Types.deviation
-use Rattle.x509_der.specs.BitString.{bit_strings}
 use Rattle.x509_der.specs.Boolean.{booleans, boolean_content}
 use Rattle.x509_der.specs.DefinedBy.{defined_by}
 use Rattle.x509_der.specs.Element.{element, header}
@@ -20,18 +19,18 @@ use Rattle.x509_der.specs.Tagged.{tagged}
 use Rattle.x509_der.specs.Tally.{Tally}
 use Rattle.x509_der.specs.Variant.{variant}
 use Rattle.x509_der.specs.View.{Meaning, seen}
-use Rattle.picky_asn1_x509_parts.specs.Constraints.{Constraints, basic_constraints}
-use Rattle.picky_asn1_x509_parts.specs.KeyAuthorities.{KeyAuthority, authority_key_identifier, authority_bytes}
-use Rattle.picky_asn1_x509_parts.specs.KeyPurposes.{extended_key_usage}
+use Rattle.picky_asn1_x509_parts.specs.BasicConstraints.{Constraints, basic_constraints}
+use Rattle.picky_asn1_x509_parts.specs.AuthorityKeyIdentifier.{KeyAuthority, authority_key_identifier, authority_bytes}
+use Rattle.picky_asn1_x509_parts.specs.ExtendedKeyUsage.{extended_key_usage}
 use Rattle.picky_asn1_x509_parts.specs.KeyUsages.{key_usage}
 use Rattle.x509_names.specs.declared.general_name.GeneralName.{GeneralName}
 use Rattle.x509_names.specs.GeneralNames.{general_name}
-use Rattle.picky_asn1_x509_parts.specs.declared.extension.ExtensionKind.{ExtensionKind}
-use Rattle.picky_asn1_x509_parts.specs.declared.extension.ExtensionValue.{ExtensionValue}
-use Rattle.picky_asn1_x509_parts.specs.declared.extension.ExtensionView.{ExtensionView}
-use Rattle.picky_asn1_x509_parts.specs.declared.extension.ExtensionKind.TheVariants as kinds
-use Rattle.picky_asn1_x509_parts.specs.declared.extension.ExtensionValue.TheVariants as value
-use Rattle.picky_asn1_x509_parts.specs.declared.extension.ExtensionView.TheVariants as view
+use Rattle.picky_asn1_x509_parts.specs.declared.extension_value.ExtensionKind.{ExtensionKind}
+use Rattle.picky_asn1_x509_parts.specs.declared.extension_value.ExtensionValue.{ExtensionValue}
+use Rattle.picky_asn1_x509_parts.specs.declared.extension_view.ExtensionView.{ExtensionView}
+use Rattle.picky_asn1_x509_parts.specs.declared.extension_value.ExtensionKind.TheVariants as kinds
+use Rattle.picky_asn1_x509_parts.specs.declared.extension_value.ExtensionValue.TheVariants as value
+use Rattle.picky_asn1_x509_parts.specs.declared.extension_view.ExtensionView.TheVariants as view
 
 -- the object identifiers of the extensions whose values are known (RFC 5280, appendix A.2)
 abbrev pub authority_key_arcs : List ℕ

@@ -1,11 +1,11 @@
-pub mod Constraints
+pub mod Attribute
+pub mod AuthorityKeyIdentifier
+pub mod AuthorityKeyIdentifierLaws
+pub mod BasicConstraints
+pub mod ExtendedKeyUsage
 pub mod ExtensionLists
 pub mod Extensions
 pub mod FirstExtensions
-pub mod KeyAuthorities
-pub mod KeyAuthorityLaws
-pub mod KeyPurposes
 pub mod KeyUsages
 pub mod Lending
-pub mod RequestAttributes
 pub mod facts

@@ -3,11 +3,10 @@
 ghost use Rattle.std.specs.Prelude.{◌≡◌, ◌∷◌, [], true, false, refl, Err, IfOk, IsOkAnd, MatchResult};
 ghost use Rattle.x509_der.specs.Reading.{Ready, Reads};
 ghost use Rattle.x509_der.specs.laws.Structure.{structure_lawful, structure_element};
-ghost use Rattle.picky_asn1_x509_parts.specs.RequestAttributes.{extension_request_arcs, content_type_arcs, message_digest_arcs, signing_time_arcs, data_arcs, kind_of as kind_by, value_bytes, IsValue, by_kind, attribute_parts, attribute_base, attribute, attribute_bytes};
+ghost use Rattle.picky_asn1_x509_parts.specs.Attribute.{extension_request_arcs, content_type_arcs, message_digest_arcs, signing_time_arcs, data_arcs, kind_of as kind_by, value_bytes, IsValue, by_kind, attribute_parts, attribute_base, attribute, attribute_bytes};
 ghost use Rattle.picky_asn1_x509_parts.specs.facts.AttributeSame.{attribute_same};
 ghost use Rattle.picky_asn1_x509_parts.specs.declared.attribute.AttributeValues.TheVariants as value;
 
-use crate::basic_constraints::BasicConstraints;
 use crate::extension::Extension;
 use crate::extensions::Extensions;
 use std::alloc::{AllocError, Allocator, Global};
@@ -18,7 +17,6 @@ use x509_der::{
     Asn1RawDer, Asn1SequenceOf, Asn1SetOf, CloneEq, FromDer, ObjectIdentifier,
     ObjectIdentifierAsn1, OctetStringAsn1, ReadError, SameEq, ToDer, TooLong,
 };
-use x509_names::{DirectoryString, GeneralName, Name};
 use x509_oids_objects as oids;
 use x509_prim::{UTCTime, UtcTimeAsn1};
 
@@ -28,12 +26,10 @@ use x509_prim::{UTCTime, UtcTimeAsn1};
 /// `SEQUENCE OF Attribute`.
 pub type Attributes<A = Global> = Asn1SequenceOf<Attribute<A>, A>;
 
-/// The identifiers of statement types.
-type StatementTypes<A> = Asn1SequenceOf<ObjectIdentifierAsn1<A>, A>;
-
 /// The values of an attribute, by its type: a set of items, whose order is kept, and which may be empty.
 #[derive(Drop)]
 #[derive_where(Debug, PartialEq, Eq)]
+#[derive_where(Clone; A: Copy)]
 pub enum AttributeValues<A: Allocator = Global> {
     /// Of `extensionRequest`, 1.2.840.113549.1.9.14: lists of extensions (RFC 2985, 5.4.2).
     Extensions(Asn1SetOf<Extensions<A>, A>),
@@ -49,61 +45,21 @@ pub enum AttributeValues<A: Allocator = Global> {
     Custom(Asn1RawDer<A>),
 }
 
-impl<A: Allocator + Copy> AttributeValues<A> {
-    /// Equal values.
-    ///
-    /// # Errors
-    /// `AllocError` where memory is refused.
-    pub fn clone(&self) -> Result<Self, AllocError>
-        ensures { IfOk result (λ copy. copy ≡ self.now) }
-    {
-        self.clone_eq()
-    }
-}
-
 impl<A: Allocator + Copy> CloneEq for AttributeValues<A> {
-    fn clone_eq(&self) -> Result<Self, AllocError> {
-        match self {
-            AttributeValues::Extensions(lists) => {
-                Ok(AttributeValues::Extensions(lists.clone_eq()?))
-            }
-            AttributeValues::ContentType(types) => {
-                Ok(AttributeValues::ContentType(types.clone_eq()?))
-            }
-            AttributeValues::SpcStatementType(lists) => {
-                Ok(AttributeValues::SpcStatementType(lists.clone_eq()?))
-            }
-            AttributeValues::MessageDigest(digests) => {
-                Ok(AttributeValues::MessageDigest(digests.clone_eq()?))
-            }
-            AttributeValues::SigningTime(times) => {
-                Ok(AttributeValues::SigningTime(times.clone_eq()?))
-            }
-            AttributeValues::Custom(element) => Ok(AttributeValues::Custom(element.clone_eq()?)),
-        }
-    }
+    ghost use Rattle.std.proofs.Common.{rules};
+
+    ghost exact = { Prim.search (rules) };
 }
 
 impl<A: Allocator> SameEq for AttributeValues<A> {
-    ghost use Rattle.std.proofs.Common.{rules};
-    ghost use Rattle.std.specs.Cmp.Lexicographic.{bytes_decides, pointwise_decides};
-    ghost use Rattle.x509_names.specs.facts.EdiPartyNames.{parties_decide};
-    ghost use Rattle.x509_names.specs.facts.OtherNames.{others_decide};
-    ghost use Rattle.x509_names.specs.facts.SameGeneralNames.{general_names_decide};
-    ghost use Rattle.picky_asn1_x509_parts.specs.facts.SameAttributes.{attribute_values_decide};
-    ghost use Rattle.picky_asn1_x509_parts.specs.facts.SameExtensions.{extensions_decide};
-
-    ghost decides = { attribute_values_decide ⟦<AttributeValues<A> as PartialEq>⟧.eq
-        {E = ⟦<Extension<A> as PartialEq>⟧.eq} {T = ⟦<UtcTimeAsn1 as PartialEq>⟧.eq}
-        (λ v w. Prim.search (rules))
-        (extensions_decide ⟦<Extension<A> as PartialEq>⟧.eq
-        {G = ⟦<GeneralName<A> as PartialEq>⟧.eq} {C = ⟦<BasicConstraints as PartialEq>⟧.eq}
-        (λ i j b c v w. Prim.search (rules)) (general_names_decide ⟦<GeneralName<A> as PartialEq>⟧.eq
-        {N = ⟦<Name<A> as PartialEq>⟧.eq} (λ x y. Prim.search (rules)) others_decide (pointwise_decides
-        (pointwise_decides (λ x y. Prim.search (rules, bytes_decides))))
-        (parties_decide {E = ⟦<DirectoryString<A> as PartialEq>⟧.eq}
-        (λ x y. Prim.search (rules, bytes_decides)))) (λ x y. Prim.search (rules)))
-        (λ x y. Prim.search (rules)) };
+    fn decides() {
+        Asn1SetOf::<Extensions<A>, A>::decides();
+        Asn1SetOf::<ObjectIdentifierAsn1<A>, A>::decides();
+        Asn1SetOf::<Asn1SequenceOf<ObjectIdentifierAsn1<A>, A>, A>::decides();
+        Asn1SetOf::<OctetStringAsn1<A>, A>::decides();
+        Asn1SetOf::<UtcTimeAsn1, A>::decides();
+        Asn1RawDer::<A>::decides();
+    }
 }
 
 /// What an object identifier says of the values.
@@ -123,19 +79,22 @@ enum AttributeKind {
     Custom,
 }
 
-/// The kind that an object identifier says.
+/// The kind that an object identifier says. Contents are compared, and no arcs are decoded: `0x2A, 0x86, 0x48, 0x86,
+/// 0xF7, 0x0D, 1, 9` spells 1.2.840.113549.1.9.
+#[tactic(auto, unfolding(x509_der::specs::ObjectIdentifier::numbers_from))]
 fn kind_of<A: Allocator>(identifier: &ObjectIdentifierAsn1<A>) -> AttributeKind
     ensures { result ≡ kind_by identifier.now }
 {
-    if identifier.0.is_arcs(&[1, 2, 840, 113549, 1, 9, 14]) {
+    let identifier = &identifier.0;
+    if identifier.is_content(&[0x2A, 0x86, 0x48, 0x86, 0xF7, 0x0D, 1, 9, 14]) {
         AttributeKind::Extensions
-    } else if identifier.0.is_arcs(&[1, 2, 840, 113549, 1, 9, 3]) {
+    } else if identifier.is_content(&[0x2A, 0x86, 0x48, 0x86, 0xF7, 0x0D, 1, 9, 3]) {
         AttributeKind::ContentType
-    } else if identifier.0.is_arcs(&[1, 3, 6, 1, 4, 1, 311, 2, 1, 11]) {
+    } else if identifier.is_content(&[0x2B, 6, 1, 4, 1, 0x82, 0x37, 2, 1, 11]) {
         AttributeKind::SpcStatementType
-    } else if identifier.0.is_arcs(&[1, 2, 840, 113549, 1, 9, 4]) {
+    } else if identifier.is_content(&[0x2A, 0x86, 0x48, 0x86, 0xF7, 0x0D, 1, 9, 4]) {
         AttributeKind::MessageDigest
-    } else if identifier.0.is_arcs(&[1, 2, 840, 113549, 1, 9, 5]) {
+    } else if identifier.is_content(&[0x2A, 0x86, 0x48, 0x86, 0xF7, 0x0D, 1, 9, 5]) {
         AttributeKind::SigningTime
     } else {
         AttributeKind::Custom
@@ -196,29 +155,21 @@ fn read_as<A: Allocator + Copy>(
 {
     match kind {
         AttributeKind::Extensions => {
-            let lists = Asn1SetOf::<Extensions<A>, A>::read(alloc, reader)?;
-            Ok(AttributeValues::Extensions(lists))
+            Ok(AttributeValues::Extensions(Field::read(alloc, reader)?))
         }
         AttributeKind::ContentType => {
-            let types = Asn1SetOf::<ObjectIdentifierAsn1<A>, A>::read(alloc, reader)?;
-            Ok(AttributeValues::ContentType(types))
+            Ok(AttributeValues::ContentType(Field::read(alloc, reader)?))
         }
         AttributeKind::SpcStatementType => {
-            let lists = Asn1SetOf::<StatementTypes<A>, A>::read(alloc, reader)?;
-            Ok(AttributeValues::SpcStatementType(lists))
+            Ok(AttributeValues::SpcStatementType(Field::read(alloc, reader)?))
         }
         AttributeKind::MessageDigest => {
-            let digests = Asn1SetOf::<OctetStringAsn1<A>, A>::read(alloc, reader)?;
-            Ok(AttributeValues::MessageDigest(digests))
+            Ok(AttributeValues::MessageDigest(Field::read(alloc, reader)?))
         }
         AttributeKind::SigningTime => {
-            let times = Asn1SetOf::<UtcTimeAsn1, A>::read(alloc, reader)?;
-            Ok(AttributeValues::SigningTime(times))
+            Ok(AttributeValues::SigningTime(Field::read(alloc, reader)?))
         }
-        AttributeKind::Custom => {
-            let element = Asn1RawDer::read(alloc, reader)?;
-            Ok(AttributeValues::Custom(element))
-        }
+        AttributeKind::Custom => Ok(AttributeValues::Custom(Field::read(alloc, reader)?)),
     }
 }
 
@@ -266,6 +217,7 @@ impl<A: Allocator + Copy> AnyDefinedBy<ObjectIdentifierAsn1<A>, A> for Attribute
 /// 4.1). An empty set is read too; where the type isn't known, the values are any one element.
 #[derive(Drop)]
 #[derive_where(Debug, PartialEq, Eq)]
+#[derive_where(Clone; A: Copy)]
 pub struct Attribute<A: Allocator = Global> {
     /// The object identifier.
     pub ty: ObjectIdentifierAsn1<A>,
@@ -273,47 +225,17 @@ pub struct Attribute<A: Allocator = Global> {
     pub value: AttributeValues<A>,
 }
 
-impl<A: Allocator + Copy> Attribute<A> {
-    /// An equal attribute.
-    ///
-    /// # Errors
-    /// `AllocError` where memory is refused.
-    pub fn clone(&self) -> Result<Self, AllocError>
-        ensures { IfOk result (λ copy. copy ≡ self.now) }
-    {
-        self.clone_eq()
-    }
-}
-
 impl<A: Allocator + Copy> CloneEq for Attribute<A> {
-    fn clone_eq(&self) -> Result<Self, AllocError> {
-        let ty = self.ty.clone_eq()?;
-        let value = self.value.clone_eq()?;
-        Ok(Attribute { ty, value })
-    }
+    ghost use Rattle.std.proofs.Common.{rules};
+
+    ghost exact = { Prim.search (rules) };
 }
 
 impl<A: Allocator> SameEq for Attribute<A> {
-    ghost use Rattle.std.proofs.Common.{rules};
-    ghost use Rattle.std.specs.Cmp.Lexicographic.{bytes_decides, pointwise_decides};
-    ghost use Rattle.x509_names.specs.facts.EdiPartyNames.{parties_decide};
-    ghost use Rattle.x509_names.specs.facts.OtherNames.{others_decide};
-    ghost use Rattle.x509_names.specs.facts.SameGeneralNames.{general_names_decide};
-    ghost use Rattle.picky_asn1_x509_parts.specs.facts.SameAttributes.{attribute_values_decide, attributes_decide};
-    ghost use Rattle.picky_asn1_x509_parts.specs.facts.SameExtensions.{extensions_decide};
-
-    ghost decides = { attributes_decide {E = ⟦<AttributeValues<A> as PartialEq>⟧.eq}
-        (attribute_values_decide ⟦<AttributeValues<A> as PartialEq>⟧.eq
-        {E = ⟦<Extension<A> as PartialEq>⟧.eq} {T = ⟦<UtcTimeAsn1 as PartialEq>⟧.eq}
-        (λ v w. Prim.search (rules))
-        (extensions_decide ⟦<Extension<A> as PartialEq>⟧.eq
-        {G = ⟦<GeneralName<A> as PartialEq>⟧.eq} {C = ⟦<BasicConstraints as PartialEq>⟧.eq}
-        (λ i j b c v w. Prim.search (rules)) (general_names_decide ⟦<GeneralName<A> as PartialEq>⟧.eq
-        {N = ⟦<Name<A> as PartialEq>⟧.eq} (λ x y. Prim.search (rules)) others_decide (pointwise_decides
-        (pointwise_decides (λ x y. Prim.search (rules, bytes_decides))))
-        (parties_decide {E = ⟦<DirectoryString<A> as PartialEq>⟧.eq}
-        (λ x y. Prim.search (rules, bytes_decides)))) (λ x y. Prim.search (rules)))
-        (λ x y. Prim.search (rules))) };
+    fn decides() {
+        ObjectIdentifierAsn1::<A>::decides();
+        AttributeValues::<A>::decides();
+    }
 }
 
 /// An attribute with the identifier of its type, if there was memory for that.
@@ -474,7 +396,5 @@ impl<A: Allocator + Copy> Field<A> for Attribute<A> {
 }
 
 impl<A: Allocator + Copy> FromDer<A> for Attribute<A> {
-    ghost always = { tt };
-
-    ghost whole = { tt };
+    ghost stands_alone = { (tt, tt) };
 }

@@ -6,20 +6,20 @@ ghost use Rattle.x509_der.specs.Items.{items};
 ghost use Rattle.x509_der.specs.Lasts.{ascends};
 ghost use Rattle.x509_der.specs.View.{if_found};
 ghost use Rattle.x509_der.specs.laws.Meaning.{sequence_keeps, seen_lawful, seen_element};
-ghost use Rattle.picky_asn1_x509_parts.specs.KeyAuthorities.{part, number, order_kinds, authority_of, authority_base, authority_meaning, authority_key_identifier, authority_bytes, with_part};
-ghost use Rattle.picky_asn1_x509_parts.specs.facts.KeyAuthorityFacts.{parts_apart, issuer_apart, authority_is, one_kind, authority_agrees};
+ghost use Rattle.picky_asn1_x509_parts.specs.AuthorityKeyIdentifier.{part, number, order_kinds, authority_of, authority_base, authority_meaning, authority_key_identifier, authority_bytes, with_part};
+ghost use Rattle.picky_asn1_x509_parts.specs.facts.AuthorityKeyIdentifierFacts.{parts_apart, issuer_apart, authority_is, one_kind, authority_agrees};
 
 use crate::key_identifier::KeyIdentifier;
-use std::alloc::{AllocError, Allocator, Global};
+use std::alloc::{Allocator, Global};
 use std::marker::Model;
 use x509_der::parts::{
-    Choice, ContentOf, Explicit1, Field, Found, Implicit0, Implicit2, Items, Join, Optional,
-    Reader, SEQUENCE_TAG, Sequence, Tagged, View, clone_three, known_there, read_viewed,
+    Choice, ContentOf, ContextConstructed, ContextPrimitive, Field, Items, Join, Optional, Reader,
+    SEQUENCE_TAG, Sequence, Tagged, View, WholeDeviations, known_there, read_viewed,
 };
 use x509_der::{
     CloneEq, Deviation, FromDer, IntegerAsn1, OctetStringAsn1, ReadError, SameEq, ToDer, TooLong,
 };
-use x509_names::{DirectoryString, GeneralName, Name};
+use x509_names::GeneralName;
 
 /// Which key signed a certificate: by its identifier, or by a certificate of it, by who issued that and its serial
 /// number. Each may be absent. Contracts see the three.
@@ -33,6 +33,7 @@ use x509_names::{DirectoryString, GeneralName, Name};
 /// one tag the last counts, and the others must be well formed too.
 #[derive(Drop)]
 #[derive_where(Debug, PartialEq, Eq)]
+#[derive_where(Clone; A: Copy)]
 pub struct AuthorityKeyIdentifier<A: Allocator = Global> {
     key_identifier: Option<KeyIdentifier<A>>,
     authority_cert_issuer: Option<GeneralName<A>>,
@@ -40,7 +41,7 @@ pub struct AuthorityKeyIdentifier<A: Allocator = Global> {
 }
 
 impl<A: Allocator> Model for AuthorityKeyIdentifier<A> {
-    ghost use Rattle.picky_asn1_x509_parts.specs.KeyAuthorities.{KeyAuthority};
+    ghost use Rattle.picky_asn1_x509_parts.specs.AuthorityKeyIdentifier.{KeyAuthority};
 
     ghost Value = { KeyAuthority A };
 
@@ -128,53 +129,27 @@ fn put<T: Drop>(field: &mut Option<T>, value: T)
     *field = Some(value);
 }
 
-impl<A: Allocator + Copy> AuthorityKeyIdentifier<A> {
-    /// Equal parts.
-    ///
-    /// # Errors
-    /// `AllocError` where memory is refused.
-    pub fn clone(&self) -> Result<Self, AllocError>
-        ensures { IfOk result (λ copy. copy ≡ self.now) }
-    {
-        self.clone_eq()
-    }
-}
-
 impl<A: Allocator + Copy> CloneEq for AuthorityKeyIdentifier<A> {
-    fn clone_eq(&self) -> Result<Self, AllocError> {
-        let (key_identifier, authority_cert_issuer, authority_cert_serial_number) = clone_three(
-            &self.key_identifier,
-            &self.authority_cert_issuer,
-            &self.authority_cert_serial_number,
-        )?;
-        Ok(AuthorityKeyIdentifier {
-            key_identifier,
-            authority_cert_issuer,
-            authority_cert_serial_number,
-        })
-    }
+    ghost use Rattle.std.proofs.Common.{rules};
+
+    ghost exact = { Prim.search (rules) };
 }
 
 impl<A: Allocator> SameEq for AuthorityKeyIdentifier<A> {
-    ghost use Rattle.std.proofs.Common.{rules};
-    ghost use Rattle.std.specs.Cmp.Lexicographic.{bytes_decides, pointwise_decides};
-    ghost use Rattle.x509_names.specs.facts.EdiPartyNames.{parties_decide};
-    ghost use Rattle.x509_names.specs.facts.OtherNames.{others_decide};
-    ghost use Rattle.x509_names.specs.facts.SameGeneralNames.{general_names_decide};
-    ghost use Rattle.picky_asn1_x509_parts.specs.facts.SameAuthorities.{authorities_decide};
-
-    ghost decides = { authorities_decide {E = ⟦<GeneralName<A> as PartialEq>⟧.eq}
-        (general_names_decide ⟦<GeneralName<A> as PartialEq>⟧.eq {N = ⟦<Name<A> as PartialEq>⟧.eq}
-        (λ x y. Prim.search (rules)) others_decide (pointwise_decides
-        (pointwise_decides (λ a b. Prim.search (rules, bytes_decides))))
-        (parties_decide {E = ⟦<DirectoryString<A> as PartialEq>⟧.eq}
-        (λ a b. Prim.search (rules, bytes_decides)))) };
+    fn decides() {
+        Option::<KeyIdentifier<A>>::decides();
+        Option::<GeneralName<A>>::decides();
+        Option::<IntegerAsn1<A>>::decides();
+    }
 }
 
 /// One field, by its tag.
 type Part<A> = Choice<
-    Tagged<Implicit0, ContentOf<KeyIdentifier<A>>>,
-    Choice<Tagged<Explicit1, GeneralName<A>>, Tagged<Implicit2, ContentOf<IntegerAsn1<A>>>>,
+    Tagged<ContextPrimitive<0>, ContentOf<KeyIdentifier<A>>>,
+    Choice<
+        Tagged<ContextConstructed<1>, GeneralName<A>>,
+        Tagged<ContextPrimitive<2>, ContentOf<IntegerAsn1<A>>>,
+    >,
 >;
 
 /// The fields that are read, in their order.
@@ -187,10 +162,10 @@ type Fields<A> = Tagged<Sequence, Inner<A>>;
 type Written<'a, A> = Tagged<
     Sequence,
     Join<
-        Optional<Tagged<Implicit0, ContentOf<&'a KeyIdentifier<A>>>>,
+        Optional<Tagged<ContextPrimitive<0>, ContentOf<&'a KeyIdentifier<A>>>>,
         Join<
-            Optional<Tagged<Explicit1, &'a GeneralName<A>>>,
-            Optional<Tagged<Implicit2, ContentOf<&'a IntegerAsn1<A>>>>,
+            Optional<Tagged<ContextConstructed<1>, &'a GeneralName<A>>>,
+            Optional<Tagged<ContextPrimitive<2>, ContentOf<&'a IntegerAsn1<A>>>>,
         >,
     >,
 >;
@@ -249,10 +224,10 @@ fn written<A: Allocator>(value: &AuthorityKeyIdentifier<A>) -> Written<'_, A>
     ensures { ⟦<Written<'static, A> as ToDer>⟧.strict result ≡ authority_bytes value.now }
 {
     Tagged::new(Join(
-        Optional::lent_body(&value.key_identifier),
+        Optional::borrowed_content(&value.key_identifier),
         Join(
-            Optional::lent(&value.authority_cert_issuer),
-            Optional::lent_body(&value.authority_cert_serial_number),
+            Optional::borrowed_element(&value.authority_cert_issuer),
+            Optional::borrowed_content(&value.authority_cert_serial_number),
         ),
     ))
 }
@@ -269,7 +244,7 @@ impl<A: Allocator> ToDer for AuthorityKeyIdentifier<A> {
     }
 }
 
-impl<A: Allocator + Copy> View<Fields<A>> for AuthorityKeyIdentifier<A> {
+impl<A: Allocator + Copy> View<Fields<A>, A> for AuthorityKeyIdentifier<A> {
     ghost base = { authority_base };
 
     ghost view = { authority_meaning };
@@ -283,17 +258,17 @@ impl<A: Allocator + Copy> View<Fields<A>> for AuthorityKeyIdentifier<A> {
           (tt, (tt, tt)),
         )) authority_is one_kind };
 
-    fn meaning(parts: Fields<A>) -> Option<(Self, Found)> {
+    fn meaning(_alloc: A, parts: Fields<A>) -> Result<(Self, WholeDeviations), ReadError> {
         let Items(fields) = parts.into_inner();
-        let found = Found::of(disorder(fields.as_slice()));
-        Some((last_of_each(fields), found))
+        let found = WholeDeviations::of(disorder(fields.as_slice()));
+        Ok((last_of_each(fields), found))
     }
 }
 
 impl<A: Allocator + Copy> Field<A> for AuthorityKeyIdentifier<A> {
     ghost shape = { authority_key_identifier };
 
-    ghost lawful = { λ h. seen_lawful authority_meaning authority_base ⟦<AuthorityKeyIdentifier<A> as View<Fields<A>>>⟧.keeps };
+    ghost lawful = { λ h. seen_lawful authority_meaning authority_base ⟦<AuthorityKeyIdentifier<A> as View<Fields<A>, A>>⟧.keeps };
 
     ghost elements = { λ h. seen_element authority_meaning authority_base
         (⟦<Fields<A> as Field<A>>⟧.elements tt) authority_is };
@@ -316,7 +291,5 @@ impl<A: Allocator + Copy> Field<A> for AuthorityKeyIdentifier<A> {
 }
 
 impl<A: Allocator + Copy> FromDer<A> for AuthorityKeyIdentifier<A> {
-    ghost always = { tt };
-
-    ghost whole = { tt };
+    ghost stands_alone = { (tt, tt) };
 }

@@ -1,11 +1,11 @@
 //! Whether the subject of a certificate is an authority.
 
-ghost use Rattle.std.specs.Prelude.{◌≡◌, Ok, refl};
+ghost use Rattle.std.specs.Prelude.{◌≡◌, refl};
 ghost use Rattle.x509_der.specs.laws.Structure.{structure_lawful, structure_element};
-ghost use Rattle.picky_asn1_x509_parts.specs.Constraints.{constraints_parts, constraints_base, basic_constraints};
-ghost use Rattle.picky_asn1_x509_parts.specs.facts.Constraints.{constraints_same, pathlen_apart};
+ghost use Rattle.picky_asn1_x509_parts.specs.BasicConstraints.{constraints_parts, constraints_base, basic_constraints};
+ghost use Rattle.picky_asn1_x509_parts.specs.facts.BasicConstraints.{constraints_same, pathlen_apart};
 
-use std::alloc::{AllocError, Allocator};
+use std::alloc::Allocator;
 use std::marker::Model;
 use x509_der::parts::{
     Field, Join, Optional, Reader, SEQUENCE_TAG, Sequence, Structure, Tagged, known_there,
@@ -20,14 +20,14 @@ use x509_der::{CloneEq, FromDer, ReadError, SameEq, ToDer, TooLong};
 /// `SEQUENCE { cA BOOLEAN OPTIONAL, pathLenConstraint INTEGER (0..255) OPTIONAL }`, after RFC 5280, 4.2.1.9, where `cA`
 /// is FALSE by default and the path length has no upper bound. Greater path lengths are refused. FALSE is read, and
 /// written where it is there (X.690, 11.5, would leave it out). Reading it takes no memory.
-#[derive(Drop, Debug, PartialEq, Eq)]
+#[derive(Drop, Debug, Clone, PartialEq, Eq)]
 pub struct BasicConstraints {
     ca: Option<bool>,
     path_len_constraint: Option<u8>,
 }
 
 impl Model for BasicConstraints {
-    ghost use Rattle.picky_asn1_x509_parts.specs.Constraints.{Constraints};
+    ghost use Rattle.picky_asn1_x509_parts.specs.BasicConstraints.{Constraints};
 
     ghost Value = { Constraints };
 
@@ -61,31 +61,19 @@ impl BasicConstraints {
     {
         self.path_len_constraint
     }
-
-    /// Equal constraints. Takes no memory.
-    ///
-    /// # Errors
-    /// None: it answers a `Result` as every `clone` does.
-    pub fn clone(&self) -> Result<BasicConstraints, AllocError>
-        ensures { result ≡ Ok self.now }
-    {
-        Ok(BasicConstraints {
-            ca: self.ca,
-            path_len_constraint: self.path_len_constraint,
-        })
-    }
 }
 
 impl CloneEq for BasicConstraints {
-    fn clone_eq(&self) -> Result<BasicConstraints, AllocError> {
-        self.clone()
-    }
+    ghost use Rattle.std.proofs.Common.{rules};
+
+    ghost exact = { Prim.search (rules) };
 }
 
 impl SameEq for BasicConstraints {
-    ghost use Rattle.std.proofs.Common.{rules};
-
-    ghost decides = { Prim.search (rules) };
+    fn decides() {
+        Option::<bool>::decides();
+        Option::<u8>::decides();
+    }
 }
 
 /// The fields as they stand in the SEQUENCE, owned or borrowed.
@@ -103,8 +91,8 @@ fn written(value: &BasicConstraints) -> Written<'_>
         (constraints_parts value.now) }
 {
     Tagged::new(Join(
-        Optional::lend(&value.ca),
-        Optional::lend(&value.path_len_constraint),
+        Optional::borrowed(&value.ca),
+        Optional::borrowed(&value.path_len_constraint),
     ))
 }
 
@@ -160,7 +148,5 @@ impl<A: Allocator + Copy> Field<A> for BasicConstraints {
 }
 
 impl<A: Allocator + Copy> FromDer<A> for BasicConstraints {
-    ghost always = { tt };
-
-    ghost whole = { tt };
+    ghost stands_alone = { (tt, tt) };
 }

@@ -4,22 +4,20 @@ ghost use Rattle.std.specs.Prelude.{◌≡◌, ◌↔◌, ◌<◌, ◌^◌, Cont
 ghost use Rattle.std.specs.Iterator.Adapters.{IterYieldsInOrder};
 ghost use Rattle.std.specs.List.{flat_map};
 ghost use Rattle.std.specs.Slice.Iter.{iter_rest};
-ghost use Rattle.std.proofs.Common.{lit<};
 ghost use Rattle.x509_der.specs.Element.{element};
-ghost use Rattle.x509_der.specs.laws.Tagged.{tagged_lawful, tagged_element};
-ghost use Rattle.picky_asn1_x509_parts.specs.KeyPurposes.{key_purpose, key_purposes, extended_key_usage};
+ghost use Rattle.picky_asn1_x509_parts.specs.ExtendedKeyUsage.{key_purpose, extended_key_usage};
 
-use std::alloc::{AllocError, Allocator, Global};
+use std::alloc::{Allocator, Global};
 use std::marker::Model;
 use std::slice;
-use x509_der::parts::{
-    Constructed, Content, ContentOf, Field, OneTag, Reader, SEQUENCE_TAG, ToContent, element_len,
-    read_element, write_element,
-};
+use x509_der::parts::{Field, Reader, SEQUENCE_TAG};
 use x509_der::{
     Asn1SequenceOf, CloneEq, FromDer, ObjectIdentifier, ObjectIdentifierAsn1, ReadError, SameEq,
     ToDer, TooLong,
 };
+
+/// The purposes as they stand in the SEQUENCE.
+type Purposes<A> = Asn1SequenceOf<ObjectIdentifierAsn1<A>, A>;
 
 /// What a certified key is for: the identifiers of purposes, in a list whose order is kept. Contracts see the list.
 ///
@@ -30,6 +28,7 @@ use x509_der::{
 /// The standard wants one purpose at least; an empty list is read and written too.
 #[derive(Drop)]
 #[derive_where(Debug, PartialEq, Eq)]
+#[derive_where(Clone; A: Copy)]
 pub struct ExtendedKeyUsage<A: Allocator = Global>(Asn1SequenceOf<ObjectIdentifierAsn1<A>, A>);
 
 impl<A: Allocator> Model for ExtendedKeyUsage<A> {
@@ -97,42 +96,15 @@ impl<A: Allocator> From<Vec<ObjectIdentifierAsn1<A>, A>> for ExtendedKeyUsage<A>
     }
 }
 
-impl<A: Allocator + Copy> ExtendedKeyUsage<A> {
-    /// Equal purposes, in the same order.
-    ///
-    /// # Errors
-    /// `AllocError` where memory is refused.
-    pub fn clone(&self) -> Result<Self, AllocError>
-        ensures { IfOk result (λ copy. copy ≡ self.now) }
-    {
-        self.clone_eq()
-    }
-}
-
 impl<A: Allocator + Copy> CloneEq for ExtendedKeyUsage<A> {
-    fn clone_eq(&self) -> Result<Self, AllocError> {
-        Ok(ExtendedKeyUsage(self.0.clone_eq()?))
-    }
+    ghost use Rattle.std.proofs.Common.{rules};
+
+    ghost exact = { Prim.search (rules) };
 }
 
 impl<A: Allocator> SameEq for ExtendedKeyUsage<A> {
-    ghost use Rattle.std.specs.Cmp.Lexicographic.{bytes_decides, pointwise_decides};
-
-    ghost decides = { pointwise_decides bytes_decides };
-}
-
-/// The purposes as they stand in the SEQUENCE.
-type Purposes<A> = Asn1SequenceOf<ObjectIdentifierAsn1<A>, A>;
-
-impl<A: Allocator> ToContent for ExtendedKeyUsage<A> {
-    ghost content = { flat_map key_purpose.strict };
-
-    fn content_len(&self) -> Result<usize, TooLong> {
-        self.0.content_len()
-    }
-
-    fn write_content(&self, out: &mut [u8]) -> usize {
-        self.0.write_content(out)
+    fn decides() {
+        Purposes::<A>::decides();
     }
 }
 
@@ -140,43 +112,20 @@ impl<A: Allocator> ToDer for ExtendedKeyUsage<A> {
     ghost strict = { λ v. element 48 (flat_map key_purpose.strict v) };
 
     fn encoded_len(&self) -> Result<usize, TooLong> {
-        element_len(SEQUENCE_TAG, &ContentOf(self))
+        self.0.encoded_len()
     }
 
     fn write_back(&self, out: &mut [u8]) -> usize {
-        write_element(SEQUENCE_TAG, &ContentOf(self), out)
-    }
-}
-
-impl<A: Allocator + Copy> Content<A> for ExtendedKeyUsage<A> {
-    ghost content_shape = { key_purposes };
-
-    ghost content_fits = { Unit {0} };
-
-    ghost content_lawful = { λ h. ⟦<Purposes<A> as Content<A>>⟧.content_lawful (tt, tt) };
-
-    ghost content_always = { tt };
-
-    ghost open = { λ b. refl };
-
-    ghost content_agrees = { λ v. refl };
-
-    fn known_content(&self) {
-        Content::<A>::known_content(&self.0);
-    }
-
-    fn read_content(alloc: A, reader: &mut Reader<'_, A>) -> Result<Self, ReadError> {
-        Ok(ExtendedKeyUsage(Asn1SequenceOf::read_content(alloc, reader)?))
+        self.0.write_back(out)
     }
 }
 
 impl<A: Allocator + Copy> Field<A> for ExtendedKeyUsage<A> {
     ghost shape = { extended_key_usage };
 
-    ghost lawful = { λ h. tagged_lawful 48 key_purposes
-        (⟦<Purposes<A> as Content<A>>⟧.content_lawful (tt, tt)) };
+    ghost lawful = { λ h. ⟦<Purposes<A> as Field<A>>⟧.lawful (tt, tt) };
 
-    ghost elements = { λ h. tagged_element 48 key_purposes refl (lit< tt) };
+    ghost elements = { λ h. ⟦<Purposes<A> as Field<A>>⟧.elements tt };
 
     ghost agrees = { λ v. refl };
 
@@ -189,25 +138,10 @@ impl<A: Allocator + Copy> Field<A> for ExtendedKeyUsage<A> {
     }
 
     fn read(alloc: A, reader: &mut Reader<'_, A>) -> Result<Self, ReadError> {
-        let ContentOf(value) = read_element(alloc, SEQUENCE_TAG, reader)?;
-        Ok(value)
+        Ok(ExtendedKeyUsage(Asn1SequenceOf::read(alloc, reader)?))
     }
 }
 
 impl<A: Allocator + Copy> FromDer<A> for ExtendedKeyUsage<A> {
-    ghost always = { tt };
-
-    ghost whole = { tt };
-}
-
-impl<A: Allocator + Copy> OneTag<A> for ExtendedKeyUsage<A> {
-    type Form = Constructed;
-
-    ghost tag = { 48 };
-
-    ghost form = { refl };
-
-    ghost spelled_around = { λ v p y. (λ s. s, λ s. s) };
-
-    ghost strict_around = { λ v. refl };
+    ghost stands_alone = { (tt, tt) };
 }

@@ -1,361 +1,39 @@
 //! Extensions of certificates and requests.
 
-ghost use Rattle.std.specs.Prelude.{◌≡◌, ◌↔◌, true, false, refl, Contains, Err, IfOk, IsOkAnd, IsTrue, MatchResult, ⊤};
-ghost use Rattle.std.proofs.Common.{eqb};
+ghost use Rattle.std.specs.Prelude.{◌≡◌, ◌↔◌, true, false, refl, Contains, Err, IfOk, IsOkAnd, IsTrue, MatchResult};
 ghost use Rattle.x509_der.specs.View.{if_found};
 ghost use Rattle.x509_der.specs.laws.Meaning.{sequence_keeps, seen_lawful, seen_element};
-ghost use Rattle.x509_der.specs.Reading.{Ready, Reads};
-ghost use Rattle.picky_asn1_x509_parts.specs.declared.extension.ExtensionValue.TheVariants as value;
-ghost use Rattle.picky_asn1_x509_parts.specs.Extensions.{authority_key_arcs, subject_key_arcs, key_usage_arcs, subject_name_arcs, issuer_name_arcs, constraints_arcs, extended_usage_arcs, crl_number_arcs, any_usage_arcs, kind_of as kind_by, kind_in, value_bytes, IsValue, by_kind, critical_of, written_critical, critical_kinds, Fields as FieldsOf, AreFitting, inner, fields_bytes, ExtensionFields, IsFitting, extension_base, extension_meaning, extension_bytes, extension, made, viewed, with_critical};
+ghost use Rattle.picky_asn1_x509_parts.specs.declared.extension_value.ExtensionValue.TheVariants as value;
+ghost use Rattle.picky_asn1_x509_parts.specs.Extensions.{authority_key_arcs, subject_key_arcs, key_usage_arcs, subject_name_arcs, issuer_name_arcs, constraints_arcs, extended_usage_arcs, crl_number_arcs, any_usage_arcs, kind_of as kind_by, kind_in, critical_of, critical_kinds, inner, fields_bytes, extension_base, extension_meaning, extension_bytes, extension, made, viewed, with_critical};
 
 use crate::authority_key_identifier::AuthorityKeyIdentifier;
 use crate::basic_constraints::BasicConstraints;
 use crate::extended_key_usage::ExtendedKeyUsage;
-use crate::key_identifier::{KeyIdentifier, SubjectKeyIdentifier};
+use crate::extension_value::{ExtensionValue, Key, known_value};
+pub use crate::extension_view::ExtensionView;
+use crate::key_identifier::KeyIdentifier;
 use crate::key_usage::KeyUsage;
 use std::alloc::{AllocError, Allocator, Global};
 use std::marker::Model;
 use x509_der::parts::{
-    AnyDefinedBy, DefinedBy, Field, Found, Join, OCTET_STRING_TAG, Optional, Reader, SEQUENCE_TAG,
-    Sequence, Tagged, View, read_viewed,
+    DefinedBy, Field, Join, Optional, Reader, SEQUENCE_TAG, Sequence, Tagged, View,
+    WholeDeviations, clone_both, read_viewed,
 };
 use x509_der::{
     CloneEq, Deviation, FromDer, IntegerAsn1, ObjectIdentifier, ObjectIdentifierAsn1,
     OctetStringAsn1, OctetStringAsn1Container, ReadError, SameEq, ToDer, TooLong,
 };
-use x509_names::{DirectoryString, GeneralName, GeneralNames, Name};
+use x509_names::{GeneralName, GeneralNames};
 use x509_oids_objects as oids;
-
-/// The value of an extension, in an OCTET STRING.
-#[derive(Drop)]
-#[derive_where(Debug, PartialEq, Eq)]
-enum ExtensionValue<A: Allocator = Global> {
-    /// Of `id-ce-authorityKeyIdentifier`, 2.5.29.35.
-    AuthorityKeyIdentifier(OctetStringAsn1Container<AuthorityKeyIdentifier<A>>),
-    /// Of `id-ce-subjectKeyIdentifier`, 2.5.29.14.
-    SubjectKeyIdentifier(OctetStringAsn1Container<SubjectKeyIdentifier<A>>),
-    /// Of `id-ce-keyUsage`, 2.5.29.15.
-    KeyUsage(OctetStringAsn1Container<KeyUsage<A>>),
-    /// Of `id-ce-subjectAltName`, 2.5.29.17.
-    SubjectAltName(OctetStringAsn1Container<GeneralNames<A>>),
-    /// Of `id-ce-issuerAltName`, 2.5.29.18.
-    IssuerAltName(OctetStringAsn1Container<GeneralNames<A>>),
-    /// Of `id-ce-basicConstraints`, 2.5.29.19.
-    BasicConstraints(OctetStringAsn1Container<BasicConstraints>),
-    /// Of `id-ce-extKeyUsage`, 2.5.29.37.
-    ExtendedKeyUsage(OctetStringAsn1Container<ExtendedKeyUsage<A>>),
-    /// Of any other extension: octets, which aren't looked into.
-    Generic(OctetStringAsn1<A>),
-    /// Of `id-ce-cRLNumber`, 2.5.29.20.
-    CrlNumber(OctetStringAsn1Container<IntegerAsn1<A>>),
-}
-
-/// The value of an extension, lent: the variant is the one that the object identifier says.
-#[derive(Drop)]
-#[derive_where(Debug, Copy, PartialEq, Eq)]
-pub enum ExtensionView<'a, A: Allocator = Global> {
-    /// Which key signed (RFC 5280, 4.2.1.1).
-    AuthorityKeyIdentifier(&'a AuthorityKeyIdentifier<A>),
-    /// The identifier of the certified key (RFC 5280, 4.2.1.2).
-    SubjectKeyIdentifier(&'a SubjectKeyIdentifier<A>),
-    /// What the certified key may be used for (RFC 5280, 4.2.1.3).
-    KeyUsage(&'a KeyUsage<A>),
-    /// Further names of the subject (RFC 5280, 4.2.1.6).
-    SubjectAltName(&'a GeneralNames<A>),
-    /// Further names of the issuer (RFC 5280, 4.2.1.7).
-    IssuerAltName(&'a GeneralNames<A>),
-    /// Whether the subject is an authority (RFC 5280, 4.2.1.9).
-    BasicConstraints(&'a BasicConstraints),
-    /// What the certified key is for (RFC 5280, 4.2.1.12).
-    ExtendedKeyUsage(&'a ExtendedKeyUsage<A>),
-    /// The octets of an extension that isn't known here.
-    Generic(&'a OctetStringAsn1<A>),
-    /// The number of a revocation list (RFC 5280, 5.2.3).
-    CrlNumber(&'a OctetStringAsn1Container<IntegerAsn1<A>>),
-}
-
-// By hand, since a derived one copies field by field, in 20 seconds of proof.
-impl<A: Allocator> Clone for ExtensionView<'_, A> {
-    ghost is_clone = { λ view copy. copy ≡ view };
-
-    ghost is_infallible = { λ _. ⊤ };
-
-    fn clone(&self) -> Result<Self, AllocError> {
-        Ok(*self)
-    }
-}
-
-/// A view whose `==` answers true exactly where two of them lend the same value.
-pub(crate) trait SameLent<A: Allocator>: Eq {
-    ghost use Rattle.std.specs.Prelude.{◌≡◌};
-    ghost use Rattle.std.specs.Bool.{Decides};
-    ghost use Rattle.picky_asn1_x509_parts.specs.declared.extension.ExtensionValue.{ExtensionValue};
-
-    /// The value that a view lends.
-    ghost lent: { Self → ExtensionValue A };
-
-    /// `==` decides whether two views lend the same value.
-    ghost decides: { (x y : Self) → Decides (Self.eq x y) (lent x ≡ lent y) };
-}
-
-impl<'a, A: Allocator> SameLent<A> for ExtensionView<'a, A> {
-    ghost use Rattle.std.proofs.Common.{rules};
-    ghost use Rattle.std.specs.Cmp.Lexicographic.{bytes_decides, pointwise_decides};
-    ghost use Rattle.x509_names.specs.facts.EdiPartyNames.{parties_decide};
-    ghost use Rattle.x509_names.specs.facts.OtherNames.{others_decide};
-    ghost use Rattle.x509_names.specs.facts.SameGeneralNames.{general_names_decide};
-    ghost use Rattle.picky_asn1_x509_parts.specs.Extensions.{viewed};
-    ghost use Rattle.picky_asn1_x509_parts.specs.facts.SameExtensions.{views_decide};
-
-    ghost lent = { viewed };
-
-    ghost decides = { views_decide ⟦<ExtensionView<'a, A> as PartialEq>⟧.eq
-        {G = ⟦<GeneralName<A> as PartialEq>⟧.eq} {C = ⟦<BasicConstraints as PartialEq>⟧.eq}
-        (λ v w. Prim.search (rules)) (general_names_decide ⟦<GeneralName<A> as PartialEq>⟧.eq
-        {N = ⟦<Name<A> as PartialEq>⟧.eq} (λ x y. Prim.search (rules)) others_decide (pointwise_decides
-        (pointwise_decides (λ x y. Prim.search (rules, bytes_decides))))
-        (parties_decide {E = ⟦<DirectoryString<A> as PartialEq>⟧.eq}
-        (λ x y. Prim.search (rules, bytes_decides)))) (λ x y. Prim.search (rules)) };
-}
-
-impl<A: Allocator + Copy> CloneEq for ExtensionValue<A> {
-    fn clone_eq(&self) -> Result<Self, AllocError> {
-        match self {
-            ExtensionValue::AuthorityKeyIdentifier(key) => {
-                Ok(ExtensionValue::AuthorityKeyIdentifier(key.clone_eq()?))
-            }
-            ExtensionValue::SubjectKeyIdentifier(key) => {
-                Ok(ExtensionValue::SubjectKeyIdentifier(key.clone_eq()?))
-            }
-            ExtensionValue::KeyUsage(usage) => Ok(ExtensionValue::KeyUsage(usage.clone_eq()?)),
-            ExtensionValue::SubjectAltName(names) => {
-                Ok(ExtensionValue::SubjectAltName(names.clone_eq()?))
-            }
-            ExtensionValue::IssuerAltName(names) => {
-                Ok(ExtensionValue::IssuerAltName(names.clone_eq()?))
-            }
-            ExtensionValue::BasicConstraints(constraints) => {
-                Ok(ExtensionValue::BasicConstraints(constraints.clone_eq()?))
-            }
-            ExtensionValue::ExtendedKeyUsage(usage) => {
-                Ok(ExtensionValue::ExtendedKeyUsage(usage.clone_eq()?))
-            }
-            ExtensionValue::Generic(octets) => Ok(ExtensionValue::Generic(octets.clone_eq()?)),
-            ExtensionValue::CrlNumber(number) => Ok(ExtensionValue::CrlNumber(number.clone_eq()?)),
-        }
-    }
-}
-
-impl<A: Allocator> SameEq for ExtensionValue<A> {
-    ghost use Rattle.std.proofs.Common.{rules};
-    ghost use Rattle.std.specs.Cmp.Lexicographic.{bytes_decides, pointwise_decides};
-    ghost use Rattle.x509_names.specs.facts.EdiPartyNames.{parties_decide};
-    ghost use Rattle.x509_names.specs.facts.OtherNames.{others_decide};
-    ghost use Rattle.x509_names.specs.facts.SameGeneralNames.{general_names_decide};
-    ghost use Rattle.picky_asn1_x509_parts.specs.facts.SameExtensions.{values_decide};
-
-    ghost decides = { values_decide ⟦<ExtensionValue<A> as PartialEq>⟧.eq
-        {G = ⟦<GeneralName<A> as PartialEq>⟧.eq} {C = ⟦<BasicConstraints as PartialEq>⟧.eq}
-        (λ v w. Prim.search (rules)) (general_names_decide ⟦<GeneralName<A> as PartialEq>⟧.eq
-        {N = ⟦<Name<A> as PartialEq>⟧.eq} (λ x y. Prim.search (rules)) others_decide (pointwise_decides
-        (pointwise_decides (λ x y. Prim.search (rules, bytes_decides))))
-        (parties_decide {E = ⟦<DirectoryString<A> as PartialEq>⟧.eq}
-        (λ x y. Prim.search (rules, bytes_decides)))) (λ x y. Prim.search (rules)) };
-}
-
-/// What an object identifier says of the value.
-#[derive(Debug, Drop, Clone, Copy, PartialEq, Eq)]
-enum ExtensionKind {
-    /// An authority key identifier.
-    AuthorityKeyIdentifier,
-    /// A subject key identifier.
-    SubjectKeyIdentifier,
-    /// A key usage.
-    KeyUsage,
-    /// General names of the subject.
-    SubjectAltName,
-    /// General names of the issuer.
-    IssuerAltName,
-    /// Basic constraints.
-    BasicConstraints,
-    /// Purposes of the key.
-    ExtendedKeyUsage,
-    /// Any octets.
-    Generic,
-    /// An INTEGER.
-    CrlNumber,
-}
-
-/// The kind that an object identifier says.
-fn kind_of<A: Allocator>(identifier: &ObjectIdentifierAsn1<A>) -> ExtensionKind
-    ensures { result ≡ kind_by identifier.now }
-{
-    if identifier.0.is_arcs(&[2, 5, 29, 35]) {
-        ExtensionKind::AuthorityKeyIdentifier
-    } else if identifier.0.is_arcs(&[2, 5, 29, 14]) {
-        ExtensionKind::SubjectKeyIdentifier
-    } else if identifier.0.is_arcs(&[2, 5, 29, 15]) {
-        ExtensionKind::KeyUsage
-    } else if identifier.0.is_arcs(&[2, 5, 29, 17]) {
-        ExtensionKind::SubjectAltName
-    } else if identifier.0.is_arcs(&[2, 5, 29, 18]) {
-        ExtensionKind::IssuerAltName
-    } else if identifier.0.is_arcs(&[2, 5, 29, 19]) {
-        ExtensionKind::BasicConstraints
-    } else if identifier.0.is_arcs(&[2, 5, 29, 37]) {
-        ExtensionKind::ExtendedKeyUsage
-    } else if identifier.0.is_arcs(&[2, 5, 29, 20]) {
-        ExtensionKind::CrlNumber
-    } else {
-        ExtensionKind::Generic
-    }
-}
-
-impl<A: Allocator> ToDer for ExtensionValue<A> {
-    ghost strict = { value_bytes };
-
-    fn encoded_len(&self) -> Result<usize, TooLong> {
-        match self {
-            ExtensionValue::AuthorityKeyIdentifier(key) => key.encoded_len(),
-            ExtensionValue::SubjectKeyIdentifier(key) => key.encoded_len(),
-            ExtensionValue::KeyUsage(usage) => usage.encoded_len(),
-            ExtensionValue::SubjectAltName(names) => names.encoded_len(),
-            ExtensionValue::IssuerAltName(names) => names.encoded_len(),
-            ExtensionValue::BasicConstraints(constraints) => constraints.encoded_len(),
-            ExtensionValue::ExtendedKeyUsage(usage) => usage.encoded_len(),
-            ExtensionValue::Generic(octets) => octets.encoded_len(),
-            ExtensionValue::CrlNumber(number) => number.encoded_len(),
-        }
-    }
-
-    fn write_back(&self, out: &mut [u8]) -> usize {
-        match self {
-            ExtensionValue::AuthorityKeyIdentifier(key) => key.write_back(out),
-            ExtensionValue::SubjectKeyIdentifier(key) => key.write_back(out),
-            ExtensionValue::KeyUsage(usage) => usage.write_back(out),
-            ExtensionValue::SubjectAltName(names) => names.write_back(out),
-            ExtensionValue::IssuerAltName(names) => names.write_back(out),
-            ExtensionValue::BasicConstraints(constraints) => constraints.write_back(out),
-            ExtensionValue::ExtendedKeyUsage(usage) => usage.write_back(out),
-            ExtensionValue::Generic(octets) => octets.write_back(out),
-            ExtensionValue::CrlNumber(number) => number.write_back(out),
-        }
-    }
-}
-
-/// Says that the value is one of its type. It does nothing when it runs.
-fn known_value<A: Allocator + Copy>(value: &ExtensionValue<A>)
-    ensures { IsValue value.now }
-{
-    match value {
-        ExtensionValue::AuthorityKeyIdentifier(key) => Field::<A>::known(key),
-        ExtensionValue::SubjectKeyIdentifier(key) => Field::<A>::known(key),
-        ExtensionValue::KeyUsage(usage) => Field::<A>::known(usage),
-        ExtensionValue::SubjectAltName(names) => Field::<A>::known(names),
-        ExtensionValue::IssuerAltName(names) => Field::<A>::known(names),
-        ExtensionValue::BasicConstraints(constraints) => Field::<A>::known(constraints),
-        ExtensionValue::ExtendedKeyUsage(usage) => Field::<A>::known(usage),
-        ExtensionValue::Generic(octets) => octets.known(),
-        ExtensionValue::CrlNumber(number) => Field::<A>::known(number),
-    }
-}
-
-/// Reads a value of a kind.
-///
-/// # Errors
-/// Refused where no value of the kind fills an OCTET STRING there, or memory is refused.
-fn read_as<A: Allocator + Copy>(
-    alloc: A,
-    kind: ExtensionKind,
-    reader: &mut Reader<'_, A>,
-) -> Result<ExtensionValue<A>, ReadError>
-    requires { Ready reader.old }
-    ensures { Reads (by_kind kind) reader.old reader.new result }
-{
-    match kind {
-        ExtensionKind::AuthorityKeyIdentifier => {
-            let key = OctetStringAsn1Container::<AuthorityKeyIdentifier<A>>::read(alloc, reader)?;
-            Ok(ExtensionValue::AuthorityKeyIdentifier(key))
-        }
-        ExtensionKind::SubjectKeyIdentifier => {
-            let key = OctetStringAsn1Container::<SubjectKeyIdentifier<A>>::read(alloc, reader)?;
-            Ok(ExtensionValue::SubjectKeyIdentifier(key))
-        }
-        ExtensionKind::KeyUsage => {
-            let usage = OctetStringAsn1Container::<KeyUsage<A>>::read(alloc, reader)?;
-            Ok(ExtensionValue::KeyUsage(usage))
-        }
-        ExtensionKind::SubjectAltName => {
-            let names = OctetStringAsn1Container::<GeneralNames<A>>::read(alloc, reader)?;
-            Ok(ExtensionValue::SubjectAltName(names))
-        }
-        ExtensionKind::IssuerAltName => {
-            let names = OctetStringAsn1Container::<GeneralNames<A>>::read(alloc, reader)?;
-            Ok(ExtensionValue::IssuerAltName(names))
-        }
-        ExtensionKind::BasicConstraints => {
-            let constraints = OctetStringAsn1Container::<BasicConstraints>::read(alloc, reader)?;
-            Ok(ExtensionValue::BasicConstraints(constraints))
-        }
-        ExtensionKind::ExtendedKeyUsage => {
-            let usage = OctetStringAsn1Container::<ExtendedKeyUsage<A>>::read(alloc, reader)?;
-            Ok(ExtensionValue::ExtendedKeyUsage(usage))
-        }
-        ExtensionKind::Generic => {
-            let octets = OctetStringAsn1::read(alloc, reader)?;
-            Ok(ExtensionValue::Generic(octets))
-        }
-        ExtensionKind::CrlNumber => {
-            let number = OctetStringAsn1Container::<IntegerAsn1<A>>::read(alloc, reader)?;
-            Ok(ExtensionValue::CrlNumber(number))
-        }
-    }
-}
-
-/// What stands in front of a value: the object identifier, and whether the extension is critical where that is encoded.
-type Key<A> = Join<ObjectIdentifierAsn1<A>, Optional<bool>>;
-
-impl<A: Allocator + Copy> AnyDefinedBy<Key<A>, A> for ExtensionValue<A> {
-    ghost use Rattle.picky_asn1_x509_parts.specs.facts.ExtensionFacts.{HoldLaws, value_family, value_agrees};
-
-    ghost shapes = { λ key. by_kind (kind_by key.0) };
-
-    ghost starts = { λ b. eqb b 4 };
-
-    ghost avoids = { λ b. false };
-
-    ghost family = { value_family (record {
-      authority_key = ⟦<OctetStringAsn1Container<AuthorityKeyIdentifier<A>> as Field<A>>⟧.lawful tt;
-      usage = ⟦<OctetStringAsn1Container<KeyUsage<A>> as Field<A>>⟧.lawful tt;
-      names = ⟦<OctetStringAsn1Container<GeneralNames<A>> as Field<A>>⟧.lawful (tt, tt);
-      constraints = ⟦<OctetStringAsn1Container<BasicConstraints> as Field<A>>⟧.lawful tt;
-      purposes = ⟦<OctetStringAsn1Container<ExtendedKeyUsage<A>> as Field<A>>⟧.lawful tt;
-      numbers = ⟦<OctetStringAsn1Container<IntegerAsn1<A>> as Field<A>>⟧.lawful tt;
-    }) };
-
-    ghost shapes_agree = { λ key v. value_agrees (kind_by key.0) v };
-
-    fn starts(byte: u8) -> bool {
-        byte == OCTET_STRING_TAG
-    }
-
-    fn known_behind(&self, _key: &Key<A>) {
-        known_value(self);
-    }
-
-    fn read_behind(alloc: A, key: &Key<A>, reader: &mut Reader<'_, A>) -> Result<Self, ReadError> {
-        read_as(alloc, kind_of(&key.0), reader)
-    }
-}
 
 /// The fields in the SEQUENCE, owned.
 type Inner<A> = DefinedBy<Key<A>, ExtensionValue<A>>;
 
 /// The fields as they were read: the value is of the kind that the object identifier says.
 #[derive(Drop)]
-struct Fitting<A: Allocator>(Inner<A>);
+struct MatchingFields<A: Allocator>(Inner<A>);
 
-impl<A: Allocator> Model for Fitting<A> {
+impl<A: Allocator> Model for MatchingFields<A> {
     ghost use Rattle.picky_asn1_x509_parts.specs.Extensions.{Fields, AreFitting};
 
     ghost Value = { Fields A };
@@ -367,7 +45,7 @@ impl<A: Allocator> Model for Fitting<A> {
     ghost inverse = { λ f. record { 0 = f } };
 }
 
-impl<A: Allocator> ToDer for Fitting<A> {
+impl<A: Allocator> ToDer for MatchingFields<A> {
     ghost strict = { fields_bytes };
 
     fn encoded_len(&self) -> Result<usize, TooLong> {
@@ -379,7 +57,7 @@ impl<A: Allocator> ToDer for Fitting<A> {
     }
 }
 
-impl<A: Allocator + Copy> Field<A> for Fitting<A> {
+impl<A: Allocator + Copy> Field<A> for MatchingFields<A> {
     ghost use Rattle.picky_asn1_x509_parts.specs.facts.ExtensionFacts.{key_apart, inner_agrees};
 
     ghost shape = { inner };
@@ -402,7 +80,7 @@ impl<A: Allocator + Copy> Field<A> for Fitting<A> {
 
     fn read(alloc: A, reader: &mut Reader<'_, A>) -> Result<Self, ReadError> {
         let fields = Inner::<A>::read(alloc, reader)?;
-        Ok(Fitting(fields))
+        Ok(MatchingFields(fields))
     }
 }
 
@@ -680,22 +358,12 @@ impl<A: Allocator + Copy> Extension<A> {
     }
 }
 
-impl<A: Allocator + Copy> Extension<A> {
-    /// An equal extension.
-    ///
-    /// # Errors
-    /// `AllocError` where memory is refused.
-    pub fn clone(&self) -> Result<Self, AllocError>
-        ensures { IfOk result (λ copy. copy ≡ self.now) }
-    {
-        self.clone_eq()
-    }
-}
+// By hand, since the kind of a value that was cloned variant by variant isn't seen to be that of its identifier.
+impl<A: Allocator + Copy> Clone for Extension<A> {
+    ghost is_clone = { λ x y. y ≡ x };
 
-impl<A: Allocator + Copy> CloneEq for Extension<A> {
-    fn clone_eq(&self) -> Result<Self, AllocError> {
-        let extn_id = self.extn_id.clone_eq()?;
-        let extn_value = self.extn_value.clone_eq()?;
+    fn clone(&self) -> Result<Self, AllocError> {
+        let (extn_id, extn_value) = clone_both(&self.extn_id, &self.extn_value)?;
         Ok(Extension {
             extn_id,
             critical: self.critical,
@@ -704,25 +372,20 @@ impl<A: Allocator + Copy> CloneEq for Extension<A> {
     }
 }
 
-impl<A: Allocator> SameEq for Extension<A> {
-    ghost use Rattle.std.proofs.Common.{rules};
-    ghost use Rattle.std.specs.Cmp.Lexicographic.{bytes_decides, pointwise_decides};
-    ghost use Rattle.x509_names.specs.facts.EdiPartyNames.{parties_decide};
-    ghost use Rattle.x509_names.specs.facts.OtherNames.{others_decide};
-    ghost use Rattle.x509_names.specs.facts.SameGeneralNames.{general_names_decide};
-    ghost use Rattle.picky_asn1_x509_parts.specs.facts.SameExtensions.{extensions_decide};
+impl<A: Allocator + Copy> CloneEq for Extension<A> {
+    ghost exact = { λ x y h. h };
+}
 
-    ghost decides = { extensions_decide ⟦<Extension<A> as PartialEq>⟧.eq
-        {G = ⟦<GeneralName<A> as PartialEq>⟧.eq} {C = ⟦<BasicConstraints as PartialEq>⟧.eq}
-        (λ i j b c v w. Prim.search (rules)) (general_names_decide ⟦<GeneralName<A> as PartialEq>⟧.eq
-        {N = ⟦<Name<A> as PartialEq>⟧.eq} (λ x y. Prim.search (rules)) others_decide (pointwise_decides
-        (pointwise_decides (λ x y. Prim.search (rules, bytes_decides))))
-        (parties_decide {E = ⟦<DirectoryString<A> as PartialEq>⟧.eq}
-        (λ x y. Prim.search (rules, bytes_decides)))) (λ x y. Prim.search (rules)) };
+impl<A: Allocator> SameEq for Extension<A> {
+    fn decides() {
+        ObjectIdentifierAsn1::<A>::decides();
+        bool::decides();
+        ExtensionValue::<A>::decides();
+    }
 }
 
 /// The fields, owned.
-type Fields<A> = Tagged<Sequence, Fitting<A>>;
+type Fields<A> = Tagged<Sequence, MatchingFields<A>>;
 
 /// The fields that are written, borrowed.
 type Written<'a, A> = Tagged<
@@ -771,7 +434,7 @@ impl<A: Allocator> ToDer for Extension<A> {
     }
 }
 
-impl<A: Allocator + Copy> View<Fields<A>> for Extension<A> {
+impl<A: Allocator + Copy> View<Fields<A>, A> for Extension<A> {
     ghost use Rattle.picky_asn1_x509_parts.specs.facts.ExtensionFacts.{extension_is, extension_one};
 
     ghost base = { extension_base };
@@ -779,13 +442,14 @@ impl<A: Allocator + Copy> View<Fields<A>> for Extension<A> {
     ghost view = { extension_meaning };
 
     ghost keeps = { sequence_keeps extension_meaning inner
-        (⟦<Fitting<A> as Field<A>>⟧.lawful tt) extension_is extension_one };
+        (⟦<MatchingFields<A> as Field<A>>⟧.lawful tt) extension_is extension_one };
 
-    fn meaning(parts: Fields<A>) -> Option<(Self, Found)> {
-        let Fitting(DefinedBy(Join(extn_id, Optional(spelled)), extn_value)) = parts.into_inner();
-        let found = Found::of(spelled_false(spelled));
+    fn meaning(_alloc: A, parts: Fields<A>) -> Result<(Self, WholeDeviations), ReadError> {
+        let MatchingFields(DefinedBy(Join(extn_id, Optional(spelled)), extn_value)) =
+            parts.into_inner();
+        let found = WholeDeviations::of(spelled_false(spelled));
         let critical = critical_in(spelled);
-        Some((
+        Ok((
             Extension {
                 extn_id,
                 critical,
@@ -801,7 +465,7 @@ impl<A: Allocator + Copy> Field<A> for Extension<A> {
 
     ghost shape = { extension };
 
-    ghost lawful = { λ h. seen_lawful extension_meaning extension_base ⟦<Extension<A> as View<Fields<A>>>⟧.keeps };
+    ghost lawful = { λ h. seen_lawful extension_meaning extension_base ⟦<Extension<A> as View<Fields<A>, A>>⟧.keeps };
 
     ghost elements = { λ h. seen_element extension_meaning extension_base
         (⟦<Fields<A> as Field<A>>⟧.elements tt) extension_is };
@@ -823,7 +487,5 @@ impl<A: Allocator + Copy> Field<A> for Extension<A> {
 }
 
 impl<A: Allocator + Copy> FromDer<A> for Extension<A> {
-    ghost always = { tt };
-
-    ghost whole = { tt };
+    ghost stands_alone = { (tt, tt) };
 }

@@ -1,19 +1,13 @@
 //! What a key may be used for.
 
 ghost use Rattle.std.specs.Prelude.{◌≡◌, ◌<◌, ◌++◌, false, refl, length, replicate, slice_index_or, IfOk, IsOk, OnOk, OnErr};
-ghost use Rattle.std.proofs.Common.{lit<};
 ghost use Rattle.x509_der.specs.Element.{element};
-ghost use Rattle.x509_der.specs.laws.Tagged.{tagged_lawful, tagged_element};
-ghost use Rattle.x509_der.specs.BitString.{bits_of, unused_bits, payload, bit_content, bit_strings};
-ghost use Rattle.x509_der.specs.facts.BitString.{bits_lawful};
-ghost use Rattle.picky_asn1_x509_parts.specs.KeyUsages.{key_usage, put};
+ghost use Rattle.x509_der.specs.BitString.{bits_of, unused_bits, payload, bit_content};
+ghost use Rattle.picky_asn1_x509_parts.specs.KeyUsages.{key_usage, put, SetsBit};
 
 use std::alloc::{AllocError, Allocator, Global};
 use std::marker::Model;
-use x509_der::parts::{
-    BIT_STRING_TAG, Content, ContentOf, Field, OneTag, Primitive, Reader, ToContent, element_len,
-    read_element, write_element,
-};
+use x509_der::parts::{BIT_STRING_TAG, Field, Reader};
 use x509_der::{BitString, BitStringAsn1, CloneEq, FromDer, ReadError, SameEq, ToDer, TooLong};
 
 /// What a key may be used for: a list of bits, of which the first nine have names. Contracts see the list. Bits past
@@ -25,6 +19,7 @@ use x509_der::{BitString, BitStringAsn1, CloneEq, FromDer, ReadError, SameEq, To
 /// number of bits is read, and trailing bits that are unset are written (X.690, 11.2.2, would take them away).
 #[derive(Drop)]
 #[derive_where(Debug, PartialEq, Eq)]
+#[derive_where(Clone; A: Copy)]
 pub struct KeyUsage<A: Allocator = Global>(BitStringAsn1<A>);
 
 impl<A: Allocator> Model for KeyUsage<A> {
@@ -169,9 +164,7 @@ impl<A: Allocator> KeyUsage<A> {
     /// # Errors
     /// `AllocError` where memory is refused. The bits are as they were.
     pub fn set_digital_signature(&mut self, value: bool) -> Result<(), AllocError>
-        ensures ok { OnOk result (self.new ≡ put self.old 0 value) }
-        ensures err { OnErr result (self.new ≡ self.old) }
-        ensures spares { 0 < length self.old → IsOk result }
+        ensures { SetsBit 0 value self.old self.new result }
     {
         self.put(0, value)
     }
@@ -182,9 +175,7 @@ impl<A: Allocator> KeyUsage<A> {
     /// # Errors
     /// `AllocError` where memory is refused. The bits are as they were.
     pub fn set_content_commitment(&mut self, value: bool) -> Result<(), AllocError>
-        ensures ok { OnOk result (self.new ≡ put self.old 1 value) }
-        ensures err { OnErr result (self.new ≡ self.old) }
-        ensures spares { 1 < length self.old → IsOk result }
+        ensures { SetsBit 1 value self.old self.new result }
     {
         self.put(1, value)
     }
@@ -195,9 +186,7 @@ impl<A: Allocator> KeyUsage<A> {
     /// # Errors
     /// `AllocError` where memory is refused. The bits are as they were.
     pub fn set_key_encipherment(&mut self, value: bool) -> Result<(), AllocError>
-        ensures ok { OnOk result (self.new ≡ put self.old 2 value) }
-        ensures err { OnErr result (self.new ≡ self.old) }
-        ensures spares { 2 < length self.old → IsOk result }
+        ensures { SetsBit 2 value self.old self.new result }
     {
         self.put(2, value)
     }
@@ -208,9 +197,7 @@ impl<A: Allocator> KeyUsage<A> {
     /// # Errors
     /// `AllocError` where memory is refused. The bits are as they were.
     pub fn set_data_encipherment(&mut self, value: bool) -> Result<(), AllocError>
-        ensures ok { OnOk result (self.new ≡ put self.old 3 value) }
-        ensures err { OnErr result (self.new ≡ self.old) }
-        ensures spares { 3 < length self.old → IsOk result }
+        ensures { SetsBit 3 value self.old self.new result }
     {
         self.put(3, value)
     }
@@ -221,9 +208,7 @@ impl<A: Allocator> KeyUsage<A> {
     /// # Errors
     /// `AllocError` where memory is refused. The bits are as they were.
     pub fn set_key_agreement(&mut self, value: bool) -> Result<(), AllocError>
-        ensures ok { OnOk result (self.new ≡ put self.old 4 value) }
-        ensures err { OnErr result (self.new ≡ self.old) }
-        ensures spares { 4 < length self.old → IsOk result }
+        ensures { SetsBit 4 value self.old self.new result }
     {
         self.put(4, value)
     }
@@ -234,9 +219,7 @@ impl<A: Allocator> KeyUsage<A> {
     /// # Errors
     /// `AllocError` where memory is refused. The bits are as they were.
     pub fn set_key_cert_sign(&mut self, value: bool) -> Result<(), AllocError>
-        ensures ok { OnOk result (self.new ≡ put self.old 5 value) }
-        ensures err { OnErr result (self.new ≡ self.old) }
-        ensures spares { 5 < length self.old → IsOk result }
+        ensures { SetsBit 5 value self.old self.new result }
     {
         self.put(5, value)
     }
@@ -247,9 +230,7 @@ impl<A: Allocator> KeyUsage<A> {
     /// # Errors
     /// `AllocError` where memory is refused. The bits are as they were.
     pub fn set_crl_sign(&mut self, value: bool) -> Result<(), AllocError>
-        ensures ok { OnOk result (self.new ≡ put self.old 6 value) }
-        ensures err { OnErr result (self.new ≡ self.old) }
-        ensures spares { 6 < length self.old → IsOk result }
+        ensures { SetsBit 6 value self.old self.new result }
     {
         self.put(6, value)
     }
@@ -260,9 +241,7 @@ impl<A: Allocator> KeyUsage<A> {
     /// # Errors
     /// `AllocError` where memory is refused. The bits are as they were.
     pub fn set_encipher_only(&mut self, value: bool) -> Result<(), AllocError>
-        ensures ok { OnOk result (self.new ≡ put self.old 7 value) }
-        ensures err { OnErr result (self.new ≡ self.old) }
-        ensures spares { 7 < length self.old → IsOk result }
+        ensures { SetsBit 7 value self.old self.new result }
     {
         self.put(7, value)
     }
@@ -273,48 +252,21 @@ impl<A: Allocator> KeyUsage<A> {
     /// # Errors
     /// `AllocError` where memory is refused. The bits are as they were.
     pub fn set_decipher_only(&mut self, value: bool) -> Result<(), AllocError>
-        ensures ok { OnOk result (self.new ≡ put self.old 8 value) }
-        ensures err { OnErr result (self.new ≡ self.old) }
-        ensures spares { 8 < length self.old → IsOk result }
+        ensures { SetsBit 8 value self.old self.new result }
     {
         self.put(8, value)
     }
 }
 
-impl<A: Allocator + Copy> KeyUsage<A> {
-    /// Equal bits.
-    ///
-    /// # Errors
-    /// `AllocError` where memory is refused.
-    pub fn clone(&self) -> Result<Self, AllocError>
-        ensures { IfOk result (λ copy. copy ≡ self.now) }
-    {
-        self.clone_eq()
-    }
-}
-
 impl<A: Allocator + Copy> CloneEq for KeyUsage<A> {
-    fn clone_eq(&self) -> Result<Self, AllocError> {
-        Ok(KeyUsage(self.0.clone_eq()?))
-    }
+    ghost use Rattle.std.proofs.Common.{rules};
+
+    ghost exact = { Prim.search (rules) };
 }
 
 impl<A: Allocator> SameEq for KeyUsage<A> {
-    ghost use Rattle.std.proofs.Common.{rules};
-    ghost use Rattle.x509_der.specs.facts.BitString.{bits_decide};
-
-    ghost decides = { Prim.search (rules, bits_decide) };
-}
-
-impl<A: Allocator> ToContent for KeyUsage<A> {
-    ghost content = { bit_content };
-
-    fn content_len(&self) -> Result<usize, TooLong> {
-        self.0.content_len()
-    }
-
-    fn write_content(&self, out: &mut [u8]) -> usize {
-        self.0.write_content(out)
+    fn decides() {
+        BitStringAsn1::<A>::decides();
     }
 }
 
@@ -322,40 +274,20 @@ impl<A: Allocator> ToDer for KeyUsage<A> {
     ghost strict = { λ v. element 3 (bit_content v) };
 
     fn encoded_len(&self) -> Result<usize, TooLong> {
-        element_len(BIT_STRING_TAG, &ContentOf(self))
+        self.0.encoded_len()
     }
 
     fn write_back(&self, out: &mut [u8]) -> usize {
-        write_element(BIT_STRING_TAG, &ContentOf(self), out)
-    }
-}
-
-impl<A: Allocator + Copy> Content<A> for KeyUsage<A> {
-    ghost content_shape = { bit_strings };
-
-    ghost content_fits = { Unit {0} };
-
-    ghost content_lawful = { λ h. bits_lawful };
-
-    ghost content_always = { tt };
-
-    ghost open = { λ b. refl };
-
-    ghost content_agrees = { λ v. refl };
-
-    fn known_content(&self) {}
-
-    fn read_content(alloc: A, reader: &mut Reader<'_, A>) -> Result<Self, ReadError> {
-        Ok(KeyUsage(BitStringAsn1::read_content(alloc, reader)?))
+        self.0.write_back(out)
     }
 }
 
 impl<A: Allocator + Copy> Field<A> for KeyUsage<A> {
     ghost shape = { key_usage };
 
-    ghost lawful = { λ h. tagged_lawful 3 bit_strings bits_lawful };
+    ghost lawful = { λ h. ⟦<BitStringAsn1<A> as Field<A>>⟧.lawful tt };
 
-    ghost elements = { λ h. tagged_element 3 bit_strings refl (lit< tt) };
+    ghost elements = { λ h. ⟦<BitStringAsn1<A> as Field<A>>⟧.elements tt };
 
     ghost agrees = { λ v. refl };
 
@@ -366,25 +298,10 @@ impl<A: Allocator + Copy> Field<A> for KeyUsage<A> {
     fn known(&self) {}
 
     fn read(alloc: A, reader: &mut Reader<'_, A>) -> Result<Self, ReadError> {
-        let ContentOf(value) = read_element(alloc, BIT_STRING_TAG, reader)?;
-        Ok(value)
+        Ok(KeyUsage(BitStringAsn1::read(alloc, reader)?))
     }
 }
 
 impl<A: Allocator + Copy> FromDer<A> for KeyUsage<A> {
-    ghost always = { tt };
-
-    ghost whole = { tt };
-}
-
-impl<A: Allocator + Copy> OneTag<A> for KeyUsage<A> {
-    type Form = Primitive;
-
-    ghost tag = { 3 };
-
-    ghost form = { refl };
-
-    ghost spelled_around = { λ v p y. (λ s. s, λ s. s) };
-
-    ghost strict_around = { λ v. refl };
+    ghost stands_alone = { (tt, tt) };
 }

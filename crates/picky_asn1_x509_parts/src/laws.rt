@@ -5,20 +5,21 @@ ghost use Rattle.std.specs.Bool.{Decides};
 ghost use Rattle.std.specs.List.{AllByRecursion};
 ghost use Rattle.x509_der.specs.Lasts.{last, ascends, NeighboursAscend};
 ghost use Rattle.x509_der.specs.Tally.{Tally};
-ghost use Rattle.picky_asn1_x509_parts.specs.Constraints.{Constraints, ConstraintsAt, basic_constraints as constraints};
+ghost use Rattle.picky_asn1_x509_parts.specs.BasicConstraints.{Constraints, ConstraintsAt, basic_constraints as constraints};
 ghost use Rattle.picky_asn1_x509_parts.specs.Extensions.{kind_of, kind_in, IsReadable, ExtensionFields, extension, ExtensionAt, viewed};
-ghost use Rattle.picky_asn1_x509_parts.specs.declared.extension.ExtensionView.{ExtensionView};
-ghost use Rattle.picky_asn1_x509_parts.specs.RequestAttributes.{attribute, AttributeAt, AreReadable, kind_in as values_kind, kind_of as type_kind};
-ghost use Rattle.picky_asn1_x509_parts.specs.KeyAuthorities.{KeyAuthority, authority_key_identifier as authorities};
-ghost use Rattle.picky_asn1_x509_parts.specs.KeyAuthorityLaws.{AuthorityAt, AuthorityMarks};
-ghost use Rattle.picky_asn1_x509_parts.specs.KeyPurposes.{PurposesAt, extended_key_usage as purposes};
+ghost use Rattle.picky_asn1_x509_parts.specs.declared.extension_view.ExtensionView.{ExtensionView};
+ghost use Rattle.picky_asn1_x509_parts.specs.Attribute.{attribute, AttributeAt, AreReadable, kind_in as values_kind, kind_of as type_kind};
+ghost use Rattle.picky_asn1_x509_parts.specs.AuthorityKeyIdentifier.{KeyAuthority, authority_key_identifier as authorities};
+ghost use Rattle.picky_asn1_x509_parts.specs.AuthorityKeyIdentifierLaws.{AuthorityAt, AuthorityMarks};
+ghost use Rattle.picky_asn1_x509_parts.specs.ExtendedKeyUsage.{PurposesAt, extended_key_usage as purposes};
 ghost use Rattle.picky_asn1_x509_parts.specs.KeyUsages.{put};
 
 use crate::attribute::Attribute;
 use crate::authority_key_identifier::AuthorityKeyIdentifier;
 use crate::basic_constraints::BasicConstraints;
 use crate::extended_key_usage::ExtendedKeyUsage;
-use crate::extension::{Extension, ExtensionView, SameLent};
+use crate::extension::Extension;
+use crate::extension_view::{ExtensionView, SameLent};
 use std::alloc::Allocator;
 use x509_der::laws::fields;
 use x509_der::parts::Field;
@@ -98,16 +99,11 @@ pub fn extension_readable<A: Allocator>()
     ensures { (v : ExtensionFields A) → extension.readable v ↔ ((kind_in v.extn_value ≡ kind_of v.extn_id) × IsReadable v.extn_value) }
 {}
 
-/// `==` of each two views tells whether they lend the same.
-fn lent_the_same<T: SameLent<A>, A: Allocator>()
-    ensures { (x y : T) → Decides (T.eq x y) (T.lent x ≡ T.lent y) }
-{}
-
 /// `==` of two views of extensions is true exactly where they lend the same value of the same kind.
 pub fn extension_views_compared<'a, A: Allocator + 'a>()
     ensures { (x y : ExtensionView A) → Decides (⟦<ExtensionView<'a, A> as PartialEq>⟧.eq x y) (viewed x ≡ viewed y) }
 {
-    lent_the_same::<ExtensionView<'a, A>, A>();
+    <ExtensionView<'a, A> as SameLent<A>>::decides();
 }
 
 /// The law of fields of `Attribute`: the type, and behind it the values, in the shape of the kind that the type says.

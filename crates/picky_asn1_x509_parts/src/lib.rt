@@ -6,6 +6,8 @@ pub mod authority_key_identifier;
 pub mod basic_constraints;
 pub mod extended_key_usage;
 pub mod extension;
+mod extension_value;
+mod extension_view;
 pub mod extensions;
 pub mod key_identifier;
 pub mod key_usage;

@@ -1,15 +1,16 @@
 -- Types whose values are what those of a base shape mean, some with one or two marks over the whole.
-use Rattle.std.proofs.Common.{List, [], ◌∷◌, Option, Some, None, ◌≡◌, ℕ, ◌+◌, ◌≤◌, length}
+use Rattle.std.proofs.Common.{List, [], ◌∷◌, Option, Some, None, Result, Ok, Err, ◌≡◌, ℕ, ◌+◌, ◌≤◌, length}
 use Rattle.x509_der_parts.specs.declared.deviation.Deviation.{Deviation}
-use Rattle.x509_der_parts.specs.declared.viewed.Found.{Found}
-use Rattle.x509_der_parts.specs.declared.viewed.Found.TheVariants.{Nothing, One, Two}
+use Rattle.x509_der_parts.specs.declared.errors.ReadError.{ReadError}
+use Rattle.x509_der_parts.specs.declared.viewed.WholeDeviations.{WholeDeviations}
+use Rattle.x509_der_parts.specs.declared.viewed.WholeDeviations.TheVariants.{Nothing, One, Two}
 use Rattle.x509_der_parts.specs.Shape.{Shape}
 use Rattle.x509_der_parts.specs.MarkOrder.{Deep, Ascending}
 use Rattle.x509_der_parts.specs.Tally.{Tally, marked}
 use Rattle.x509_der_parts.specs.Fields.{Inner}
 
 -- the kinds that were found
-abbrev pub kinds_in : Found → List Deviation
+abbrev pub kinds_in : WholeDeviations → List Deviation
 kinds_in Nothing = []
 kinds_in (One k) = k ∷ []
 kinds_in (Two k l) = k ∷ l ∷ []
@@ -19,9 +20,9 @@ if_found None = []
 if_found (Some k) = k ∷ []
 
 -- a value, and what was found
-abbrev pub meant : {V : Type 0} → Option (V × Found) → Option (V × List Deviation)
-meant None = None
-meant (Some m) = Some (m.0, kinds_in m.1)
+abbrev pub meant : {V : Type 0} → Result (V × WholeDeviations) ReadError → Option (V × List Deviation)
+meant (Err e) = None
+meant (Ok m) = Some (m.0, kinds_in m.1)
 
 -- how the values of a type are made of those of a base
 pub record Meaning (B V : Type 0) : Type 1 where

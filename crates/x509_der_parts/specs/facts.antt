@@ -10,5 +10,6 @@ pub mod Lists
 pub mod Parts
 pub mod MarkOrder
 pub mod SameEq
+pub mod Tags
 pub mod Tally
 pub mod Writing

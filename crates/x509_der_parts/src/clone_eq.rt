@@ -4,29 +4,28 @@ ghost use Rattle.std.specs.Prelude.{◌≡◌, IfOk};
 
 use std::alloc::{AllocError, Allocator};
 
-/// A value that can be cloned, where the clone equals it.
-pub trait CloneEq {
-    /// A value equal to this one.
-    ///
-    /// # Errors
-    /// `AllocError` where memory is refused. The value is as it was.
-    fn clone_eq(&self) -> Result<Self, AllocError>
-        ensures { IfOk result (λ copy. copy ≡ self.now) };
+/// A type whose clone equals what it is made from.
+pub trait CloneEq: Clone {
+    /// What may be a clone of a value is that value.
+    ghost exact: { (x y : Self) → Self.is_clone x y → y ≡ x };
 }
 
 impl CloneEq for () {
-    fn clone_eq(&self) -> Result<(), AllocError> {
-        Ok(())
-    }
+    ghost exact = { λ x y h. h };
+}
+
+impl CloneEq for bool {
+    ghost exact = { λ x y h. h };
+}
+
+impl CloneEq for u8 {
+    ghost exact = { λ x y h. h };
 }
 
 impl<T: CloneEq> CloneEq for Option<T> {
-    fn clone_eq(&self) -> Result<Option<T>, AllocError> {
-        match self {
-            None => Ok(None),
-            Some(value) => Ok(Some(value.clone_eq()?)),
-        }
-    }
+    ghost use Rattle.std.proofs.Common.{rules};
+
+    ghost exact = { Prim.search (rules, T.exact) };
 }
 
 /// Clones of two values. A structure that is cloned by pairs and threes has fewer ways out on which its fields are
@@ -34,14 +33,11 @@ impl<T: CloneEq> CloneEq for Option<T> {
 ///
 /// # Errors
 /// `AllocError` where memory is refused.
-pub fn clone_both<S: CloneEq + Drop, T: CloneEq>(
-    first: &S,
-    second: &T,
-) -> Result<(S, T), AllocError>
+pub fn clone_both<S: CloneEq, T: CloneEq>(first: &S, second: &T) -> Result<(S, T), AllocError>
     ensures { IfOk result (λ copies. copies ≡ (first.now, second.now)) }
 {
-    let first = first.clone_eq()?;
-    let second = second.clone_eq()?;
+    let first = first.clone()?;
+    let second = second.clone()?;
     Ok((first, second))
 }
 
@@ -49,16 +45,16 @@ pub fn clone_both<S: CloneEq + Drop, T: CloneEq>(
 ///
 /// # Errors
 /// `AllocError` where memory is refused.
-pub fn clone_three<S: CloneEq + Drop, T: CloneEq + Drop, U: CloneEq>(
+pub fn clone_three<S: CloneEq, T: CloneEq, U: CloneEq>(
     first: &S,
     second: &T,
     third: &U,
 ) -> Result<(S, T, U), AllocError>
     ensures { IfOk result (λ copies. copies ≡ (first.now, second.now, third.now)) }
 {
-    let first = first.clone_eq()?;
-    let second = second.clone_eq()?;
-    let third = third.clone_eq()?;
+    let first = first.clone()?;
+    let second = second.clone()?;
+    let third = third.clone()?;
     Ok((first, second, third))
 }
 
@@ -66,15 +62,12 @@ pub fn clone_three<S: CloneEq + Drop, T: CloneEq + Drop, U: CloneEq>(
 ///
 /// # Errors
 /// `AllocError` where memory is refused.
-pub fn clone_items<T: CloneEq + Drop, A: Allocator>(
-    alloc: A,
-    items: &[T],
-) -> Result<Vec<T, A>, AllocError>
+pub fn clone_items<T: CloneEq, A: Allocator>(alloc: A, items: &[T]) -> Result<Vec<T, A>, AllocError>
     ensures { IfOk result (λ copies. copies.items ≡ items.now) }
 {
     let mut copies = Vec::with_capacity(alloc, items.len())?;
     for item in items {
-        let copy = item.clone_eq()?;
+        let copy = item.clone()?;
         copies.push(copy)?;
     }
     Ok(copies)

@@ -62,7 +62,5 @@ impl<A: Allocator + Copy, T: Content<A>> Field<A> for ContentOf<T> {
 /// A type under an implicit tag is read alone too, where it has one tag of the same form: no CHOICE (X.680, 31.2.7), and
 /// no primitive tag around a list (X.690, 8.14).
 impl<A: Allocator + Copy, N: TagOf<T::Form>, T: OneTag<A>> FromDer<A> for Tagged<N, ContentOf<T>> {
-    ghost always = { T.content_always };
-
-    ghost whole = { tt };
+    ghost stands_alone = { (T.content_always, tt) };
 }

@@ -10,79 +10,57 @@ pub trait SameEq: Eq {
     ghost use Rattle.std.specs.Prelude.{◌≡◌};
     ghost use Rattle.std.specs.Bool.{Decides};
 
-    /// `==` decides whether two values are the same.
-    ghost decides: { (x y : Self) → Decides (Self.eq x y) (x ≡ y) };
+    /// `==` decides whether two values are the same. It does nothing when it runs: its contract is the law.
+    fn decides()
+        ensures { (x y : Self) → Decides (Self.eq x y) (x ≡ y) };
 }
 
 impl SameEq for Deviation {
-    ghost use Rattle.std.proofs.Common.{rules};
-
-    ghost decides = { Prim.search (rules) };
+    fn decides() {}
 }
 
 impl SameEq for () {
-    ghost use Rattle.std.specs.Prelude.{refl};
-
-    ghost decides = { λ x y. (λ h. refl, λ e. refl) };
+    fn decides() {}
 }
 
 impl SameEq for Deviations {
-    ghost use Rattle.std.proofs.Common.{rules};
-    ghost use Rattle.std.specs.Cmp.Lexicographic.{bytes_decides};
-
-    ghost decides = { Prim.search (rules, bytes_decides) };
+    fn decides() {}
 }
 
 impl SameEq for Place {
-    ghost use Rattle.std.proofs.Common.{rules};
-
-    ghost decides = { Prim.search (rules) };
+    fn decides() {}
 }
 
 impl SameEq for Spot {
-    ghost use Rattle.std.proofs.Common.{rules};
-
-    ghost decides = { Prim.search (rules) };
+    fn decides() {}
 }
 
 impl SameEq for ReadError {
-    ghost use Rattle.std.proofs.Common.{rules};
-
-    ghost decides = { Prim.search (rules) };
+    fn decides() {}
 }
 
 impl SameEq for Refused {
-    ghost use Rattle.std.proofs.Common.{rules};
-
-    ghost decides = { Prim.search (rules) };
+    fn decides() {}
 }
 
 impl SameEq for Element {
-    ghost use Rattle.std.proofs.Common.{rules};
-
-    ghost decides = { Prim.search (rules) };
+    fn decides() {}
 }
 
 impl SameEq for WriteError {
-    ghost use Rattle.std.proofs.Common.{rules};
-
-    ghost decides = { Prim.search (rules) };
+    fn decides() {}
 }
 
 impl SameEq for SliceError {
-    ghost use Rattle.std.proofs.Common.{rules};
-
-    ghost decides = { Prim.search (rules) };
+    fn decides() {}
 }
 
 impl SameEq for TooLong {
-    ghost use Rattle.std.proofs.Common.{rules};
-
-    ghost decides = { Prim.search (rules) };
+    fn decides() {}
 }
 
 impl<T: SameEq> SameEq for Option<T> {
-    ghost use Rattle.x509_der_parts.specs.facts.SameEq.{options_decide};
-
-    ghost decides = { options_decide T.decides };
+    fn decides() {
+        T::decides();
+    }
 }

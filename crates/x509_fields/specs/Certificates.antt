@@ -10,7 +10,7 @@ use Rattle.x509_names.specs.Validities.{validity}
 use Rattle.x509_keys.specs.AlgorithmIdentifier.{algorithm_identifier}
 use Rattle.x509_keys.specs.SubjectPublicKeyInfos.{subject_public_key_info}
 use Rattle.picky_asn1_x509.specs.Extensions.{ExtensionFields}
-use Rattle.picky_asn1_x509.specs.TbsCertificates.{TbsFields, version_in, list_in, core_of, version_field, issuer_id_field, subject_id_field, extensions_field, tbs_certificate}
+use Rattle.picky_asn1_x509.specs.TbsCertificates.{TbsFields, version_in, list_in, required_of, version_field, issuer_id_field, subject_id_field, extensions_field, tbs_certificate}
 use Rattle.picky_asn1_x509.specs.declared.certificate.Certificate.{Certificate}
 use Rattle.picky_asn1_x509.specs.declared.tbs_certificate.TbsCertificate.{TbsCertificate}
 use Rattle.x509_fields.specs.Spans.{FieldIn, OptionalIn}
@@ -36,7 +36,7 @@ pub record TbsIn {A : Type 0} (v : TbsCertificate A) (at : TbsCertificateFields)
   pub version_means : version_in version ≡ v.version
   pub extensions : Option (List (ExtensionFields A))
   pub extensions_mean : list_in extensions ≡ v.extensions
-  pub fields : TbsFieldsIn (version, (core_of v, (v.issuer_unique_id, (v.subject_unique_id, extensions)))) at string whole
+  pub fields : TbsFieldsIn (version, (required_of v, (v.issuer_unique_id, (v.subject_unique_id, extensions)))) at string whole
 
 pub record CertificateIn {A : Type 0} (v : Certificate A) (at : CertificateFields) (string : List ℕ) (whole : Tally) : Type 0 where
   pub tbs_certificate : FieldIn tbs_certificate v.tbs_certificate at.tbs_certificate string whole

@@ -1,6 +1,7 @@
 -- Lemmas about the definitions.
 pub use Rattle.x509_keys_parts.specs.facts.AesAuthEncParams
 pub use Rattle.x509_keys_parts.specs.facts.AesParameters
+pub use Rattle.x509_keys_parts.specs.facts.AlgorithmContents
 pub use Rattle.x509_keys_parts.specs.facts.AlgorithmIdentifier
 pub use Rattle.x509_keys_parts.specs.facts.AlgorithmLaws
 pub use Rattle.x509_keys_parts.specs.facts.AlgorithmParameters
@@ -17,17 +18,11 @@ pub mod PrivateKeyPlaces
 pub mod PrivateKeyValues
 pub mod PublicKeys
 pub use Rattle.x509_keys_parts.specs.facts.RawAlgorithmFacts
-pub use Rattle.x509_keys_parts.specs.facts.RawAlgorithmSame
 pub mod ReadBack
 pub mod ReadIf
 pub mod RsaPrivateKeys
 pub mod RsaPublicKeys
-pub mod SameFields
-pub mod SamePublicKeys
 pub use Rattle.x509_keys_parts.specs.facts.RsassaPssFacts
-pub use Rattle.x509_keys_parts.specs.facts.SameAlgorithms
-pub mod SamePrivateKeys
-pub use Rattle.x509_keys_parts.specs.facts.SameDigests
 pub use Rattle.x509_keys_parts.specs.facts.ShaVariantFacts
 pub mod Skipping
 pub mod SubjectPublicKeyInfos

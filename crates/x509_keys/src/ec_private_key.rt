@@ -1,15 +1,17 @@
 //! Elliptic curve private keys.
 
-ghost use Rattle.std.specs.Prelude.{◌≡◌, IfOk, refl};
+ghost use Rattle.std.specs.Prelude.{◌≡◌, Err, IfErr, refl};
+ghost use Rattle.x509_der.specs.Types.read_error.{BadVersion, OutOfMemory};
+ghost use Rattle.x509_der.specs.View.{meant};
 ghost use Rattle.x509_der.specs.laws.Meaning.{sequence_keeps, seen_lawful, seen_element};
 ghost use Rattle.x509_keys.specs.EcPrivateKeys.{ec_key_parts, ec_key_inner, ec_key_base, is_one, ec_key_meaning, ec_private_key};
 ghost use Rattle.x509_keys.specs.facts.EcPrivateKeys.{ec_key_is, ec_key_one, point_apart};
 
 use crate::public_key::EncapsulatedEcPoint;
-use std::alloc::{AllocError, Allocator, Global};
+use std::alloc::{Allocator, Global};
 use x509_der::parts::{
-    Explicit0, Explicit1, Field, Found, Join, Optional, Reader, Refusal, SEQUENCE_TAG, Sequence,
-    Tagged, View, clone_both, known_there, read_viewed_or,
+    ContextConstructed, Field, Join, Optional, Reader, SEQUENCE_TAG, Sequence, Tagged, View,
+    WholeDeviations, known_there, read_viewed,
 };
 use x509_der::{CloneEq, FromDer, IntegerAsn1, OctetStringAsn1, ReadError, SameEq, ToDer, TooLong};
 use x509_keys_parts::EcParameters;
@@ -22,6 +24,7 @@ use x509_keys_parts::EcParameters;
 /// version than 1 is refused; a value with another is written as it is, and isn't read back.
 #[derive(Drop)]
 #[derive_where(Debug, PartialEq, Eq)]
+#[derive_where(Clone; A: Copy)]
 pub struct ECPrivateKey<A: Allocator = Global> {
     /// The version: 1 where it is read.
     pub version: IntegerAsn1<A>,
@@ -33,44 +36,31 @@ pub struct ECPrivateKey<A: Allocator = Global> {
     pub public_key: Option<EncapsulatedEcPoint<A>>,
 }
 
-impl<A: Allocator + Copy> ECPrivateKey<A> {
-    /// An equal key.
-    ///
-    /// # Errors
-    /// `AllocError` where memory is refused.
-    pub fn clone(&self) -> Result<Self, AllocError>
-        ensures { IfOk result (λ copy. copy ≡ self.now) }
-    {
-        self.clone_eq()
-    }
-}
-
 impl<A: Allocator + Copy> CloneEq for ECPrivateKey<A> {
-    fn clone_eq(&self) -> Result<Self, AllocError> {
-        let (version, private_key) = clone_both(&self.version, &self.private_key)?;
-        let (parameters, public_key) = clone_both(&self.parameters, &self.public_key)?;
-        Ok(ECPrivateKey {
-            version,
-            private_key,
-            parameters,
-            public_key,
-        })
-    }
+    ghost use Rattle.std.proofs.Common.{rules};
+
+    ghost exact = { Prim.search (rules) };
 }
 
 impl<A: Allocator> SameEq for ECPrivateKey<A> {
-    ghost use Rattle.std.proofs.Common.{rules};
-    ghost use Rattle.std.specs.Cmp.Lexicographic.{bytes_decides};
-    ghost use Rattle.x509_keys.specs.facts.EcPrivateKeys.{ec_keys_decide};
-
-    ghost decides = { ec_keys_decide {E = ⟦<EcParameters<A> as PartialEq>⟧.eq}
-        (Prim.search (rules, bytes_decides)) };
+    fn decides() {
+        IntegerAsn1::<A>::decides();
+        OctetStringAsn1::<A>::decides();
+        Option::<EcParameters<A>>::decides();
+        Option::<EncapsulatedEcPoint<A>>::decides();
+    }
 }
 
 /// The fields in the SEQUENCE, owned or borrowed.
 type Nest<I, O, E, B> = Join<
     I,
-    Join<O, Join<Optional<Tagged<Explicit0, E>>, Optional<Tagged<Explicit1, B>>>>,
+    Join<
+        O,
+        Join<
+            Optional<Tagged<ContextConstructed<0>, E>>,
+            Optional<Tagged<ContextConstructed<1>, B>>,
+        >,
+    >,
 >;
 
 /// The fields in the SEQUENCE, owned.
@@ -105,8 +95,8 @@ fn written<A: Allocator>(key: &ECPrivateKey<A>) -> Written<'_, A>
     ensures { ⟦<Written<'static, A> as ToDer>⟧.strict result ≡ ec_key_base.strict (ec_key_parts key.now) }
 {
     let optional = Join(
-        Optional::lent(&key.parameters),
-        Optional::lent(&key.public_key),
+        Optional::borrowed_element(&key.parameters),
+        Optional::borrowed_element(&key.public_key),
     );
     Tagged::new(Join(&key.version, Join(&key.private_key, optional)))
 }
@@ -123,7 +113,7 @@ impl<A: Allocator> ToDer for ECPrivateKey<A> {
     }
 }
 
-impl<A: Allocator + Copy> View<Fields<A>> for ECPrivateKey<A> {
+impl<A: Allocator + Copy> View<Fields<A>, A> for ECPrivateKey<A> {
     ghost base = { ec_key_base };
 
     ghost view = { ec_key_meaning };
@@ -136,7 +126,11 @@ impl<A: Allocator + Copy> View<Fields<A>> for ECPrivateKey<A> {
               h. refl,
         )) ec_key_is ec_key_one };
 
-    fn meaning(parts: Fields<A>) -> Option<(Self, Found)> {
+    fn meaning(_alloc: A, parts: Fields<A>) -> Result<(Self, WholeDeviations), ReadError>
+        ensures meaning { ec_key_meaning.of parts ≡ meant result }
+        ensures refusal { result ≡ Err OutOfMemory → ⊥ }
+        ensures name { IfErr result (λ e. e ≡ BadVersion) }
+    {
         let Join(version, Join(private_key, optional)) = parts.into_inner();
         let Join(parameters, public_key) = optional;
         let key = ECPrivateKey {
@@ -146,24 +140,18 @@ impl<A: Allocator + Copy> View<Fields<A>> for ECPrivateKey<A> {
             public_key: public_key.into_field(),
         };
         if is_version_1(&key.version) {
-            Some((key, Found::Nothing))
+            Ok((key, WholeDeviations::Nothing))
         } else {
             drop(key);
-            None
+            Err(ReadError::BadVersion)
         }
-    }
-}
-
-impl<A: Allocator + Copy> Refusal<Fields<A>> for ECPrivateKey<A> {
-    fn refusal(_parts: &Fields<A>) -> ReadError {
-        ReadError::BadVersion
     }
 }
 
 impl<A: Allocator + Copy> Field<A> for ECPrivateKey<A> {
     ghost shape = { ec_private_key };
 
-    ghost lawful = { λ h. seen_lawful ec_key_meaning ec_key_base ⟦<ECPrivateKey<A> as View<Fields<A>>>⟧.keeps };
+    ghost lawful = { λ h. seen_lawful ec_key_meaning ec_key_base ⟦<ECPrivateKey<A> as View<Fields<A>, A>>⟧.keeps };
 
     ghost elements = { λ h. seen_element ec_key_meaning ec_key_base (⟦<Fields<A> as Field<A>>⟧.elements tt)
         ec_key_is };
@@ -182,12 +170,10 @@ impl<A: Allocator + Copy> Field<A> for ECPrivateKey<A> {
     }
 
     fn read(alloc: A, reader: &mut Reader<'_, A>) -> Result<Self, ReadError> {
-        read_viewed_or::<Self, Fields<A>, Self, A>(alloc, reader)
+        read_viewed::<Self, Fields<A>, A>(alloc, reader)
     }
 }
 
 impl<A: Allocator + Copy> FromDer<A> for ECPrivateKey<A> {
-    ghost always = { tt };
-
-    ghost whole = { tt };
+    ghost stands_alone = { (tt, tt) };
 }

@@ -1,7 +1,9 @@
 //! Which keys an algorithm has.
 
 ghost use Rattle.std.specs.Prelude.{◌≡◌};
-ghost use Rattle.x509_keys.specs.KeyKinds.{key_kind};
+ghost use Rattle.std.specs.List.{list_any};
+ghost use Rattle.x509_der.specs.ObjectIdentifier.{is_arcs};
+ghost use Rattle.x509_keys.specs.KeyKinds.{ed_algorithms, mldsa_algorithms, key_kind};
 
 use std::alloc::Allocator;
 use x509_der::ObjectIdentifier;
@@ -22,20 +24,34 @@ pub enum KeyKind {
     Unknown,
 }
 
-/// Ed25519, X25519, Ed448 and X448.
-const ED_ALGORITHMS: &[&[u64]] = &[
-    &[1, 3, 101, 112],
-    &[1, 3, 101, 110],
-    &[1, 3, 101, 113],
-    &[1, 3, 101, 111],
+/// The contents of the object identifiers of Ed25519, X25519, Ed448 and X448.
+const ED_CONTENTS: &[&[u8]] = &[
+    &[0x2B, 0x65, 0x70],
+    &[0x2B, 0x65, 0x6E],
+    &[0x2B, 0x65, 0x71],
+    &[0x2B, 0x65, 0x6F],
 ];
 
-/// ML-DSA-44, ML-DSA-65 and ML-DSA-87.
-const MLDSA_ALGORITHMS: &[&[u64]] = &[
-    &[2, 16, 840, 1, 101, 3, 4, 3, 17],
-    &[2, 16, 840, 1, 101, 3, 4, 3, 18],
-    &[2, 16, 840, 1, 101, 3, 4, 3, 19],
+/// The contents of those of ML-DSA-44, ML-DSA-65 and ML-DSA-87.
+const MLDSA_CONTENTS: &[&[u8]] = &[
+    &[0x60, 0x86, 0x48, 1, 0x65, 3, 4, 3, 0x11],
+    &[0x60, 0x86, 0x48, 1, 0x65, 3, 4, 3, 0x12],
+    &[0x60, 0x86, 0x48, 1, 0x65, 3, 4, 3, 0x13],
 ];
+
+/// Whether an object identifier is that of Ed25519, X25519, Ed448 or X448.
+fn is_ed_algorithm<A: Allocator>(identifier: &ObjectIdentifier<A>) -> bool
+    ensures { result ≡ list_any (is_arcs identifier.now) ed_algorithms }
+{
+    is_among(identifier, ED_CONTENTS)
+}
+
+/// Whether an object identifier is that of ML-DSA.
+fn is_mldsa_algorithm<A: Allocator>(identifier: &ObjectIdentifier<A>) -> bool
+    ensures { result ≡ list_any (is_arcs identifier.now) mldsa_algorithms }
+{
+    is_among(identifier, MLDSA_CONTENTS)
+}
 
 /// The kind of keys that an object identifier says.
 pub fn key_kind<A: Allocator>(identifier: &ObjectIdentifier<A>) -> KeyKind
@@ -45,9 +61,9 @@ pub fn key_kind<A: Allocator>(identifier: &ObjectIdentifier<A>) -> KeyKind
         KeyKind::Rsa
     } else if identifier.is_arcs(&[1, 2, 840, 10045, 2, 1]) {
         KeyKind::Ec
-    } else if is_among(identifier, ED_ALGORITHMS) {
+    } else if is_ed_algorithm(identifier) {
         KeyKind::Ed
-    } else if is_among(identifier, MLDSA_ALGORITHMS) {
+    } else if is_mldsa_algorithm(identifier) {
         KeyKind::Mldsa
     } else {
         KeyKind::Unknown

@@ -1,12 +1,12 @@
 //! Private keys and their algorithms.
 
-ghost use Rattle.std.specs.Prelude.{◌≡◌, [], ◌∷◌, Option, Some, None, IfOk, if◌then◌else◌, refl};
+ghost use Rattle.std.specs.Prelude.{◌≡◌, [], ◌∷◌, Option, Some, None, Err, IfOk, IfErr, refl};
 ghost use Rattle.x509_der.specs.Element.{element};
 ghost use Rattle.x509_der.specs.Optional.{optional, optional_strict};
 ghost use Rattle.x509_der.specs.Types.read_error.{BadVersion, OutOfMemory};
-ghost use Rattle.x509_der.specs.View.{if_found};
+ghost use Rattle.x509_der.specs.View.{if_found, meant};
 ghost use Rattle.x509_der.specs.laws.Meaning.{sequence_keeps, seen_lawful, seen_element};
-ghost use Rattle.x509_keys.specs.PrivateKeyInfos.{is_version, is_skipped, skipped_kinds, info_public_key, info_inner, info_base, info_meaning, private_key_info, info_bytes, curve_unless, version_with, rsa_info, ec_info, ed_info};
+ghost use Rattle.x509_keys.specs.PrivateKeyInfos.{is_version, is_skipped, skipped_kinds, info_public_key, info_inner, info_base, info_meaning, private_key_info, info_bytes, curve_unless, version_with, info_with, rsa_info, ec_info, ed_info};
 ghost use Rattle.x509_keys.specs.EcPrivateKeys.{ec_key_with};
 ghost use Rattle.x509_keys.specs.KeyKinds.{rsa_encryption};
 ghost use Rattle.x509_keys_parts.specs.AlgorithmIdentifier.{identified};
@@ -19,8 +19,8 @@ use crate::rsa_private_key::RsaPrivateKey;
 use crate::skipping::{PassedOver, Skipping, read_skipping};
 use std::alloc::{AllocError, Allocator, Global};
 use x509_der::parts::{
-    AnyDefinedBy, DefinedBy, Explicit1, Field, Found, Join, LentBits, Optional, Reader, Refusal,
-    SEQUENCE_TAG, Sequence, Tag, Tagged, View, clone_three,
+    AnyDefinedBy, BorrowedBits, ContextConstructed, DefinedBy, Field, Join, Optional, Reader,
+    SEQUENCE_TAG, Sequence, Tag, Tagged, View, WholeDeviations, clone_three,
 };
 use x509_der::{
     BitString, BitStringAsn1, CloneEq, Deviation, FromDer, IntegerAsn1, ObjectIdentifier,
@@ -132,6 +132,21 @@ fn ec_key<A: Allocator + Copy>(
     })
 }
 
+/// A private key that stands without its public key.
+fn without_public_key<A: Allocator>(
+    private_key_algorithm: AlgorithmIdentifier<A>,
+    private_key: PrivateKeyValue<A>,
+) -> PrivateKeyInfo<A>
+    ensures { result ≡ info_with 0 private_key_algorithm private_key None }
+{
+    PrivateKeyInfo {
+        version: PRIVATE_KEY_INFO_VERSION_1,
+        private_key_algorithm,
+        private_key,
+        public_key: None,
+    }
+}
+
 /// The version where a public key is given, and where none is.
 fn version_for<A: Allocator>(public_key: &Option<BitString<A>>) -> u8
     ensures { result ≡ version_with public_key.now }
@@ -180,12 +195,8 @@ impl<A: Allocator + Copy> PrivateKeyInfo<A> {
             exponent_2: exponents.1,
             coefficient,
         };
-        Ok(PrivateKeyInfo {
-            version: PRIVATE_KEY_INFO_VERSION_1,
-            private_key_algorithm,
-            private_key: PrivateKeyValue::Rsa(OctetStringAsn1Container(key)),
-            public_key: None,
-        })
+        let private_key = PrivateKeyValue::Rsa(OctetStringAsn1Container(key));
+        Ok(without_public_key(private_key_algorithm, private_key))
     }
 
     /// A key of the elliptic curve that has an object identifier. The inner version is 1, the outer one 0. Where
@@ -210,12 +221,8 @@ impl<A: Allocator + Copy> PrivateKeyInfo<A> {
             alloc,
             EcParameters::from(curve),
         )?;
-        Ok(PrivateKeyInfo {
-            version: PRIVATE_KEY_INFO_VERSION_1,
-            private_key_algorithm,
-            private_key: PrivateKeyValue::EC(OctetStringAsn1Container(key)),
-            public_key: None,
-        })
+        let private_key = PrivateKeyValue::EC(OctetStringAsn1Container(key));
+        Ok(without_public_key(private_key_algorithm, private_key))
     }
 }
 
@@ -239,20 +246,10 @@ impl<A: Allocator> PrivateKeyInfo<A> {
     }
 }
 
-impl<A: Allocator + Copy> PrivateKeyInfo<A> {
-    /// An equal key with its algorithm.
-    ///
-    /// # Errors
-    /// `AllocError` where memory is refused.
-    pub fn clone(&self) -> Result<Self, AllocError>
-        ensures { IfOk result (λ copy. copy ≡ self.now) }
-    {
-        self.clone_eq()
-    }
-}
+impl<A: Allocator + Copy> Clone for PrivateKeyInfo<A> {
+    ghost is_clone = { λ x y. y ≡ x };
 
-impl<A: Allocator + Copy> CloneEq for PrivateKeyInfo<A> {
-    fn clone_eq(&self) -> Result<Self, AllocError> {
+    fn clone(&self) -> Result<Self, AllocError> {
         let (private_key_algorithm, private_key, public_key) = clone_three(
             &self.private_key_algorithm,
             &self.private_key,
@@ -267,33 +264,17 @@ impl<A: Allocator + Copy> CloneEq for PrivateKeyInfo<A> {
     }
 }
 
-impl<A: Allocator> SameEq for PrivateKeyInfo<A> {
-    ghost use Rattle.std.proofs.Common.{rules};
-    ghost use Rattle.std.specs.Cmp.Lexicographic.{bytes_decides};
-    ghost use Rattle.x509_der.specs.facts.BitString.{bits_decide};
-    ghost use Rattle.x509_der.specs.facts.SameEq.{options_decide};
-    ghost use Rattle.x509_keys.specs.PrivateKeyInfos.{info_with};
-    ghost use Rattle.x509_keys.specs.facts.EcPrivateKeys.{ec_keys_decide};
-    ghost use Rattle.x509_keys.specs.facts.SameFields.{four_decide, decides_as};
-    ghost use Rattle.x509_keys.specs.facts.SamePrivateKeys.{same_private, private_decides};
-    ghost use Rattle.x509_keys_parts.specs.facts.SameAlgorithms.{algorithms_decide, parameters_decide, pss_params_decide};
+impl<A: Allocator + Copy> CloneEq for PrivateKeyInfo<A> {
+    ghost exact = { λ x y h. h };
+}
 
-    ghost decides = { four_decide {C = ⟦<u8 as PartialEq>⟧.eq}
-        {D = ⟦<AlgorithmIdentifier<A> as PartialEq>⟧.eq} {E = ⟦<PrivateKeyValue<A> as PartialEq>⟧.eq}
-        (λ v. v.version) (λ v. v.private_key_algorithm) (λ v. v.private_key) (λ v. v.public_key) info_with
-        (λ v. refl) (Prim.search (rules)) (algorithms_decide
-        (parameters_decide ⟦<AlgorithmIdentifierParameters<A> as PartialEq>⟧.eq
-        {aes = ⟦<AesParameters<A> as PartialEq>⟧.eq} {ec = ⟦<EcParameters<A> as PartialEq>⟧.eq}
-        {pss = ⟦<RsassaPssParams<A> as PartialEq>⟧.eq} (λ x y. Prim.search (rules))
-        (λ x y. Prim.search (rules, bytes_decides)) (λ x y. Prim.search (rules, bytes_decides))
-        (pss_params_decide {hash = ⟦<HashAlgorithm as PartialEq>⟧.eq}
-        {mask = ⟦<MaskGenAlgorithm<A> as PartialEq>⟧.eq} (λ x y. Prim.search (rules))
-        (λ x y. Prim.search (rules, bytes_decides)))))
-        (decides_as (same_private ⟦<RsaPrivateKey<A> as PartialEq>⟧.eq ⟦<ECPrivateKey<A> as PartialEq>⟧.eq)
-        (Prim.search (rules)) (private_decides {E = ⟦<RsaPrivateKey<A> as PartialEq>⟧.eq}
-        {F = ⟦<ECPrivateKey<A> as PartialEq>⟧.eq} (Prim.search (rules, bytes_decides))
-        (ec_keys_decide {E = ⟦<EcParameters<A> as PartialEq>⟧.eq} (Prim.search (rules, bytes_decides)))))
-        (options_decide bits_decide) };
+impl<A: Allocator> SameEq for PrivateKeyInfo<A> {
+    fn decides() {
+        u8::decides();
+        AlgorithmIdentifier::<A>::decides();
+        PrivateKeyValue::<A>::decides();
+        Option::<BitString<A>>::decides();
+    }
 }
 
 /// Tags of elements that are skipped: all but that of a public key.
@@ -304,20 +285,20 @@ impl Tags for SkippedTags {
     ghost keep = { is_skipped };
 
     fn keeps(tag: u8) -> bool {
-        tag != Explicit1::BYTE
+        tag != ContextConstructed::<1>::BYTE
     }
 }
 
 /// The public key under its tag, where there is one.
-type WrittenPublicKey<'a> = Optional<Tagged<Explicit1, LentBits<'a>>>;
+type WrittenPublicKey<'a> = Optional<Tagged<ContextConstructed<1>, BorrowedBits<'a>>>;
 
 /// The public key, to be written, where there is one.
-fn lent_public_key<A: Allocator>(public_key: &Option<BitString<A>>) -> WrittenPublicKey<'_>
+fn borrowed_public_key<A: Allocator>(public_key: &Option<BitString<A>>) -> WrittenPublicKey<'_>
     ensures { optional_strict (λ b. element 161 (element 3 b)) result ≡ optional_strict info_public_key.strict
         public_key.now }
 {
     match public_key {
-        Some(bits) => Optional(Some(Tagged::new(LentBits::of(bits)))),
+        Some(bits) => Optional(Some(Tagged::new(BorrowedBits::of(bits)))),
         None => Optional(None),
     }
 }
@@ -333,7 +314,7 @@ fn written<A: Allocator>(value: &PrivateKeyInfo<A>) -> Written<'_, A>
     ensures { ⟦<Written<'static, A> as ToDer>⟧.strict result ≡ info_bytes value.now }
 {
     let key = DefinedBy(&value.private_key_algorithm, &value.private_key);
-    let rest = Join(key, lent_public_key(&value.public_key));
+    let rest = Join(key, borrowed_public_key(&value.public_key));
     Tagged::new(Join(&value.version, rest))
 }
 
@@ -389,7 +370,7 @@ fn known_bits<A: Allocator>(bits: &Option<BitString<A>>)
 type Key<A> = DefinedBy<AlgorithmIdentifier<A>, PrivateKeyValue<A>>;
 
 /// The public key under its tag, where there is one.
-type PublicKeyField<A> = Optional<Tagged<Explicit1, BitStringAsn1<A>>>;
+type PublicKeyField<A> = Optional<Tagged<ContextConstructed<1>, BitStringAsn1<A>>>;
 
 /// The fields in the SEQUENCE. What is read keeps their laws, and lends the element that is skipped.
 type Inner<A> = Join<u8, Join<Key<A>, Join<Optional<RawIn<SkippedTags, A>>, PublicKeyField<A>>>>;
@@ -397,7 +378,7 @@ type Inner<A> = Join<u8, Join<Key<A>, Join<Optional<RawIn<SkippedTags, A>>, Publ
 /// The fields that are read.
 type Fields<'a, A> = Skipping<'a, u8, Key<A>, PublicKeyField<A>>;
 
-impl<'a, A: Allocator + Copy> View<Fields<'a, A>> for PrivateKeyInfo<A> {
+impl<'a, A: Allocator + Copy> View<Fields<'a, A>, A> for PrivateKeyInfo<A> {
     ghost base = { info_base };
 
     ghost view = { info_meaning };
@@ -414,9 +395,13 @@ impl<'a, A: Allocator + Copy> View<Fields<'a, A>> for PrivateKeyInfo<A> {
           λ c h. refl,
         )) info_is info_one };
 
-    fn meaning(parts: Fields<'a, A>) -> Option<(Self, Found)> {
+    fn meaning(_alloc: A, parts: Fields<'a, A>) -> Result<(Self, WholeDeviations), ReadError>
+        ensures meaning { info_meaning.of parts.entry ≡ meant result }
+        ensures refusal { result ≡ Err OutOfMemory → ⊥ }
+        ensures name { IfErr result (λ e. e ≡ BadVersion) }
+    {
         let Join(version, Join(key, Join(Optional(skipped), public_key))) = parts;
-        let found = Found::of(deviation_of(&skipped));
+        let found = WholeDeviations::of(deviation_of(&skipped));
         let DefinedBy(private_key_algorithm, private_key) = key;
         let info = PrivateKeyInfo {
             version,
@@ -424,23 +409,19 @@ impl<'a, A: Allocator + Copy> View<Fields<'a, A>> for PrivateKeyInfo<A> {
             private_key,
             public_key: bits_in(public_key.into_field()),
         };
-        is_version(version).then_some((info, found))
-    }
-}
-
-impl<'a, A: Allocator + Copy> Refusal<Fields<'a, A>> for PrivateKeyInfo<A> {
-    fn refusal(_parts: &Fields<'a, A>) -> ReadError
-        ensures memory { result ≡ OutOfMemory → ⊥ }
-        ensures name { result ≡ BadVersion }
-    {
-        ReadError::BadVersion
+        if is_version(version) {
+            Ok((info, found))
+        } else {
+            drop(info);
+            Err(ReadError::BadVersion)
+        }
     }
 }
 
 impl<A: Allocator + Copy> Field<A> for PrivateKeyInfo<A> {
     ghost shape = { private_key_info };
 
-    ghost lawful = { λ h. seen_lawful info_meaning info_base ⟦<PrivateKeyInfo<A> as View<Fields<'static, A>>>⟧.keeps };
+    ghost lawful = { λ h. seen_lawful info_meaning info_base ⟦<PrivateKeyInfo<A> as View<Fields<'static, A>, A>>⟧.keeps };
 
     ghost elements = { λ h. seen_element info_meaning info_base (⟦<Tagged<Sequence, Inner<A>> as Field<A>>⟧.elements tt)
         info_is };
@@ -464,7 +445,5 @@ impl<A: Allocator + Copy> Field<A> for PrivateKeyInfo<A> {
 }
 
 impl<A: Allocator + Copy> FromDer<A> for PrivateKeyInfo<A> {
-    ghost always = { tt };
-
-    ghost whole = { tt };
+    ghost stands_alone = { (tt, tt) };
 }

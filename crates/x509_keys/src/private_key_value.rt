@@ -1,6 +1,6 @@
 //! Private keys.
 
-ghost use Rattle.std.specs.Prelude.{◌≡◌, false, IfOk};
+ghost use Rattle.std.specs.Prelude.{false};
 ghost use Rattle.std.proofs.Common.{eqb};
 ghost use Rattle.x509_der.specs.Reading.{Ready, Reads};
 ghost use Rattle.x509_keys.specs.KeyKinds.{key_kind as kind_by};
@@ -9,7 +9,7 @@ ghost use Rattle.x509_keys.specs.PrivateKeyValues.{private_key_bytes, IsPrivateK
 use crate::ec_private_key::ECPrivateKey;
 use crate::key_kind::{KeyKind, key_kind};
 use crate::rsa_private_key::RsaPrivateKey;
-use std::alloc::{AllocError, Allocator, Global};
+use std::alloc::{Allocator, Global};
 use x509_der::parts::{AnyDefinedBy, Field, OCTET_STRING_TAG, Reader};
 use x509_der::{
     CloneEq, OctetStringAsn1, OctetStringAsn1Container, ReadError, SameEq, ToDer, TooLong,
@@ -26,6 +26,7 @@ pub type EncapsulatedEcSecret<A = Global> = OctetStringAsn1<A>;
 /// alone.
 #[derive(Drop)]
 #[derive_where(Debug, PartialEq, Eq)]
+#[derive_where(Clone; A: Copy)]
 pub enum PrivateKeyValue<A: Allocator = Global> {
     /// Of RSA (RFC 8017, A.1.2).
     Rsa(OctetStringAsn1Container<RsaPrivateKey<A>>),
@@ -35,40 +36,18 @@ pub enum PrivateKeyValue<A: Allocator = Global> {
     ED(OctetStringAsn1Container<EncapsulatedEcSecret<A>>),
 }
 
-impl<A: Allocator + Copy> PrivateKeyValue<A> {
-    /// An equal key.
-    ///
-    /// # Errors
-    /// `AllocError` where memory is refused.
-    pub fn clone(&self) -> Result<Self, AllocError>
-        ensures { IfOk result (λ copy. copy ≡ self.now) }
-    {
-        self.clone_eq()
-    }
-}
-
 impl<A: Allocator + Copy> CloneEq for PrivateKeyValue<A> {
-    fn clone_eq(&self) -> Result<Self, AllocError> {
-        match self {
-            PrivateKeyValue::Rsa(key) => Ok(PrivateKeyValue::Rsa(key.clone_eq()?)),
-            PrivateKeyValue::EC(key) => Ok(PrivateKeyValue::EC(key.clone_eq()?)),
-            PrivateKeyValue::ED(secret) => Ok(PrivateKeyValue::ED(secret.clone_eq()?)),
-        }
-    }
+    ghost use Rattle.std.proofs.Common.{rules};
+
+    ghost exact = { Prim.search (rules) };
 }
 
 impl<A: Allocator> SameEq for PrivateKeyValue<A> {
-    ghost use Rattle.std.proofs.Common.{rules};
-    ghost use Rattle.std.specs.Cmp.Lexicographic.{bytes_decides};
-    ghost use Rattle.x509_keys.specs.facts.SameFields.{decides_as};
-    ghost use Rattle.x509_keys.specs.facts.EcPrivateKeys.{ec_keys_decide};
-    ghost use Rattle.x509_keys.specs.facts.SamePrivateKeys.{same_private, private_decides};
-
-    ghost decides = { decides_as (same_private ⟦<RsaPrivateKey<A> as PartialEq>⟧.eq
-        ⟦<ECPrivateKey<A> as PartialEq>⟧.eq) (Prim.search (rules))
-        (private_decides {E = ⟦<RsaPrivateKey<A> as PartialEq>⟧.eq} {F = ⟦<ECPrivateKey<A> as PartialEq>⟧.eq}
-        (Prim.search (rules, bytes_decides)) (ec_keys_decide {E = ⟦<EcParameters<A> as PartialEq>⟧.eq}
-        (Prim.search (rules, bytes_decides)))) };
+    fn decides() {
+        OctetStringAsn1Container::<RsaPrivateKey<A>>::decides();
+        OctetStringAsn1Container::<ECPrivateKey<A>>::decides();
+        OctetStringAsn1Container::<EncapsulatedEcSecret<A>>::decides();
+    }
 }
 
 impl<A: Allocator> ToDer for PrivateKeyValue<A> {
@@ -115,18 +94,9 @@ fn read_as<A: Allocator + Copy>(
     ensures { Reads (private_by_kind kind) reader.old reader.new result }
 {
     match kind {
-        KeyKind::Rsa => {
-            let key = OctetStringAsn1Container::<RsaPrivateKey<A>>::read(alloc, reader)?;
-            Ok(PrivateKeyValue::Rsa(key))
-        }
-        KeyKind::Ec => {
-            let key = OctetStringAsn1Container::<ECPrivateKey<A>>::read(alloc, reader)?;
-            Ok(PrivateKeyValue::EC(key))
-        }
-        KeyKind::Ed => {
-            let secret = OctetStringAsn1Container::<EncapsulatedEcSecret<A>>::read(alloc, reader)?;
-            Ok(PrivateKeyValue::ED(secret))
-        }
+        KeyKind::Rsa => Ok(PrivateKeyValue::Rsa(OctetStringAsn1Container::read(alloc, reader)?)),
+        KeyKind::Ec => Ok(PrivateKeyValue::EC(OctetStringAsn1Container::read(alloc, reader)?)),
+        KeyKind::Ed => Ok(PrivateKeyValue::ED(OctetStringAsn1Container::read(alloc, reader)?)),
         KeyKind::Mldsa | KeyKind::Unknown => Err(ReadError::Unsupported),
     }
 }

@@ -1,6 +1,6 @@
 //! Public keys.
 
-ghost use Rattle.std.specs.Prelude.{◌≡◌, false, IfOk};
+ghost use Rattle.std.specs.Prelude.{false};
 ghost use Rattle.std.proofs.Common.{eqb};
 ghost use Rattle.x509_der.specs.Reading.{Ready, Reads};
 ghost use Rattle.x509_keys.specs.KeyKinds.{key_kind as kind_by};
@@ -8,7 +8,7 @@ ghost use Rattle.x509_keys.specs.PublicKeys.{public_key_bytes, IsPublicKey, publ
 
 use crate::key_kind::{KeyKind, key_kind};
 use crate::rsa_public_key::{EncapsulatedRsaPublicKey, RsaPublicKey};
-use std::alloc::{AllocError, Allocator, Global};
+use std::alloc::{Allocator, Global};
 use x509_der::parts::{AnyDefinedBy, BIT_STRING_TAG, Field, Reader};
 use x509_der::{BitStringAsn1, CloneEq, OctetStringAsn1, ReadError, SameEq, ToDer, TooLong};
 use x509_keys_parts::AlgorithmIdentifier;
@@ -28,6 +28,7 @@ pub type EncapsulatedMldsaPublicKey<A = Global> = BitStringAsn1<A>;
 /// A BIT STRING (RFC 5280, 4.1.2.7). It is read behind the algorithm identifier that chooses it, and not alone.
 #[derive(Drop)]
 #[derive_where(Debug, PartialEq, Eq)]
+#[derive_where(Clone; A: Copy)]
 pub enum PublicKey<A: Allocator = Global> {
     /// Of RSA, in a BIT STRING without unused bits.
     Rsa(EncapsulatedRsaPublicKey<A>),
@@ -39,37 +40,18 @@ pub enum PublicKey<A: Allocator = Global> {
     Mldsa(EncapsulatedMldsaPublicKey<A>),
 }
 
-impl<A: Allocator + Copy> PublicKey<A> {
-    /// An equal key.
-    ///
-    /// # Errors
-    /// `AllocError` where memory is refused.
-    pub fn clone(&self) -> Result<Self, AllocError>
-        ensures { IfOk result (λ copy. copy ≡ self.now) }
-    {
-        self.clone_eq()
-    }
-}
-
 impl<A: Allocator + Copy> CloneEq for PublicKey<A> {
-    fn clone_eq(&self) -> Result<Self, AllocError> {
-        match self {
-            PublicKey::Rsa(key) => Ok(PublicKey::Rsa(key.clone_eq()?)),
-            PublicKey::Ec(bits) => Ok(PublicKey::Ec(bits.clone_eq()?)),
-            PublicKey::Ed(bits) => Ok(PublicKey::Ed(bits.clone_eq()?)),
-            PublicKey::Mldsa(bits) => Ok(PublicKey::Mldsa(bits.clone_eq()?)),
-        }
-    }
+    ghost use Rattle.std.proofs.Common.{rules};
+
+    ghost exact = { Prim.search (rules) };
 }
 
 impl<A: Allocator> SameEq for PublicKey<A> {
-    ghost use Rattle.std.proofs.Common.{rules};
-    ghost use Rattle.std.specs.Cmp.Lexicographic.{bytes_decides};
-    ghost use Rattle.x509_keys.specs.facts.SameFields.{decides_as};
-    ghost use Rattle.x509_keys.specs.facts.SamePublicKeys.{same_public, public_decides};
-
-    ghost decides = { decides_as (same_public ⟦<RsaPublicKey<A> as PartialEq>⟧.eq) (Prim.search (rules))
-        (public_decides {E = ⟦<RsaPublicKey<A> as PartialEq>⟧.eq} (Prim.search (rules, bytes_decides))) };
+    fn decides() {
+        EncapsulatedRsaPublicKey::<A>::decides();
+        EncapsulatedEcPoint::<A>::decides();
+        EncapsulatedMldsaPublicKey::<A>::decides();
+    }
 }
 
 impl<A: Allocator> ToDer for PublicKey<A> {
@@ -117,22 +99,10 @@ fn read_as<A: Allocator + Copy>(
     ensures { Reads (public_by_kind kind) reader.old reader.new result }
 {
     match kind {
-        KeyKind::Rsa => {
-            let key = EncapsulatedRsaPublicKey::read(alloc, reader)?;
-            Ok(PublicKey::Rsa(key))
-        }
-        KeyKind::Ec => {
-            let bits = BitStringAsn1::read(alloc, reader)?;
-            Ok(PublicKey::Ec(bits))
-        }
-        KeyKind::Ed => {
-            let bits = BitStringAsn1::read(alloc, reader)?;
-            Ok(PublicKey::Ed(bits))
-        }
-        KeyKind::Mldsa => {
-            let bits = BitStringAsn1::read(alloc, reader)?;
-            Ok(PublicKey::Mldsa(bits))
-        }
+        KeyKind::Rsa => Ok(PublicKey::Rsa(EncapsulatedRsaPublicKey::read(alloc, reader)?)),
+        KeyKind::Ec => Ok(PublicKey::Ec(EncapsulatedEcPoint::read(alloc, reader)?)),
+        KeyKind::Ed => Ok(PublicKey::Ed(EncapsulatedEcPoint::read(alloc, reader)?)),
+        KeyKind::Mldsa => Ok(PublicKey::Mldsa(EncapsulatedMldsaPublicKey::read(alloc, reader)?)),
         KeyKind::Unknown => Err(ReadError::Unsupported),
     }
 }

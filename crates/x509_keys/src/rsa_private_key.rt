@@ -1,6 +1,6 @@
 //! RSA private keys.
 
-ghost use Rattle.std.specs.Prelude.{◌≡◌, IfOk, refl};
+ghost use Rattle.std.specs.Prelude.{◌≡◌, refl};
 ghost use Rattle.x509_der.specs.laws.Structure.{structure_lawful, structure_element};
 ghost use Rattle.x509_keys.specs.RsaPrivateKeys.{private_parts, private_base, rsa_private_key};
 ghost use Rattle.x509_keys.specs.facts.RsaPrivateKeys.{private_key_same};
@@ -133,20 +133,10 @@ impl<A: Allocator> RsaPrivateKey<A> {
     }
 }
 
-impl<A: Allocator + Copy> RsaPrivateKey<A> {
-    /// An equal key.
-    ///
-    /// # Errors
-    /// `AllocError` where memory is refused.
-    pub fn clone(&self) -> Result<Self, AllocError>
-        ensures { IfOk result (λ copy. copy ≡ self.now) }
-    {
-        self.clone_eq()
-    }
-}
+impl<A: Allocator + Copy> Clone for RsaPrivateKey<A> {
+    ghost is_clone = { λ x y. y ≡ x };
 
-impl<A: Allocator + Copy> CloneEq for RsaPrivateKey<A> {
-    fn clone_eq(&self) -> Result<Self, AllocError> {
+    fn clone(&self) -> Result<Self, AllocError> {
         let (version, modulus, public_exponent) = clone_three(
             &self.version,
             &self.modulus,
@@ -176,11 +166,14 @@ impl<A: Allocator + Copy> CloneEq for RsaPrivateKey<A> {
     }
 }
 
-impl<A: Allocator> SameEq for RsaPrivateKey<A> {
-    ghost use Rattle.std.proofs.Common.{rules};
-    ghost use Rattle.std.specs.Cmp.Lexicographic.{bytes_decides};
+impl<A: Allocator + Copy> CloneEq for RsaPrivateKey<A> {
+    ghost exact = { λ x y h. h };
+}
 
-    ghost decides = { Prim.search (rules, bytes_decides) };
+impl<A: Allocator> SameEq for RsaPrivateKey<A> {
+    fn decides() {
+        IntegerAsn1::<A>::decides();
+    }
 }
 
 /// Four fields one behind another, and what stands behind them.
@@ -290,7 +283,5 @@ impl<A: Allocator + Copy> Field<A> for RsaPrivateKey<A> {
 }
 
 impl<A: Allocator + Copy> FromDer<A> for RsaPrivateKey<A> {
-    ghost always = { tt };
-
-    ghost whole = { tt };
+    ghost stands_alone = { (tt, tt) };
 }

@@ -1,11 +1,11 @@
 //! RSA public keys.
 
-ghost use Rattle.std.specs.Prelude.{◌≡◌, IfOk, refl};
+ghost use Rattle.std.specs.Prelude.{refl};
 ghost use Rattle.x509_der.specs.laws.Structure.{structure_lawful, structure_element};
 ghost use Rattle.x509_keys.specs.RsaPublicKeys.{public_parts, public_base, rsa_public_key};
 ghost use Rattle.x509_keys.specs.facts.RsaPublicKeys.{public_key_same};
 
-use std::alloc::{AllocError, Allocator, Global};
+use std::alloc::{Allocator, Global};
 use x509_der::parts::{
     Field, Join, Reader, SEQUENCE_TAG, Sequence, Structure, Tagged, read_sequence,
 };
@@ -19,6 +19,7 @@ use x509_der::{
 /// `RSAPublicKey ::= SEQUENCE { modulus INTEGER, publicExponent INTEGER }` (RFC 8017, A.1.1). Any INTEGERs are read.
 #[derive(Drop)]
 #[derive_where(Debug, PartialEq, Eq)]
+#[derive_where(Clone; A: Copy)]
 pub struct RsaPublicKey<A: Allocator = Global> {
     /// The modulus n.
     pub modulus: IntegerAsn1<A>,
@@ -29,34 +30,16 @@ pub struct RsaPublicKey<A: Allocator = Global> {
 /// An RSA public key in a BIT STRING without unused bits (RFC 3279, 2.3.1).
 pub type EncapsulatedRsaPublicKey<A = Global> = BitStringAsn1Container<RsaPublicKey<A>>;
 
-impl<A: Allocator + Copy> RsaPublicKey<A> {
-    /// An equal key.
-    ///
-    /// # Errors
-    /// `AllocError` where memory is refused.
-    pub fn clone(&self) -> Result<Self, AllocError>
-        ensures { IfOk result (λ copy. copy ≡ self.now) }
-    {
-        self.clone_eq()
-    }
-}
-
 impl<A: Allocator + Copy> CloneEq for RsaPublicKey<A> {
-    fn clone_eq(&self) -> Result<Self, AllocError> {
-        let modulus = self.modulus.clone_eq()?;
-        let public_exponent = self.public_exponent.clone_eq()?;
-        Ok(RsaPublicKey {
-            modulus,
-            public_exponent,
-        })
-    }
+    ghost use Rattle.std.proofs.Common.{rules};
+
+    ghost exact = { Prim.search (rules) };
 }
 
 impl<A: Allocator> SameEq for RsaPublicKey<A> {
-    ghost use Rattle.std.proofs.Common.{rules};
-    ghost use Rattle.std.specs.Cmp.Lexicographic.{bytes_decides};
-
-    ghost decides = { Prim.search (rules, bytes_decides) };
+    fn decides() {
+        IntegerAsn1::<A>::decides();
+    }
 }
 
 /// The fields as they stand in the SEQUENCE, owned or borrowed.
@@ -120,7 +103,5 @@ impl<A: Allocator + Copy> Field<A> for RsaPublicKey<A> {
 }
 
 impl<A: Allocator + Copy> FromDer<A> for RsaPublicKey<A> {
-    ghost always = { tt };
-
-    ghost whole = { tt };
+    ghost stands_alone = { (tt, tt) };
 }

@@ -14,7 +14,7 @@ ghost use Rattle.x509_keys.specs.Skipping.{skip_before, skip_between, skipping, 
 use std::alloc::Allocator;
 use std::marker::Model;
 use x509_der::parts::{
-    Field, Found, Join, Optional, Reader, Refusal, SEQUENCE_TAG, View, pass_over,
+    Field, Join, Optional, Reader, SEQUENCE_TAG, View, WholeDeviations, pass_over,
 };
 use x509_der::{Deviation, RawIn, ReadError, Tags};
 
@@ -155,10 +155,10 @@ fn read_sequence<
 /// the base of the view says, and have one deviation at most.
 ///
 /// # Errors
-/// As the fields; also what `T` names, where they mean nothing. The reader then stands where the SEQUENCE begins.
+/// As the fields; also what `meaning` names, where they mean nothing. The reader then stands where the SEQUENCE begins.
 pub fn read_skipping<
     'a,
-    T: View<Skipping<'a, E, F, G>> + Refusal<Skipping<'a, E, F, G>>,
+    T: View<Skipping<'a, E, F, G>, A>,
     E: Field<A> + Drop,
     F: Field<A> + Drop,
     K: Tags,
@@ -178,17 +178,19 @@ pub fn read_skipping<
 {
     let spot = reader.spot();
     let fields = read_sequence::<E, F, K, G, A>(alloc, reader)?;
-    let refusal = T::refusal(&fields);
-    let Some((value, found)) = T::meaning(fields) else {
-        reader.go_back(spot);
-        return Err(refusal);
+    let (value, found) = match T::meaning(alloc, fields) {
+        Ok(meant) => meant,
+        Err(refusal) => {
+            reader.go_back(spot);
+            return Err(refusal);
+        }
     };
     match found {
-        Found::Nothing => Ok(value),
-        Found::One(kind) => {
+        WholeDeviations::Nothing => Ok(value),
+        WholeDeviations::One(kind) => {
             reader.mark(kind, spot)?;
             Ok(value)
         }
-        Found::Two(..) => unreachable!(),
+        WholeDeviations::Two(..) => unreachable!(),
     }
 }

@@ -9,7 +9,7 @@ use crate::public_key::PublicKey;
 use crate::rsa_public_key::RsaPublicKey;
 use std::alloc::{AllocError, Allocator, Global};
 use x509_der::parts::{
-    AnyDefinedBy, DefinedBy, Field, Reader, SEQUENCE_TAG, Sequence, Structure, Tagged, clone_both,
+    AnyDefinedBy, DefinedBy, Field, Reader, SEQUENCE_TAG, Sequence, Structure, Tagged,
     read_sequence,
 };
 use x509_der::{
@@ -39,6 +39,7 @@ use x509_keys_parts::{
 /// isn't read back.
 #[derive(Drop)]
 #[derive_where(Debug, PartialEq, Eq)]
+#[derive_where(Clone; A: Copy)]
 pub struct SubjectPublicKeyInfo<A: Allocator = Global> {
     /// The algorithm.
     pub algorithm: AlgorithmIdentifier<A>,
@@ -100,50 +101,17 @@ impl<A: Allocator> SubjectPublicKeyInfo<A> {
     }
 }
 
-impl<A: Allocator + Copy> SubjectPublicKeyInfo<A> {
-    /// An equal key with its algorithm.
-    ///
-    /// # Errors
-    /// `AllocError` where memory is refused.
-    pub fn clone(&self) -> Result<Self, AllocError>
-        ensures { IfOk result (λ copy. copy ≡ self.now) }
-    {
-        self.clone_eq()
-    }
-}
-
 impl<A: Allocator + Copy> CloneEq for SubjectPublicKeyInfo<A> {
-    fn clone_eq(&self) -> Result<Self, AllocError> {
-        let (algorithm, subject_public_key) = clone_both(
-            &self.algorithm,
-            &self.subject_public_key,
-        )?;
-        Ok(SubjectPublicKeyInfo {
-            algorithm,
-            subject_public_key,
-        })
-    }
+    ghost use Rattle.std.proofs.Common.{rules};
+
+    ghost exact = { Prim.search (rules) };
 }
 
 impl<A: Allocator> SameEq for SubjectPublicKeyInfo<A> {
-    ghost use Rattle.std.proofs.Common.{rules};
-    ghost use Rattle.std.specs.Cmp.Lexicographic.{bytes_decides};
-    ghost use Rattle.x509_der.specs.facts.SameEq.{fields_decide};
-    ghost use Rattle.x509_keys.specs.facts.SameFields.{decides_as};
-    ghost use Rattle.x509_keys.specs.facts.SamePublicKeys.{same_public, public_decides};
-    ghost use Rattle.x509_keys_parts.specs.facts.SameAlgorithms.{algorithms_decide, parameters_decide, pss_params_decide};
-
-    ghost decides = { fields_decide {E = ⟦<AlgorithmIdentifier<A> as PartialEq>⟧.eq}
-        {F = ⟦<PublicKey<A> as PartialEq>⟧.eq} (λ v. v.algorithm) (λ v. v.subject_public_key) subject_of
-        (λ v. refl) (algorithms_decide (parameters_decide ⟦<AlgorithmIdentifierParameters<A> as PartialEq>⟧.eq
-        {aes = ⟦<AesParameters<A> as PartialEq>⟧.eq} {ec = ⟦<EcParameters<A> as PartialEq>⟧.eq}
-        {pss = ⟦<RsassaPssParams<A> as PartialEq>⟧.eq} (λ x y. Prim.search (rules))
-        (λ x y. Prim.search (rules, bytes_decides)) (λ x y. Prim.search (rules, bytes_decides))
-        (pss_params_decide {hash = ⟦<HashAlgorithm as PartialEq>⟧.eq}
-        {mask = ⟦<MaskGenAlgorithm<A> as PartialEq>⟧.eq} (λ x y. Prim.search (rules))
-        (λ x y. Prim.search (rules, bytes_decides)))))
-        (decides_as (same_public ⟦<RsaPublicKey<A> as PartialEq>⟧.eq) (Prim.search (rules))
-        (public_decides {E = ⟦<RsaPublicKey<A> as PartialEq>⟧.eq} (Prim.search (rules, bytes_decides)))) };
+    fn decides() {
+        AlgorithmIdentifier::<A>::decides();
+        PublicKey::<A>::decides();
+    }
 }
 
 /// The fields as they stand in the SEQUENCE, owned or borrowed.
@@ -207,7 +175,5 @@ impl<A: Allocator + Copy> Field<A> for SubjectPublicKeyInfo<A> {
 }
 
 impl<A: Allocator + Copy> FromDer<A> for SubjectPublicKeyInfo<A> {
-    ghost always = { tt };
-
-    ghost whole = { tt };
+    ghost stands_alone = { (tt, tt) };
 }

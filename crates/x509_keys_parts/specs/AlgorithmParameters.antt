@@ -6,7 +6,6 @@ use Rattle.x509_keys_parts.specs.declared.algorithm_parameters.AlgorithmIdentifi
 use Rattle.x509_keys_parts.specs.declared.algorithm_parameters.AlgorithmKind.{AlgorithmKind}
 use Rattle.x509_der.specs.Element.{element}
 use Rattle.x509_der.specs.Shape.{Shape}
-use Rattle.x509_der.specs.Tagged.{tagged}
 use Rattle.x509_der.specs.Optional.{optional}
 use Rattle.x509_der.specs.Variant.{variant, no_variant, bare}
 use Rattle.x509_keys_parts.specs.AesParameters.{aes_parameters}

@@ -6,7 +6,6 @@ use Rattle.x509_der.specs.Tagged.{tagged}
 use Rattle.x509_der.specs.Join.{join}
 use Rattle.x509_der.specs.PrimitiveContent.{octets}
 use Rattle.x509_der.specs.Structure.{structure}
-use Rattle.x509_der.specs.ContentOf.{content_of}
 use Rattle.x509_keys_parts.specs.AlgorithmIdentifier.{Algorithm, algorithm_identifier, algorithm_bytes, written_fields}
 use Rattle.x509_keys_parts.specs.declared.digest_info.DigestInfo.{DigestInfo}
 
@@ -26,10 +25,6 @@ digest_info_base = tagged 48 digest_info_inner
 
 abbrev pub digest_info : {A : Type 0} → Shape (DigestInfo A)
 digest_info = structure digest_info_parts digest_info_base
-
--- its content, without the header
-abbrev pub digest_info_content : {A : Type 0} → Shape (DigestInfo A)
-digest_info_content = content_of (structure digest_info_parts digest_info_inner)
 
 -- what is written of the content, also where the parameters of the algorithm aren't its own
 abbrev pub digest_info_bytes : {A : Type 0} → DigestFields A → List ℕ

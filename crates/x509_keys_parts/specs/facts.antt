@@ -1,6 +1,7 @@
 -- Lemmas about the definitions.
 pub mod AesAuthEncParams
 pub mod AesParameters
+pub mod AlgorithmContents
 pub mod AlgorithmIdentifier
 pub mod AlgorithmLaws
 pub mod AlgorithmParameters
@@ -11,8 +12,5 @@ pub use Rattle.x509_der.specs.facts.Named
 pub mod NamedErrors
 pub mod NaturalContents
 pub mod RawAlgorithmFacts
-pub mod RawAlgorithmSame
 pub mod RsassaPssFacts
-pub mod SameAlgorithms
-pub mod SameDigests
 pub mod ShaVariantFacts

@@ -1,12 +1,12 @@
 //! AES: its modes, and the parameters of its algorithm identifiers.
 
-ghost use Rattle.std.specs.Prelude.{◌≡◌, IfOk, refl};
+ghost use Rattle.std.specs.Prelude.{◌≡◌, refl};
 ghost use Rattle.x509_der.specs.laws.Structure.{structure_lawful, structure_element};
 ghost use Rattle.x509_keys_parts.specs.AesParameters.{aes_parts, aes_base, aes_parameters};
 ghost use Rattle.x509_keys_parts.specs.facts.AesParameters.{aes_same, octets_apart, null_apart};
 
 use crate::aes_auth_enc::AesAuthEncParams;
-use std::alloc::{AllocError, Allocator, Global};
+use std::alloc::{Allocator, Global};
 use x509_der::parts::{Choice, Field, Reader, Structure, read_fields};
 use x509_der::{CloneEq, FromDer, OctetStringAsn1, ReadError, SameEq, ToDer, TooLong};
 
@@ -32,9 +32,7 @@ pub enum AesMode {
 }
 
 impl SameEq for AesMode {
-    ghost use Rattle.std.proofs.Common.{rules};
-
-    ghost decides = { Prim.search (rules) };
+    fn decides() {}
 }
 
 /// The parameters of an AES algorithm that has some, told apart by the tag.
@@ -45,6 +43,7 @@ impl SameEq for AesMode {
 /// and 3.2).
 #[derive(Drop)]
 #[derive_where(Debug, PartialEq, Eq)]
+#[derive_where(Clone; A: Copy)]
 pub enum AesParameters<A: Allocator = Global> {
     /// None are needed.
     Null,
@@ -54,37 +53,17 @@ pub enum AesParameters<A: Allocator = Global> {
     AuthenticatedEncryptionParameters(AesAuthEncParams<A>),
 }
 
-impl<A: Allocator + Copy> AesParameters<A> {
-    /// Equal parameters.
-    ///
-    /// # Errors
-    /// `AllocError` where memory is refused.
-    pub fn clone(&self) -> Result<Self, AllocError>
-        ensures { IfOk result (λ copy. copy ≡ self.now) }
-    {
-        self.clone_eq()
-    }
-}
-
 impl<A: Allocator + Copy> CloneEq for AesParameters<A> {
-    fn clone_eq(&self) -> Result<Self, AllocError> {
-        match self {
-            AesParameters::Null => Ok(AesParameters::Null),
-            AesParameters::InitializationVector(vector) => {
-                Ok(AesParameters::InitializationVector(vector.clone_eq()?))
-            }
-            AesParameters::AuthenticatedEncryptionParameters(parameters) => {
-                Ok(AesParameters::AuthenticatedEncryptionParameters(parameters.clone_eq()?))
-            }
-        }
-    }
+    ghost use Rattle.std.proofs.Common.{rules};
+
+    ghost exact = { Prim.search (rules) };
 }
 
 impl<A: Allocator> SameEq for AesParameters<A> {
-    ghost use Rattle.std.proofs.Common.{rules};
-    ghost use Rattle.std.specs.Cmp.Lexicographic.{bytes_decides};
-
-    ghost decides = { Prim.search (rules, bytes_decides) };
+    fn decides() {
+        OctetStringAsn1::<A>::decides();
+        AesAuthEncParams::<A>::decides();
+    }
 }
 
 /// The alternatives, owned or borrowed.
@@ -169,7 +148,5 @@ impl<A: Allocator + Copy> Field<A> for AesParameters<A> {
 }
 
 impl<A: Allocator + Copy> FromDer<A> for AesParameters<A> {
-    ghost always = { tt };
-
-    ghost whole = { tt };
+    ghost stands_alone = { (tt, tt) };
 }

@@ -21,6 +21,7 @@ use x509_der::{CloneEq, FromDer, IntegerAsn1, OctetStringAsn1, ReadError, SameEq
 /// length is written also where it is 12. Any INTEGER is read.
 #[derive(Drop)]
 #[derive_where(Debug, PartialEq, Eq)]
+#[derive_where(Clone; A: Copy)]
 pub struct AesAuthEncParams<A: Allocator = Global> {
     nonce: OctetStringAsn1<A>,
     icv_len: IntegerAsn1<A>,
@@ -66,31 +67,17 @@ impl<A: Allocator> AesAuthEncParams<A> {
     }
 }
 
-impl<A: Allocator + Copy> AesAuthEncParams<A> {
-    /// Equal parameters.
-    ///
-    /// # Errors
-    /// `AllocError` where memory is refused.
-    pub fn clone(&self) -> Result<Self, AllocError>
-        ensures { IfOk result (λ copy. copy ≡ self.now) }
-    {
-        self.clone_eq()
-    }
-}
-
 impl<A: Allocator + Copy> CloneEq for AesAuthEncParams<A> {
-    fn clone_eq(&self) -> Result<Self, AllocError> {
-        let nonce = self.nonce.clone_eq()?;
-        let icv_len = self.icv_len.clone_eq()?;
-        Ok(AesAuthEncParams { nonce, icv_len })
-    }
+    ghost use Rattle.std.proofs.Common.{rules};
+
+    ghost exact = { Prim.search (rules) };
 }
 
 impl<A: Allocator> SameEq for AesAuthEncParams<A> {
-    ghost use Rattle.std.proofs.Common.{rules};
-    ghost use Rattle.std.specs.Cmp.Lexicographic.{bytes_decides};
-
-    ghost decides = { Prim.search (rules, bytes_decides) };
+    fn decides() {
+        OctetStringAsn1::<A>::decides();
+        IntegerAsn1::<A>::decides();
+    }
 }
 
 /// The fields as they stand in the SEQUENCE, owned or borrowed.
@@ -148,7 +135,5 @@ impl<A: Allocator + Copy> Field<A> for AesAuthEncParams<A> {
 }
 
 impl<A: Allocator + Copy> FromDer<A> for AesAuthEncParams<A> {
-    ghost always = { tt };
-
-    ghost whole = { tt };
+    ghost stands_alone = { (tt, tt) };
 }

@@ -1,19 +1,19 @@
 //! Algorithm identifiers.
 
-ghost use Rattle.std.specs.Prelude.{◌≡◌, ◌↔◌, IsTrue, IfOk, refl};
+ghost use Rattle.std.specs.Prelude.{◌≡◌, ◌↔◌, IsTrue, refl};
 ghost use Rattle.std.specs.List.{Contains};
 ghost use Rattle.x509_der.specs.View.{if_found};
-ghost use Rattle.x509_keys_parts.specs.AlgorithmIdentifier.{identified, is_rsa, are_absent, with_null, kinds_if, algorithm_bytes, written_fields, lacks_null};
+ghost use Rattle.x509_keys_parts.specs.AlgorithmIdentifier.{identified, are_absent, with_null, kinds_if, algorithm_bytes, written_fields, lacks_null};
 
 use crate::aes::AesParameters;
-use crate::algorithm_parameters::{AlgorithmIdentifierParameters, AlgorithmKind, kind_of};
+use crate::algorithm_parameters::{AlgorithmIdentifierParameters, is_rsa_algorithm};
 use crate::ec_parameters::EcParameters;
 use crate::hash_algorithm::HashAlgorithm;
 use crate::rsassa_pss::{MaskGenAlgorithm, RsassaPssParams};
-use std::alloc::{AllocError, Allocator, Global};
+use std::alloc::{Allocator, Global};
 use std::marker::Model;
 use x509_der::parts::{
-    AnyDefinedBy, DefinedBy, Field, Found, Reader, SEQUENCE_TAG, Sequence, Tagged, View,
+    AnyDefinedBy, DefinedBy, Field, Reader, SEQUENCE_TAG, Sequence, Tagged, View, WholeDeviations,
     read_viewed,
 };
 use x509_der::{
@@ -40,6 +40,7 @@ use x509_der::{
 /// Other algorithms aren't read, and nor are other parameters, or none where some are demanded.
 #[derive(Drop)]
 #[derive_where(Debug, PartialEq, Eq)]
+#[derive_where(Clone; A: Copy)]
 pub struct AlgorithmIdentifier<A: Allocator = Global> {
     algorithm: ObjectIdentifierAsn1<A>,
     parameters: AlgorithmIdentifierParameters<A>,
@@ -106,41 +107,17 @@ impl<A: Allocator> AlgorithmIdentifier<A> {
     }
 }
 
-impl<A: Allocator + Copy> AlgorithmIdentifier<A> {
-    /// An equal algorithm identifier.
-    ///
-    /// # Errors
-    /// `AllocError` where memory is refused.
-    pub fn clone(&self) -> Result<Self, AllocError>
-        ensures { IfOk result (λ copy. copy ≡ self.now) }
-    {
-        self.clone_eq()
-    }
-}
-
 impl<A: Allocator + Copy> CloneEq for AlgorithmIdentifier<A> {
-    fn clone_eq(&self) -> Result<Self, AllocError> {
-        let algorithm = self.algorithm.clone_eq()?;
-        let parameters = self.parameters.clone_eq()?;
-        Ok(AlgorithmIdentifier {
-            algorithm,
-            parameters,
-        })
-    }
+    ghost use Rattle.std.proofs.Common.{rules};
+
+    ghost exact = { Prim.search (rules) };
 }
 
 impl<A: Allocator> SameEq for AlgorithmIdentifier<A> {
-    ghost use Rattle.std.proofs.Common.{rules};
-    ghost use Rattle.std.specs.Cmp.Lexicographic.{bytes_decides};
-    ghost use Rattle.x509_keys_parts.specs.facts.SameAlgorithms.{algorithms_decide, parameters_decide, pss_params_decide};
-
-    ghost decides = { algorithms_decide (parameters_decide
-        ⟦<AlgorithmIdentifierParameters<A> as PartialEq>⟧.eq {aes = ⟦<AesParameters<A> as PartialEq>⟧.eq}
-        {ec = ⟦<EcParameters<A> as PartialEq>⟧.eq} {pss = ⟦<RsassaPssParams<A> as PartialEq>⟧.eq}
-        (λ x y. Prim.search (rules)) (λ x y. Prim.search (rules, bytes_decides))
-        (λ x y. Prim.search (rules, bytes_decides)) (pss_params_decide
-        {hash = ⟦<HashAlgorithm as PartialEq>⟧.eq} {mask = ⟦<MaskGenAlgorithm<A> as PartialEq>⟧.eq}
-        (λ x y. Prim.search (rules)) (λ x y. Prim.search (rules, bytes_decides)))) };
+    fn decides() {
+        ObjectIdentifierAsn1::<A>::decides();
+        AlgorithmIdentifierParameters::<A>::decides();
+    }
 }
 
 /// The fields as they stand in the SEQUENCE, owned or borrowed.
@@ -164,21 +141,6 @@ impl<A: Allocator> ToDer for AlgorithmIdentifier<A> {
     }
 }
 
-/// Whether the kind is that of RSA algorithms.
-fn is_rsa(kind: AlgorithmKind) -> bool
-    ensures { result ≡ is_rsa kind }
-{
-    match kind {
-        AlgorithmKind::Rsa => true,
-        AlgorithmKind::RsassaPss
-        | AlgorithmKind::EcPublicKey
-        | AlgorithmKind::Bare
-        | AlgorithmKind::Aes
-        | AlgorithmKind::Hash
-        | AlgorithmKind::Unknown => false,
-    }
-}
-
 /// Whether there are no parameters.
 fn are_absent<A: Allocator>(parameters: &AlgorithmIdentifierParameters<A>) -> bool
     ensures { result ≡ are_absent parameters.now }
@@ -193,13 +155,14 @@ fn are_absent<A: Allocator>(parameters: &AlgorithmIdentifierParameters<A>) -> bo
 }
 
 /// Whether the NULL of an RSA algorithm was left out.
+#[tactic(auto, using(crate::specs::facts::AlgorithmContents::lacks_told))]
 fn lacks_null<A: Allocator>(
     algorithm: &ObjectIdentifierAsn1<A>,
     parameters: &AlgorithmIdentifierParameters<A>,
 ) -> bool
     ensures { result ≡ lacks_null (algorithm.now, parameters.now) }
 {
-    are_absent(parameters) && is_rsa(kind_of(algorithm))
+    are_absent(parameters) && is_rsa_algorithm(&algorithm.0)
 }
 
 /// The parameters, and NULL where it was left out.
@@ -227,7 +190,7 @@ fn absence(left_out: bool) -> Option<Deviation>
     }
 }
 
-impl<A: Allocator + Copy> View<Fields<A>> for AlgorithmIdentifier<A> {
+impl<A: Allocator + Copy> View<Fields<A>, A> for AlgorithmIdentifier<A> {
     ghost use Rattle.x509_der.specs.laws.Meaning.{sequence_keeps};
     ghost use Rattle.x509_keys_parts.specs.AlgorithmIdentifier.{inner, base, algorithm_meaning};
     ghost use Rattle.x509_keys_parts.specs.facts.AlgorithmIdentifier.{algorithm_means, algorithm_one};
@@ -239,14 +202,14 @@ impl<A: Allocator + Copy> View<Fields<A>> for AlgorithmIdentifier<A> {
     ghost keeps = { sequence_keeps algorithm_meaning inner
         (⟦<Inner<A> as Field<A>>⟧.lawful (tt, λ c h. refl)) algorithm_means algorithm_one };
 
-    fn meaning(parts: Fields<A>) -> Option<(Self, Found)> {
+    fn meaning(_alloc: A, parts: Fields<A>) -> Result<(Self, WholeDeviations), ReadError> {
         let DefinedBy(algorithm, parameters) = parts.into_inner();
         let left_out = lacks_null(&algorithm, &parameters);
         let value = AlgorithmIdentifier {
             algorithm,
             parameters: with_null(left_out, parameters),
         };
-        Some((value, Found::of(absence(left_out))))
+        Ok((value, WholeDeviations::of(absence(left_out))))
     }
 }
 
@@ -257,7 +220,7 @@ impl<A: Allocator + Copy> Field<A> for AlgorithmIdentifier<A> {
 
     ghost shape = { algorithm_identifier };
 
-    ghost lawful = { λ h. seen_lawful algorithm_meaning base ⟦<AlgorithmIdentifier<A> as View<Fields<A>>>⟧.keeps };
+    ghost lawful = { λ h. seen_lawful algorithm_meaning base ⟦<AlgorithmIdentifier<A> as View<Fields<A>, A>>⟧.keeps };
 
     ghost elements = { λ h. seen_element algorithm_meaning base (⟦<Fields<A> as Field<A>>⟧.elements tt)
         algorithm_means };
@@ -279,7 +242,5 @@ impl<A: Allocator + Copy> Field<A> for AlgorithmIdentifier<A> {
 }
 
 impl<A: Allocator + Copy> FromDer<A> for AlgorithmIdentifier<A> {
-    ghost always = { tt };
-
-    ghost whole = { tt };
+    ghost stands_alone = { (tt, tt) };
 }

@@ -1,17 +1,17 @@
 //! The parameters of algorithm identifiers, which the object identifier chooses.
 
-ghost use Rattle.std.specs.Prelude.{◌≡◌, true, refl, IfOk};
+ghost use Rattle.std.specs.Prelude.{◌≡◌, IsTrue, true};
 ghost use Rattle.std.specs.List.{list_any};
 ghost use Rattle.x509_der.specs.Reading.{Ready, Reads};
-ghost use Rattle.x509_der.specs.ObjectIdentifier.{is_arcs};
-ghost use Rattle.x509_keys_parts.specs.AlgorithmKinds.{kind_of as kind_by};
+ghost use Rattle.x509_der.specs.ObjectIdentifier.{is_arcs, arcs_spelled};
+ghost use Rattle.x509_keys_parts.specs.AlgorithmKinds.{rsa_algorithms, bare_algorithms, kind_of as kind_by};
 ghost use Rattle.x509_keys_parts.specs.AlgorithmParameters.{parameters_bytes, AreParameters, if_null, if_aes, by_kind, parameters_avoid};
 
 use crate::aes::AesParameters;
 use crate::ec_parameters::EcParameters;
 use crate::hash_algorithm::HashAlgorithm;
 use crate::rsassa_pss::{MaskGenAlgorithm, RsassaPssParams};
-use std::alloc::{AllocError, Allocator, Global};
+use std::alloc::{Allocator, Global};
 use x509_der::parts::{AnyDefinedBy, Field, Optional, Reader};
 use x509_der::{
     CloneEq, ObjectIdentifier, ObjectIdentifierAsn1, ReadError, SameEq, ToDer, TooLong,
@@ -20,6 +20,7 @@ use x509_der::{
 /// The parameters of an algorithm identifier. Which of them an algorithm has, its object identifier says.
 #[derive(Drop)]
 #[derive_where(Debug, PartialEq, Eq)]
+#[derive_where(Clone; A: Copy)]
 pub enum AlgorithmIdentifierParameters<A: Allocator = Global> {
     /// The field is absent.
     None,
@@ -33,48 +34,18 @@ pub enum AlgorithmIdentifierParameters<A: Allocator = Global> {
     RsassaPss(RsassaPssParams<A>),
 }
 
-impl<A: Allocator + Copy> AlgorithmIdentifierParameters<A> {
-    /// Equal parameters.
-    ///
-    /// # Errors
-    /// `AllocError` where memory is refused.
-    pub fn clone(&self) -> Result<Self, AllocError>
-        ensures { IfOk result (λ copy. copy ≡ self.now) }
-    {
-        self.clone_eq()
-    }
-}
-
 impl<A: Allocator + Copy> CloneEq for AlgorithmIdentifierParameters<A> {
-    fn clone_eq(&self) -> Result<Self, AllocError> {
-        match self {
-            AlgorithmIdentifierParameters::None => Ok(AlgorithmIdentifierParameters::None),
-            AlgorithmIdentifierParameters::Null => Ok(AlgorithmIdentifierParameters::Null),
-            AlgorithmIdentifierParameters::Aes(parameters) => {
-                Ok(AlgorithmIdentifierParameters::Aes(parameters.clone_eq()?))
-            }
-            AlgorithmIdentifierParameters::Ec(parameters) => {
-                Ok(AlgorithmIdentifierParameters::Ec(parameters.clone_eq()?))
-            }
-            AlgorithmIdentifierParameters::RsassaPss(parameters) => {
-                Ok(AlgorithmIdentifierParameters::RsassaPss(parameters.clone_eq()?))
-            }
-        }
-    }
+    ghost use Rattle.std.proofs.Common.{rules};
+
+    ghost exact = { Prim.search (rules) };
 }
 
 impl<A: Allocator> SameEq for AlgorithmIdentifierParameters<A> {
-    ghost use Rattle.std.proofs.Common.{rules};
-    ghost use Rattle.std.specs.Cmp.Lexicographic.{bytes_decides};
-    ghost use Rattle.x509_keys_parts.specs.facts.SameAlgorithms.{parameters_decide, pss_params_decide};
-
-    ghost decides = { parameters_decide ⟦<AlgorithmIdentifierParameters<A> as PartialEq>⟧.eq
-        {aes = ⟦<AesParameters<A> as PartialEq>⟧.eq} {ec = ⟦<EcParameters<A> as PartialEq>⟧.eq}
-        {pss = ⟦<RsassaPssParams<A> as PartialEq>⟧.eq} (λ x y. Prim.search (rules))
-        (λ x y. Prim.search (rules, bytes_decides)) (λ x y. Prim.search (rules, bytes_decides))
-        (pss_params_decide {hash = ⟦<HashAlgorithm as PartialEq>⟧.eq}
-        {mask = ⟦<MaskGenAlgorithm<A> as PartialEq>⟧.eq} (λ x y. Prim.search (rules))
-        (λ x y. Prim.search (rules, bytes_decides))) };
+    fn decides() {
+        AesParameters::<A>::decides();
+        EcParameters::<A>::decides();
+        RsassaPssParams::<A>::decides();
+    }
 }
 
 /// Which parameters an algorithm has.
@@ -96,44 +67,78 @@ pub enum AlgorithmKind {
     Unknown,
 }
 
-/// RSA keys, and RSASSA-PKCS1-v1_5 with each hash function.
-const RSA_ALGORITHMS: &[&[u64]] = &[
-    &[1, 2, 840, 113549, 1, 1, 1],
-    &[1, 2, 840, 113549, 1, 1, 5],
-    &[1, 2, 840, 113549, 1, 1, 14],
-    &[1, 2, 840, 113549, 1, 1, 11],
-    &[1, 2, 840, 113549, 1, 1, 12],
-    &[1, 2, 840, 113549, 1, 1, 13],
-    &[2, 16, 840, 1, 101, 3, 4, 3, 13],
-    &[2, 16, 840, 1, 101, 3, 4, 3, 14],
-    &[2, 16, 840, 1, 101, 3, 4, 3, 15],
-    &[2, 16, 840, 1, 101, 3, 4, 3, 16],
+/// The contents of the object identifiers of RSA keys, and of RSASSA-PKCS1-v1_5 with each hash function.
+const RSA_CONTENTS: &[&[u8]] = &[
+    &[0x2A, 0x86, 0x48, 0x86, 0xF7, 0x0D, 1, 1, 1],
+    &[0x2A, 0x86, 0x48, 0x86, 0xF7, 0x0D, 1, 1, 5],
+    &[0x2A, 0x86, 0x48, 0x86, 0xF7, 0x0D, 1, 1, 0x0E],
+    &[0x2A, 0x86, 0x48, 0x86, 0xF7, 0x0D, 1, 1, 0x0B],
+    &[0x2A, 0x86, 0x48, 0x86, 0xF7, 0x0D, 1, 1, 0x0C],
+    &[0x2A, 0x86, 0x48, 0x86, 0xF7, 0x0D, 1, 1, 0x0D],
+    &[0x60, 0x86, 0x48, 1, 0x65, 3, 4, 3, 0x0D],
+    &[0x60, 0x86, 0x48, 1, 0x65, 3, 4, 3, 0x0E],
+    &[0x60, 0x86, 0x48, 1, 0x65, 3, 4, 3, 0x0F],
+    &[0x60, 0x86, 0x48, 1, 0x65, 3, 4, 3, 0x10],
 ];
 
-/// ECDSA with each hash function, Ed25519, Ed448, X25519, X448, ML-DSA and DSA with SHA-1.
-const BARE_ALGORITHMS: &[&[u64]] = &[
-    &[1, 2, 840, 10045, 4, 3, 2],
-    &[1, 2, 840, 10045, 4, 3, 3],
-    &[1, 2, 840, 10045, 4, 3, 4],
-    &[2, 16, 840, 1, 101, 3, 4, 3, 9],
-    &[2, 16, 840, 1, 101, 3, 4, 3, 10],
-    &[2, 16, 840, 1, 101, 3, 4, 3, 11],
-    &[2, 16, 840, 1, 101, 3, 4, 3, 12],
-    &[1, 3, 101, 112],
-    &[1, 3, 101, 113],
-    &[1, 3, 101, 110],
-    &[1, 3, 101, 111],
-    &[2, 16, 840, 1, 101, 3, 4, 3, 17],
-    &[2, 16, 840, 1, 101, 3, 4, 3, 18],
-    &[2, 16, 840, 1, 101, 3, 4, 3, 19],
-    &[1, 2, 840, 10040, 4, 3],
+/// The contents of those of ECDSA with each hash function, Ed25519, Ed448, X25519, X448, ML-DSA and DSA with SHA-1.
+const BARE_CONTENTS: &[&[u8]] = &[
+    &[0x2A, 0x86, 0x48, 0xCE, 0x3D, 4, 3, 2],
+    &[0x2A, 0x86, 0x48, 0xCE, 0x3D, 4, 3, 3],
+    &[0x2A, 0x86, 0x48, 0xCE, 0x3D, 4, 3, 4],
+    &[0x60, 0x86, 0x48, 1, 0x65, 3, 4, 3, 9],
+    &[0x60, 0x86, 0x48, 1, 0x65, 3, 4, 3, 0x0A],
+    &[0x60, 0x86, 0x48, 1, 0x65, 3, 4, 3, 0x0B],
+    &[0x60, 0x86, 0x48, 1, 0x65, 3, 4, 3, 0x0C],
+    &[0x2B, 0x65, 0x70],
+    &[0x2B, 0x65, 0x71],
+    &[0x2B, 0x65, 0x6E],
+    &[0x2B, 0x65, 0x6F],
+    &[0x60, 0x86, 0x48, 1, 0x65, 3, 4, 3, 0x11],
+    &[0x60, 0x86, 0x48, 1, 0x65, 3, 4, 3, 0x12],
+    &[0x60, 0x86, 0x48, 1, 0x65, 3, 4, 3, 0x13],
+    &[0x2A, 0x86, 0x48, 0xCE, 0x38, 4, 3],
 ];
 
-/// Whether the arcs of an object identifier stand in a table.
-pub fn is_among<A: Allocator>(identifier: &ObjectIdentifier<A>, table: &[&[u64]]) -> bool
-    ensures { result ≡ list_any (λ arcs. is_arcs identifier.now arcs.now) table.now }
+/// Whether two contents end alike. Those of one family differ in their last byte, so that most are told apart by it
+/// alone.
+fn end_alike(one: &[u8], other: &[u8]) -> bool
+    ensures { one.now ≡ other.now → IsTrue result }
 {
-    table.iter().any(|arcs| identifier.is_arcs(*arcs))
+    if one.is_empty() || other.is_empty() {
+        return true;
+    }
+    one[one.len() - 1] == other[other.len() - 1]
+}
+
+/// Whether an object identifier has this content.
+fn has_content<A: Allocator>(identifier: &ObjectIdentifier<A>, content: &[u8]) -> bool
+    ensures { result ≡ is_arcs identifier.now (arcs_spelled content.now) }
+{
+    end_alike(identifier.content(), content) && identifier.is_content(content)
+}
+
+/// Whether the content of an object identifier stands in a table.
+pub fn is_among<A: Allocator>(identifier: &ObjectIdentifier<A>, contents: &[&[u8]]) -> bool
+    ensures { result ≡ list_any (λ content. is_arcs identifier.now (arcs_spelled content.now)) contents.now }
+{
+    contents
+        .iter()
+        .any(|content| has_content(identifier, *content))
+}
+
+/// Whether an object identifier is that of RSA keys or signatures, whose parameters are NULL.
+pub(crate) fn is_rsa_algorithm<A: Allocator>(identifier: &ObjectIdentifier<A>) -> bool
+    ensures { result ≡ list_any (is_arcs identifier.now) rsa_algorithms }
+{
+    is_among(identifier, RSA_CONTENTS)
+}
+
+/// Whether an object identifier is that of an algorithm without parameters.
+fn is_bare_algorithm<A: Allocator>(identifier: &ObjectIdentifier<A>) -> bool
+    ensures { result ≡ list_any (is_arcs identifier.now) bare_algorithms }
+{
+    is_among(identifier, BARE_CONTENTS)
 }
 
 /// The kind that an object identifier says.
@@ -141,13 +146,13 @@ pub fn kind_of<A: Allocator>(identifier: &ObjectIdentifierAsn1<A>) -> AlgorithmK
     ensures { result ≡ kind_by identifier.now }
 {
     let identifier = &identifier.0;
-    if is_among(identifier, RSA_ALGORITHMS) {
+    if is_rsa_algorithm(identifier) {
         AlgorithmKind::Rsa
     } else if identifier.is_arcs(&[1, 2, 840, 113549, 1, 1, 10]) {
         AlgorithmKind::RsassaPss
     } else if identifier.is_arcs(&[1, 2, 840, 10045, 2, 1]) {
         AlgorithmKind::EcPublicKey
-    } else if is_among(identifier, BARE_ALGORITHMS) {
+    } else if is_bare_algorithm(identifier) {
         AlgorithmKind::Bare
     } else if identifier.starts_under(&[2, 16, 840, 1, 101, 3, 4, 1]) {
         AlgorithmKind::Aes
@@ -229,23 +234,15 @@ fn read_as<A: Allocator + Copy>(
     ensures { Reads (by_kind kind) reader.old reader.new result }
 {
     match kind {
-        AlgorithmKind::Rsa => {
-            let null = Optional::<()>::read(alloc, reader)?;
-            Ok(if_null(null))
-        }
-        AlgorithmKind::RsassaPss => {
-            let pss = RsassaPssParams::read(alloc, reader)?;
-            Ok(AlgorithmIdentifierParameters::RsassaPss(pss))
-        }
-        AlgorithmKind::EcPublicKey => {
-            let curve = EcParameters::read(alloc, reader)?;
-            Ok(AlgorithmIdentifierParameters::Ec(curve))
-        }
+        AlgorithmKind::Rsa => Ok(if_null(Optional::read(alloc, reader)?)),
+        AlgorithmKind::RsassaPss => Ok(AlgorithmIdentifierParameters::RsassaPss(
+            RsassaPssParams::read(alloc, reader)?,
+        )),
+        AlgorithmKind::EcPublicKey => Ok(AlgorithmIdentifierParameters::Ec(EcParameters::read(
+            alloc, reader,
+        )?)),
         AlgorithmKind::Bare => Ok(AlgorithmIdentifierParameters::None),
-        AlgorithmKind::Aes => {
-            let aes = Optional::<AesParameters<A>>::read(alloc, reader)?;
-            Ok(if_aes(aes))
-        }
+        AlgorithmKind::Aes => Ok(if_aes(Optional::read(alloc, reader)?)),
         AlgorithmKind::Hash => {
             <()>::read(alloc, reader)?;
             Ok(AlgorithmIdentifierParameters::Null)

@@ -1,11 +1,11 @@
 //! The parameters of elliptic curve keys.
 
-ghost use Rattle.std.specs.Prelude.{◌≡◌, IfOk, refl};
+ghost use Rattle.std.specs.Prelude.{◌≡◌, refl};
 ghost use Rattle.x509_der.specs.laws.Structure.{structure_lawful, structure_element};
 ghost use Rattle.x509_keys_parts.specs.EcParameters.{curve_of, ec_base, ec_parameters};
 ghost use Rattle.x509_keys_parts.specs.facts.EcParameters.{ec_same};
 
-use std::alloc::{AllocError, Allocator, Global};
+use std::alloc::{Allocator, Global};
 use x509_der::parts::{Field, OBJECT_IDENTIFIER_TAG, Reader, Structure, read_fields};
 use x509_der::{
     CloneEq, FromDer, ObjectIdentifier, ObjectIdentifierAsn1, ReadError, SameEq, ToDer, TooLong,
@@ -17,6 +17,7 @@ use x509_der::{
 /// `CHOICE { namedCurve OBJECT IDENTIFIER }` (RFC 5480, 2.1.1). Curves that aren't named are refused.
 #[derive(Drop)]
 #[derive_where(Debug, PartialEq, Eq)]
+#[derive_where(Clone; A: Copy)]
 pub enum EcParameters<A: Allocator = Global> {
     /// The curve of an object identifier.
     NamedCurve(ObjectIdentifierAsn1<A>),
@@ -55,31 +56,16 @@ impl<A: Allocator> From<ObjectIdentifierAsn1<A>> for EcParameters<A> {
     }
 }
 
-impl<A: Allocator + Copy> EcParameters<A> {
-    /// Equal parameters.
-    ///
-    /// # Errors
-    /// `AllocError` where memory is refused.
-    pub fn clone(&self) -> Result<Self, AllocError>
-        ensures { IfOk result (λ copy. copy ≡ self.now) }
-    {
-        self.clone_eq()
-    }
-}
-
 impl<A: Allocator + Copy> CloneEq for EcParameters<A> {
-    fn clone_eq(&self) -> Result<Self, AllocError> {
-        match self {
-            EcParameters::NamedCurve(curve) => Ok(EcParameters::NamedCurve(curve.clone_eq()?)),
-        }
-    }
+    ghost use Rattle.std.proofs.Common.{rules};
+
+    ghost exact = { Prim.search (rules) };
 }
 
 impl<A: Allocator> SameEq for EcParameters<A> {
-    ghost use Rattle.std.proofs.Common.{rules};
-    ghost use Rattle.std.specs.Cmp.Lexicographic.{bytes_decides};
-
-    ghost decides = { Prim.search (rules, bytes_decides) };
+    fn decides() {
+        ObjectIdentifierAsn1::<A>::decides();
+    }
 }
 
 impl<A: Allocator> ToDer for EcParameters<A> {
@@ -135,7 +121,5 @@ impl<A: Allocator + Copy> Field<A> for EcParameters<A> {
 }
 
 impl<A: Allocator + Copy> FromDer<A> for EcParameters<A> {
-    ghost always = { tt };
-
-    ghost whole = { tt };
+    ghost stands_alone = { (tt, tt) };
 }

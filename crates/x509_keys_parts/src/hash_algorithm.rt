@@ -1,7 +1,7 @@
 //! Hash functions, as RSASSA-PSS names them.
 
 ghost use Rattle.std.specs.Prelude.{◌≡◌, false, refl, IfOk, IfErr, None, Some};
-ghost use Rattle.x509_der.specs.ObjectIdentifier.{dotted};
+ghost use Rattle.x509_der.specs.ObjectIdentifier.{arcs_spelled, dotted};
 ghost use Rattle.x509_der.specs.View.{if_found};
 ghost use Rattle.x509_der.specs.laws.Meaning.{seen_lawful, seen_element, sequence_keeps};
 ghost use Rattle.x509_keys_parts.specs.HashAlgorithms.{hash_arcs, hash_function_name, hash_len, hash_number, hash_of, hash_name_base, hash_name_meaning, hash_name, null_kinds, hash_inner, hash_base, hash_fields, hash_meaning, hash_algorithm};
@@ -9,11 +9,11 @@ ghost use Rattle.x509_keys_parts.specs.Unsupported.{Names};
 ghost use Rattle.x509_keys_parts.specs.facts.HashAlgorithmFacts.{hash_name_is, hash_name_keeps, hash_is, few_kinds};
 
 use crate::errors::{AlgorithmError, unsupported};
-use std::alloc::{AllocError, Allocator, Global};
+use std::alloc::{AllocError, Allocator};
 use std::marker::Model;
 use x509_der::parts::{
-    Field, Found, Join, OBJECT_IDENTIFIER_TAG, Optional, Reader, SEQUENCE_TAG, Sequence, Tagged,
-    View, from_lawful, read_viewed, write_bytes,
+    Field, Join, OBJECT_IDENTIFIER_TAG, Optional, Reader, SEQUENCE_TAG, Sequence, Tagged, View,
+    WholeDeviations, from_lawful, read_viewed, write_bytes,
 };
 use x509_der::{
     CloneEq, Deviation, FromDer, ObjectIdentifier, ObjectIdentifierAsn1, ReadError, SameEq, ToDer,
@@ -63,7 +63,7 @@ fn known<A: Allocator>(identifier: &ObjectIdentifier<A>) -> Option<HashAlgorithm
     ensures { result ≡ hash_of identifier.now }
 {
     for hash in HASHES {
-        if identifier.is_arcs(hash.arcs()) {
+        if identifier.is_content(&hash.content()) {
             return Some(*hash);
         }
     }
@@ -106,20 +106,18 @@ impl HashAlgorithm {
         false
     }
 
-    /// The arcs of its object identifier.
-    fn arcs(self) -> &'static [u64]
-        ensures { result.now ≡ hash_arcs self }
+    /// The arcs of its object identifier: all have the same but for the last.
+    fn arcs(self) -> [u64; 9]
+        ensures { result ≡ hash_arcs self }
     {
-        match self {
-            HashAlgorithm::SHA224 => &[2, 16, 840, 1, 101, 3, 4, 2, 4],
-            HashAlgorithm::SHA256 => &[2, 16, 840, 1, 101, 3, 4, 2, 1],
-            HashAlgorithm::SHA384 => &[2, 16, 840, 1, 101, 3, 4, 2, 2],
-            HashAlgorithm::SHA512 => &[2, 16, 840, 1, 101, 3, 4, 2, 3],
-            HashAlgorithm::SHA3_224 => &[2, 16, 840, 1, 101, 3, 4, 2, 7],
-            HashAlgorithm::SHA3_256 => &[2, 16, 840, 1, 101, 3, 4, 2, 8],
-            HashAlgorithm::SHA3_384 => &[2, 16, 840, 1, 101, 3, 4, 2, 9],
-            HashAlgorithm::SHA3_512 => &[2, 16, 840, 1, 101, 3, 4, 2, 10],
-        }
+        [2, 16, 840, 1, 101, 3, 4, 2, self.number() as u64]
+    }
+
+    /// The content of its object identifier.
+    fn content(self) -> [u8; 9]
+        ensures { arcs_spelled result ≡ hash_arcs self }
+    {
+        [0x60, 0x86, 0x48, 1, 0x65, 3, 4, 2, self.number()]
     }
 
     /// The last arc of its object identifier.
@@ -146,7 +144,7 @@ impl HashAlgorithm {
     pub fn to_oid<A: Allocator>(self, alloc: A) -> Result<ObjectIdentifier<A>, AllocError>
         ensures { IfOk result (λ o. o ≡ hash_arcs self) }
     {
-        from_lawful(alloc, self.arcs())
+        from_lawful(alloc, &self.arcs())
     }
 
     /// The hash function that an object identifier names. Takes memory only where there is none.
@@ -169,15 +167,13 @@ impl HashAlgorithm {
 }
 
 impl CloneEq for HashAlgorithm {
-    fn clone_eq(&self) -> Result<Self, AllocError> {
-        Ok(*self)
-    }
+    ghost use Rattle.std.proofs.Common.{rules};
+
+    ghost exact = { Prim.search (rules) };
 }
 
 impl SameEq for HashAlgorithm {
-    ghost use Rattle.std.proofs.Common.{rules};
-
-    ghost decides = { Prim.search (rules) };
+    fn decides() {}
 }
 
 /// A hash function as its object identifier alone.
@@ -213,16 +209,21 @@ impl ToDer for HashName {
     }
 }
 
-impl<A: Allocator + Copy> View<ObjectIdentifierAsn1<A>> for HashName {
+impl<A: Allocator + Copy> View<ObjectIdentifierAsn1<A>, A> for HashName {
     ghost base = { hash_name_base };
 
     ghost view = { hash_name_meaning };
 
     ghost keeps = { hash_name_keeps };
 
-    fn meaning(parts: ObjectIdentifierAsn1<A>) -> Option<(Self, Found)> {
-        let hash = known(&parts.0)?;
-        Some((HashName(hash), Found::Nothing))
+    fn meaning(
+        _alloc: A,
+        parts: ObjectIdentifierAsn1<A>,
+    ) -> Result<(Self, WholeDeviations), ReadError> {
+        match known(&parts.0) {
+            Some(hash) => Ok((HashName(hash), WholeDeviations::Nothing)),
+            None => Err(ReadError::Unsupported),
+        }
     }
 }
 
@@ -279,24 +280,24 @@ type Inner = Join<HashName, Optional<()>>;
 /// The fields that are read.
 type Fields = Tagged<Sequence, Inner>;
 
-impl View<Fields> for HashAlgorithm {
+impl<A: Allocator + Copy> View<Fields, A> for HashAlgorithm {
     ghost base = { hash_base };
 
     ghost view = { hash_meaning };
 
     ghost keeps = { sequence_keeps hash_meaning hash_inner
-        (⟦<Inner as Field<Global>>⟧.lawful (tt, (tt, tt), λ c h. refl)) hash_is few_kinds };
+        (⟦<Inner as Field<A>>⟧.lawful (tt, (tt, tt), λ c h. refl)) hash_is few_kinds };
 
-    fn meaning(parts: Fields) -> Option<(Self, Found)> {
+    fn meaning(_alloc: A, parts: Fields) -> Result<(Self, WholeDeviations), ReadError> {
         let Join(HashName(hash), Optional(null)) = parts.into_inner();
-        Some((hash, Found::of(absence(null))))
+        Ok((hash, WholeDeviations::of(absence(null))))
     }
 }
 
 impl<A: Allocator + Copy> Field<A> for HashAlgorithm {
     ghost shape = { hash_algorithm };
 
-    ghost lawful = { λ h. seen_lawful hash_meaning hash_base ⟦<HashAlgorithm as View<Fields>>⟧.keeps };
+    ghost lawful = { λ h. seen_lawful hash_meaning hash_base ⟦<HashAlgorithm as View<Fields, A>>⟧.keeps };
 
     ghost elements = { λ h. seen_element hash_meaning hash_base (⟦<Fields as Field<A>>⟧.elements tt)
         hash_is };
@@ -315,7 +316,5 @@ impl<A: Allocator + Copy> Field<A> for HashAlgorithm {
 }
 
 impl<A: Allocator + Copy> FromDer<A> for HashAlgorithm {
-    ghost always = { tt };
-
-    ghost whole = { tt };
+    ghost stands_alone = { (tt, tt) };
 }

@@ -1,6 +1,6 @@
 //! Algorithm identifiers whose parameters are any element.
 
-ghost use Rattle.std.specs.Prelude.{◌≡◌, [], ◌∷◌, IfOk, IsOk, MatchOption, Option, Some, None, Bool, true, refl};
+ghost use Rattle.std.specs.Prelude.{◌≡◌, IfOk, IsOk, MatchOption, Option, Some, None, true, refl};
 ghost use Rattle.x509_keys_parts.specs.RawAlgorithm.{RawAlgorithm, NotNull, from_parts as parts_of, is_null, without_null, written_parameters, kinds_of, if_there};
 ghost use Rattle.x509_der.specs.Reading.{IsRaw};
 ghost use Rattle.x509_der.specs.View.{if_found};
@@ -8,8 +8,8 @@ ghost use Rattle.x509_der.specs.View.{if_found};
 use std::alloc::{AllocError, Allocator, Global};
 use std::marker::Model;
 use x509_der::parts::{
-    Field, Found, Join, Optional, Reader, SEQUENCE_TAG, Sequence, Tagged, View, known_bytes,
-    known_there, read_viewed,
+    Field, Join, Optional, Reader, SEQUENCE_TAG, Sequence, Tagged, View, WholeDeviations,
+    known_bytes, known_there, read_viewed,
 };
 use x509_der::{
     Asn1RawDer, CloneEq, Deviation, FromDer, ObjectIdentifier, ObjectIdentifierAsn1, ReadError,
@@ -25,6 +25,7 @@ use x509_der::{
 /// the deviation `RawParametersAbsent`.
 #[derive(Drop)]
 #[derive_where(Debug, PartialEq, Eq)]
+#[derive_where(Clone; A: Copy)]
 pub struct RawAlgorithmIdentifier<A: Allocator = Global> {
     algorithm: ObjectIdentifierAsn1<A>,
     parameters: Option<Asn1RawDer<A>>,
@@ -96,33 +97,17 @@ impl<A: Allocator> RawAlgorithmIdentifier<A> {
     }
 }
 
-impl<A: Allocator + Copy> RawAlgorithmIdentifier<A> {
-    /// An equal algorithm identifier.
-    ///
-    /// # Errors
-    /// `AllocError` where memory is refused.
-    pub fn clone(&self) -> Result<Self, AllocError>
-        ensures { IfOk result (λ copy. copy ≡ self.now) }
-    {
-        self.clone_eq()
-    }
-}
-
 impl<A: Allocator + Copy> CloneEq for RawAlgorithmIdentifier<A> {
-    fn clone_eq(&self) -> Result<Self, AllocError> {
-        let algorithm = self.algorithm.clone_eq()?;
-        let parameters = self.parameters.clone_eq()?;
-        Ok(RawAlgorithmIdentifier {
-            algorithm,
-            parameters,
-        })
-    }
+    ghost use Rattle.std.proofs.Common.{rules};
+
+    ghost exact = { Prim.search (rules) };
 }
 
 impl<A: Allocator> SameEq for RawAlgorithmIdentifier<A> {
-    ghost use Rattle.x509_keys_parts.specs.facts.RawAlgorithmSame.{raw_algorithms_decide};
-
-    ghost decides = { raw_algorithms_decide };
+    fn decides() {
+        ObjectIdentifierAsn1::<A>::decides();
+        Option::<Asn1RawDer<A>>::decides();
+    }
 }
 
 /// The deviation of parameters that are absent.
@@ -273,7 +258,7 @@ type Inner<A> = Join<ObjectIdentifierAsn1<A>, Optional<ReadParameters<A>>>;
 /// The fields, owned.
 type Fields<A> = Tagged<Sequence, Inner<A>>;
 
-impl<A: Allocator + Copy> View<Fields<A>> for RawAlgorithmIdentifier<A> {
+impl<A: Allocator + Copy> View<Fields<A>, A> for RawAlgorithmIdentifier<A> {
     ghost use Rattle.x509_der.specs.laws.Meaning.{sequence_keeps};
     ghost use Rattle.x509_keys_parts.specs.RawAlgorithm.{inner, base, raw_meaning};
     ghost use Rattle.x509_keys_parts.specs.facts.RawAlgorithmFacts.{raw_algorithm_means, one_kind};
@@ -285,14 +270,14 @@ impl<A: Allocator + Copy> View<Fields<A>> for RawAlgorithmIdentifier<A> {
     ghost keeps = { sequence_keeps raw_meaning inner
         (⟦<Inner<A> as Field<A>>⟧.lawful (tt, (tt, tt), λ c h. refl)) raw_algorithm_means one_kind };
 
-    fn meaning(parts: Fields<A>) -> Option<(Self, Found)> {
+    fn meaning(_alloc: A, parts: Fields<A>) -> Result<(Self, WholeDeviations), ReadError> {
         let Join(ObjectIdentifierAsn1(algorithm), Optional(parameters)) = parts.into_inner();
         let absent = absence(&parameters);
         let value = RawAlgorithmIdentifier {
             algorithm: ObjectIdentifierAsn1(algorithm),
             parameters: if_there(parameters),
         };
-        Some((value, Found::of(absent)))
+        Ok((value, WholeDeviations::of(absent)))
     }
 }
 
@@ -304,7 +289,7 @@ impl<A: Allocator + Copy> Field<A> for RawAlgorithmIdentifier<A> {
 
     ghost shape = { raw_algorithm };
 
-    ghost lawful = { λ h. seen_lawful raw_meaning base ⟦<RawAlgorithmIdentifier<A> as View<Fields<A>>>⟧.keeps };
+    ghost lawful = { λ h. seen_lawful raw_meaning base ⟦<RawAlgorithmIdentifier<A> as View<Fields<A>, A>>⟧.keeps };
 
     ghost elements = { λ h. seen_element raw_meaning base (⟦<Fields<A> as Field<A>>⟧.elements tt)
         raw_algorithm_means };
@@ -326,7 +311,5 @@ impl<A: Allocator + Copy> Field<A> for RawAlgorithmIdentifier<A> {
 }
 
 impl<A: Allocator + Copy> FromDer<A> for RawAlgorithmIdentifier<A> {
-    ghost always = { tt };
-
-    ghost whole = { tt };
+    ghost stands_alone = { (tt, tt) };
 }

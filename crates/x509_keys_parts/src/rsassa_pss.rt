@@ -1,7 +1,7 @@
 //! Parameters of RSASSA-PSS.
 
-ghost use Rattle.std.specs.Prelude.{◌≡◌, refl, IfOk};
-ghost use Rattle.x509_der.specs.Integer.{sign_bit};
+ghost use Rattle.std.specs.Prelude.{◌≡◌, refl, IfOk, IfErr};
+ghost use Rattle.x509_der.specs.Types.read_error.{Unsupported};
 ghost use Rattle.x509_der.specs.View.{meant};
 ghost use Rattle.x509_der.specs.laws.Meaning.{seen_element, seen_lawful, sequence_keeps};
 ghost use Rattle.x509_der.specs.laws.Structure.{structure_lawful, structure_element};
@@ -12,8 +12,8 @@ use crate::hash_algorithm::HashAlgorithm;
 use crate::salt_length::SaltLength;
 use std::alloc::{AllocError, Allocator, Global};
 use x509_der::parts::{
-    Explicit0, Explicit1, Explicit2, Field, Found, Join, Reader, SEQUENCE_TAG, Sequence, Structure,
-    Tagged, View, read_fields, read_viewed,
+    ContextConstructed, Field, Join, Reader, SEQUENCE_TAG, Sequence, Structure, Tagged, View,
+    WholeDeviations, read_fields, read_viewed,
 };
 use x509_der::{
     CloneEq, Deviation, FromDer, IntegerAsn1, ObjectIdentifierAsn1, ReadError, SameEq, ToDer,
@@ -27,6 +27,7 @@ use x509_oids_algorithms::id_mgf1;
 /// `SEQUENCE { algorithm OBJECT IDENTIFIER, parameters HashAlgorithm }` (RFC 4055, 2.2). Any object identifier is read.
 #[derive(Drop)]
 #[derive_where(Debug, PartialEq, Eq)]
+#[derive_where(Clone; A: Copy)]
 pub struct MaskGenAlgorithm<A: Allocator = Global> {
     /// The mask generation function: MGF1 in use.
     pub mask_gen_algorithm: ObjectIdentifierAsn1<A>,
@@ -49,32 +50,17 @@ impl<A: Allocator> MaskGenAlgorithm<A> {
     }
 }
 
-impl<A: Allocator + Copy> MaskGenAlgorithm<A> {
-    /// An equal mask generation function.
-    ///
-    /// # Errors
-    /// `AllocError` where memory is refused.
-    pub fn clone(&self) -> Result<Self, AllocError>
-        ensures { IfOk result (λ copy. copy ≡ self.now) }
-    {
-        self.clone_eq()
-    }
-}
-
 impl<A: Allocator + Copy> CloneEq for MaskGenAlgorithm<A> {
-    fn clone_eq(&self) -> Result<Self, AllocError> {
-        Ok(MaskGenAlgorithm {
-            mask_gen_algorithm: self.mask_gen_algorithm.clone_eq()?,
-            hash_algorithm: self.hash_algorithm,
-        })
-    }
+    ghost use Rattle.std.proofs.Common.{rules};
+
+    ghost exact = { Prim.search (rules) };
 }
 
 impl<A: Allocator> SameEq for MaskGenAlgorithm<A> {
-    ghost use Rattle.std.proofs.Common.{rules};
-    ghost use Rattle.std.specs.Cmp.Lexicographic.{bytes_decides};
-
-    ghost decides = { Prim.search (rules, bytes_decides) };
+    fn decides() {
+        ObjectIdentifierAsn1::<A>::decides();
+        HashAlgorithm::decides();
+    }
 }
 
 /// The fields as they stand in the SEQUENCE, owned or borrowed.
@@ -131,9 +117,7 @@ impl<A: Allocator + Copy> Field<A> for MaskGenAlgorithm<A> {
 }
 
 impl<A: Allocator + Copy> FromDer<A> for MaskGenAlgorithm<A> {
-    ghost always = { tt };
-
-    ghost whole = { tt };
+    ghost stands_alone = { (tt, tt) };
 }
 
 /// Parameters of RSASSA-PSS. The trailer field isn't among them, since it is always the default.
@@ -144,6 +128,7 @@ impl<A: Allocator + Copy> FromDer<A> for MaskGenAlgorithm<A> {
 /// salt length is refused; one above 2^64 - 1 is read as 2^64 - 1 with the deviation `SaltTooLarge`.
 #[derive(Drop)]
 #[derive_where(Debug, PartialEq, Eq)]
+#[derive_where(Clone; A: Copy)]
 pub struct RsassaPssParams<A: Allocator = Global> {
     /// The hash function.
     pub hash_algorithm: HashAlgorithm,
@@ -169,44 +154,23 @@ impl<A: Allocator> RsassaPssParams<A> {
     }
 }
 
-impl<A: Allocator + Copy> RsassaPssParams<A> {
-    /// Equal parameters.
-    ///
-    /// # Errors
-    /// `AllocError` where memory is refused.
-    pub fn clone(&self) -> Result<Self, AllocError>
-        ensures { IfOk result (λ copy. copy ≡ self.now) }
-    {
-        self.clone_eq()
-    }
-}
-
 impl<A: Allocator + Copy> CloneEq for RsassaPssParams<A> {
-    fn clone_eq(&self) -> Result<Self, AllocError> {
-        Ok(RsassaPssParams {
-            hash_algorithm: self.hash_algorithm,
-            mask_gen_algorithm: self.mask_gen_algorithm.clone_eq()?,
-            salt_length: self.salt_length,
-        })
-    }
+    ghost use Rattle.std.proofs.Common.{rules};
+
+    ghost exact = { Prim.search (rules) };
 }
 
 impl<A: Allocator> SameEq for RsassaPssParams<A> {
-    ghost use Rattle.std.specs.Prelude.{nat_eq};
-    ghost use Rattle.std.proofs.Common.{rules};
-    ghost use Rattle.std.specs.Cmp.Lexicographic.{bytes_decides};
-    ghost use Rattle.x509_keys_parts.specs.facts.RsassaPssFacts.{pss_decides};
-
-    ghost decides = { λ x y. pss_decides x y (⟦<HashAlgorithm as PartialEq>⟧.eq x.hash_algorithm
-        y.hash_algorithm) (⟦<MaskGenAlgorithm<A> as PartialEq>⟧.eq x.mask_gen_algorithm y.mask_gen_algorithm)
-        (nat_eq x.salt_length y.salt_length) (Prim.search (rules)) (Prim.search (rules, bytes_decides))
-        (Prim.search (rules)) };
+    fn decides() {
+        HashAlgorithm::decides();
+        MaskGenAlgorithm::<A>::decides();
+    }
 }
 
 /// The fields in the SEQUENCE, owned or borrowed.
 type Nest<M, S> = Join<
-    Tagged<Explicit0, HashAlgorithm>,
-    Join<Tagged<Explicit1, M>, Tagged<Explicit2, S>>,
+    Tagged<ContextConstructed<0>, HashAlgorithm>,
+    Join<Tagged<ContextConstructed<1>, M>, Tagged<ContextConstructed<2>, S>>,
 >;
 
 /// The fields in the SEQUENCE, owned.
@@ -243,21 +207,25 @@ impl<A: Allocator> ToDer for RsassaPssParams<A> {
     }
 }
 
-/// The salt length that an INTEGER says, and the deviation of one that is too large; none where it is negative.
+/// The salt length that an INTEGER says, and the deviation of one that is too large.
+///
+/// # Errors
+/// `Unsupported` exactly where it is negative.
 #[tactic(auto, using(crate::specs::facts::RsassaPssFacts::salt_small, crate::specs::facts::RsassaPssFacts::salt_large, crate::specs::facts::RsassaPssFacts::salt_negative))]
-fn salt_in<A: Allocator>(salt: &IntegerAsn1<A>) -> Option<(usize, Found)>
-    ensures { salt_of salt.now ≡ meant result }
+fn salt_in<A: Allocator>(salt: &IntegerAsn1<A>) -> Result<(usize, WholeDeviations), ReadError>
+    ensures meaning { salt_of salt.now ≡ meant result }
+    ensures refusal { IfErr result (λ e. e ≡ Unsupported) }
 {
     if salt.is_negative() {
-        return None;
+        return Err(ReadError::Unsupported);
     }
     match salt.to_u64() {
-        Some(number) => Some((number as usize, Found::Nothing)),
-        None => Some((usize::MAX, Found::One(Deviation::SaltTooLarge))),
+        Some(number) => Ok((number as usize, WholeDeviations::Nothing)),
+        None => Ok((usize::MAX, WholeDeviations::One(Deviation::SaltTooLarge))),
     }
 }
 
-impl<A: Allocator + Copy> View<Fields<A>> for RsassaPssParams<A> {
+impl<A: Allocator + Copy> View<Fields<A>, A> for RsassaPssParams<A> {
     ghost base = { pss_base };
 
     ghost view = { pss_meaning };
@@ -265,7 +233,7 @@ impl<A: Allocator + Copy> View<Fields<A>> for RsassaPssParams<A> {
     ghost keeps = { sequence_keeps pss_meaning pss_inner
         (⟦<Inner<A> as Field<A>>⟧.lawful (tt, (tt, tt, λ c h. refl), λ c h. refl)) pss_is pss_one };
 
-    fn meaning(parts: Fields<A>) -> Option<(Self, Found)> {
+    fn meaning(_alloc: A, parts: Fields<A>) -> Result<(Self, WholeDeviations), ReadError> {
         let Join(hash_algorithm, Join(mask_gen_algorithm, salt)) = parts.into_inner();
         let (salt_length, found) = salt_in(&salt.into_inner())?;
         let parameters = RsassaPssParams {
@@ -273,14 +241,14 @@ impl<A: Allocator + Copy> View<Fields<A>> for RsassaPssParams<A> {
             mask_gen_algorithm: mask_gen_algorithm.into_inner(),
             salt_length,
         };
-        Some((parameters, found))
+        Ok((parameters, found))
     }
 }
 
 impl<A: Allocator + Copy> Field<A> for RsassaPssParams<A> {
     ghost shape = { rsassa_pss };
 
-    ghost lawful = { λ h. seen_lawful pss_meaning pss_base ⟦<RsassaPssParams<A> as View<Fields<A>>>⟧.keeps };
+    ghost lawful = { λ h. seen_lawful pss_meaning pss_base ⟦<RsassaPssParams<A> as View<Fields<A>, A>>⟧.keeps };
 
     ghost elements = { λ h. seen_element pss_meaning pss_base (⟦<Fields<A> as Field<A>>⟧.elements tt)
         pss_is };
@@ -303,7 +271,5 @@ impl<A: Allocator + Copy> Field<A> for RsassaPssParams<A> {
 }
 
 impl<A: Allocator + Copy> FromDer<A> for RsassaPssParams<A> {
-    ghost always = { tt };
-
-    ghost whole = { tt };
+    ghost stands_alone = { (tt, tt) };
 }

@@ -149,7 +149,5 @@ impl ShaVariant {
 }
 
 impl SameEq for ShaVariant {
-    ghost use Rattle.std.proofs.Common.{rules};
-
-    ghost decides = { Prim.search (rules) };
+    fn decides() {}
 }

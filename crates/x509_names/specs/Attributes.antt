@@ -1,5 +1,5 @@
 -- Attributes of names: AttributeTypeAndValue, and what each attribute's value is (RFC 5280, 4.1.2.4 and appendix A.1).
-use Rattle.std.specs.Prelude.{ℕ, Bool, true, false, if◌then◌else◌, List, [], ◌∷◌, ◌++◌, Option, Some, None}
+use Rattle.std.specs.Prelude.{ℕ, true, false, if◌then◌else◌, List, [], ◌∷◌, ◌++◌, Option, Some, None}
 use Rattle.x509_names_parts.specs.declared.directory_string.DirectoryString.{DirectoryString}
 use Rattle.x509_names_parts.specs.DirectoryStrings.{directory_string}
 use Rattle.x509_names.specs.declared.name_attr.NameAttr.{NameAttr}
@@ -18,7 +18,6 @@ use Rattle.x509_der.specs.RawElement.{raws}
 use Rattle.x509_der.specs.DefinedBy.{defined_by}
 use Rattle.x509_der.specs.Variant.{variant}
 use Rattle.x509_der.specs.Structure.{structure}
-use Rattle.x509_der.specs.ContentOf.{content_of}
 use Rattle.x509_prim.specs.Texts.{Passes, texts}
 use Rattle.x509_prim.specs.CharSets.{are_ascii}
 use Rattle.x509_names.specs.declared.name_attr.NameAttr.TheVariants as attr
@@ -132,10 +131,6 @@ attribute_base = tagged 48 attribute_inner
 
 abbrev pub attribute : {A : Type 0} → Shape (AttributeTypeAndValue A)
 attribute = structure attribute_parts attribute_base
-
--- its content, without the header
-abbrev pub attribute_content : {A : Type 0} → Shape (AttributeTypeAndValue A)
-attribute_content = content_of (structure attribute_parts attribute_inner)
 
 -- what is written in the SEQUENCE: the type and the value, also where they don't fit
 abbrev pub attribute_bytes : {A : Type 0} → AttributeTypeAndValue A → List ℕ

@@ -1,7 +1,7 @@
 -- The definitions and lemmas of the crate below, which crates above name by this one.
 pub use Rattle.x509_names_parts.specs.DirectoryStrings
 pub use Rattle.x509_names_parts.specs.DirectoryTexts
-pub use Rattle.x509_names_parts.specs.Times
+pub use Rattle.x509_names_parts.specs.Time
 pub use Rattle.x509_names_parts.specs.Validities
 pub use Rattle.x509_names_parts.specs.Versions
 pub mod AttributeFields

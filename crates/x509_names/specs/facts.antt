@@ -8,5 +8,4 @@ pub mod GeneralNames
 pub mod NameFacts
 pub mod NameTexts
 pub mod OtherNames
-pub mod SameGeneralNames
 pub use Rattle.x509_names_parts.specs.facts.Validities

@@ -3,13 +3,10 @@
 ghost use Rattle.std.specs.Prelude.{◌≡◌, ◌++◌, true, false, refl, IfOk};
 ghost use Rattle.x509_der.specs.Element.{element};
 ghost use Rattle.x509_der.specs.Reading.{Ready, Reads};
-ghost use Rattle.x509_der.specs.Structure.{structure};
-ghost use Rattle.x509_der.specs.laws.ContentOf.{content_of_lawful, tagged_fields};
 ghost use Rattle.x509_der.specs.laws.Structure.{structure_lawful, structure_element};
-ghost use Rattle.x509_names.specs.Attributes.{email_arcs, kind_of as kind_by};
+ghost use Rattle.x509_names.specs.Attributes.{kind_of as kind_by};
 ghost use Rattle.x509_names.specs.Attributes.{text_value as text_by, value_bytes, IsValue, by_kind};
-ghost use Rattle.x509_names.specs.Attributes.{attribute_parts, attribute_inner, attribute_base, attribute};
-ghost use Rattle.x509_names.specs.Attributes.{attribute_content, attribute_bytes};
+ghost use Rattle.x509_names.specs.Attributes.{attribute_parts, attribute_base, attribute, attribute_bytes};
 ghost use Rattle.x509_names.specs.Attributes.{text_attribute as text_by_attr, email_attribute};
 ghost use Rattle.x509_names.specs.facts.Attributes.{attribute_same};
 ghost use Rattle.x509_names.specs.declared.name_attr.NameAttr.TheVariants as attr;
@@ -17,9 +14,8 @@ ghost use Rattle.x509_names.specs.declared.name_attr.NameAttr.TheVariants as att
 use crate::name_attr::{NameAttr, attr_of, identifier_of};
 use std::alloc::{AllocError, Allocator, Global};
 use x509_der::parts::{
-    AnyDefinedBy, Choice, Constructed, Content, DefinedBy, Field, OneTag, Reader, SEQUENCE_TAG,
-    Sequence, Structure, Tagged, ToContent, element_len, read_as_content, read_sequence,
-    write_element,
+    AnyDefinedBy, Choice, DefinedBy, Field, Reader, SEQUENCE_TAG, Sequence, Structure, Tagged,
+    element_len, read_sequence, write_element,
 };
 use x509_der::{
     Asn1RawDer, CloneEq, FromDer, ObjectIdentifierAsn1, ReadError, SameEq, ToDer, TooLong,
@@ -31,6 +27,7 @@ use x509_prim::Ia5StringAsn1;
 /// The value of an attribute, by its type (RFC 5280, 4.1.2.4 and appendix A.1; X.520).
 #[derive(Drop)]
 #[derive_where(Debug, PartialEq, Eq)]
+#[derive_where(Clone; A: Copy)]
 pub enum AttributeTypeAndValueParameters<A: Allocator = Global> {
     /// Of `id-at-commonName`, 2.5.4.3.
     CommonName(DirectoryString<A>),
@@ -60,69 +57,18 @@ pub enum AttributeTypeAndValueParameters<A: Allocator = Global> {
     Custom(Asn1RawDer<A>),
 }
 
-impl<A: Allocator + Copy> AttributeTypeAndValueParameters<A> {
-    /// An equal value.
-    ///
-    /// # Errors
-    /// `AllocError` where memory is refused.
-    pub fn clone(&self) -> Result<Self, AllocError>
-        ensures { IfOk result (λ copy. copy ≡ self.now) }
-    {
-        self.clone_eq()
-    }
-}
-
 impl<A: Allocator + Copy> CloneEq for AttributeTypeAndValueParameters<A> {
-    fn clone_eq(&self) -> Result<Self, AllocError> {
-        match self {
-            AttributeTypeAndValueParameters::CommonName(text) => {
-                Ok(AttributeTypeAndValueParameters::CommonName(text.clone_eq()?))
-            }
-            AttributeTypeAndValueParameters::Surname(text) => {
-                Ok(AttributeTypeAndValueParameters::Surname(text.clone_eq()?))
-            }
-            AttributeTypeAndValueParameters::SerialNumber(text) => {
-                Ok(AttributeTypeAndValueParameters::SerialNumber(text.clone_eq()?))
-            }
-            AttributeTypeAndValueParameters::CountryName(text) => {
-                Ok(AttributeTypeAndValueParameters::CountryName(text.clone_eq()?))
-            }
-            AttributeTypeAndValueParameters::LocalityName(text) => {
-                Ok(AttributeTypeAndValueParameters::LocalityName(text.clone_eq()?))
-            }
-            AttributeTypeAndValueParameters::StateOrProvinceName(text) => {
-                Ok(AttributeTypeAndValueParameters::StateOrProvinceName(text.clone_eq()?))
-            }
-            AttributeTypeAndValueParameters::StreetName(text) => {
-                Ok(AttributeTypeAndValueParameters::StreetName(text.clone_eq()?))
-            }
-            AttributeTypeAndValueParameters::OrganizationName(text) => {
-                Ok(AttributeTypeAndValueParameters::OrganizationName(text.clone_eq()?))
-            }
-            AttributeTypeAndValueParameters::OrganizationalUnitName(text) => {
-                Ok(AttributeTypeAndValueParameters::OrganizationalUnitName(text.clone_eq()?))
-            }
-            AttributeTypeAndValueParameters::EmailAddress(address) => {
-                Ok(AttributeTypeAndValueParameters::EmailAddress(address.clone_eq()?))
-            }
-            AttributeTypeAndValueParameters::GivenName(text) => {
-                Ok(AttributeTypeAndValueParameters::GivenName(text.clone_eq()?))
-            }
-            AttributeTypeAndValueParameters::Phone(text) => {
-                Ok(AttributeTypeAndValueParameters::Phone(text.clone_eq()?))
-            }
-            AttributeTypeAndValueParameters::Custom(element) => {
-                Ok(AttributeTypeAndValueParameters::Custom(element.clone_eq()?))
-            }
-        }
-    }
+    ghost use Rattle.std.proofs.Common.{rules};
+
+    ghost exact = { Prim.search (rules) };
 }
 
 impl<A: Allocator> SameEq for AttributeTypeAndValueParameters<A> {
-    ghost use Rattle.std.proofs.Common.{rules};
-    ghost use Rattle.std.specs.Cmp.Lexicographic.{bytes_decides};
-
-    ghost decides = { Prim.search (rules, bytes_decides) };
+    fn decides() {
+        DirectoryString::<A>::decides();
+        Ia5StringAsn1::<A>::decides();
+        Asn1RawDer::<A>::decides();
+    }
 }
 
 /// What an object identifier says of the value.
@@ -136,14 +82,18 @@ enum AttributeKind {
     Other,
 }
 
-/// The kind of value that an object identifier says.
+/// The content of the object identifier of an e-mail address, 1.2.840.113549.1.9.1.
+const EMAIL: &'static [u8] = &[0x2A, 0x86, 0x48, 0x86, 0xF7, 0x0D, 1, 9, 1];
+
+/// The kind of value that an object identifier says. Contents are compared, and no arcs are decoded.
+#[tactic(auto, unfolding(x509_der::specs::ObjectIdentifier::numbers_from))]
 fn kind_of<A: Allocator>(identifier: &ObjectIdentifierAsn1<A>) -> AttributeKind
     ensures { result ≡ kind_by identifier.now }
 {
     if let Some(attr) = attr_of(&identifier.0) {
         return AttributeKind::Text(attr);
     }
-    if identifier.0.is_arcs(&[1, 2, 840, 113549, 1, 9, 1]) {
+    if identifier.0.is_content(EMAIL) {
         AttributeKind::Email
     } else {
         AttributeKind::Other
@@ -299,6 +249,7 @@ impl<A: Allocator + Copy> AnyDefinedBy<ObjectIdentifierAsn1<A>, A>
 /// Where the value is of another kind than the type says, what is written is refused or read as another attribute.
 #[derive(Drop)]
 #[derive_where(Debug, PartialEq, Eq)]
+#[derive_where(Clone; A: Copy)]
 pub struct AttributeTypeAndValue<A: Allocator = Global> {
     /// The type.
     pub ty: ObjectIdentifierAsn1<A>,
@@ -306,31 +257,17 @@ pub struct AttributeTypeAndValue<A: Allocator = Global> {
     pub value: AttributeTypeAndValueParameters<A>,
 }
 
-impl<A: Allocator + Copy> AttributeTypeAndValue<A> {
-    /// An equal attribute.
-    ///
-    /// # Errors
-    /// `AllocError` where memory is refused.
-    pub fn clone(&self) -> Result<Self, AllocError>
-        ensures { IfOk result (λ copy. copy ≡ self.now) }
-    {
-        self.clone_eq()
-    }
-}
-
 impl<A: Allocator + Copy> CloneEq for AttributeTypeAndValue<A> {
-    fn clone_eq(&self) -> Result<Self, AllocError> {
-        let ty = self.ty.clone_eq()?;
-        let value = self.value.clone_eq()?;
-        Ok(AttributeTypeAndValue { ty, value })
-    }
+    ghost use Rattle.std.proofs.Common.{rules};
+
+    ghost exact = { Prim.search (rules) };
 }
 
 impl<A: Allocator> SameEq for AttributeTypeAndValue<A> {
-    ghost use Rattle.std.proofs.Common.{rules};
-    ghost use Rattle.std.specs.Cmp.Lexicographic.{bytes_decides};
-
-    ghost decides = { Prim.search (rules, bytes_decides) };
+    fn decides() {
+        ObjectIdentifierAsn1::<A>::decides();
+        AttributeTypeAndValueParameters::<A>::decides();
+    }
 }
 
 /// The attribute with its object identifier and a directory string.
@@ -498,18 +435,6 @@ impl<A: Allocator> ToDer for AttributeTypeAndValue<A> {
     }
 }
 
-impl<A: Allocator> ToContent for AttributeTypeAndValue<A> {
-    ghost content = { attribute_bytes };
-
-    fn content_len(&self) -> Result<usize, TooLong> {
-        DefinedBy(&self.ty, &self.value).encoded_len()
-    }
-
-    fn write_content(&self, out: &mut [u8]) -> usize {
-        DefinedBy(&self.ty, &self.value).write_back(out)
-    }
-}
-
 impl<A: Allocator> Structure<Inner<A>> for AttributeTypeAndValue<A> {
     ghost fields = { attribute_parts };
 
@@ -548,44 +473,6 @@ impl<A: Allocator + Copy> Field<A> for AttributeTypeAndValue<A> {
     }
 }
 
-impl<A: Allocator + Copy> Content<A> for AttributeTypeAndValue<A> {
-    ghost use Rattle.x509_names.specs.facts.AttributeFacts.{inner_agrees};
-
-    ghost content_shape = { attribute_content };
-
-    ghost content_lawful = { λ h. content_of_lawful (structure attribute_parts attribute_inner)
-        (structure_lawful attribute_parts attribute_inner attribute_same
-        (⟦<Inner<A> as Field<A>>⟧.lawful (tt, λ c h. refl))) };
-
-    fn known_content(&self) {
-        self.known();
-    }
-
-    fn read_content(alloc: A, reader: &mut Reader<'_, A>) -> Result<Self, ReadError> {
-        read_as_content::<Self, Inner<A>, A>(alloc, reader)
-    }
-
-    ghost content_always = { tt };
-
-    ghost open = { λ b. refl };
-
-    ghost content_agrees = { inner_agrees };
-}
-
 impl<A: Allocator + Copy> FromDer<A> for AttributeTypeAndValue<A> {
-    ghost always = { tt };
-
-    ghost whole = { tt };
-}
-
-impl<A: Allocator + Copy> OneTag<A> for AttributeTypeAndValue<A> {
-    type Form = Constructed;
-
-    ghost tag = { 48 };
-
-    ghost form = { refl };
-
-    ghost spelled_around = { λ v p y. tagged_fields 48 attribute_parts attribute_inner v p y };
-
-    ghost strict_around = { λ v. refl };
+    ghost stands_alone = { (tt, tt) };
 }

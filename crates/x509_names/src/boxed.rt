@@ -76,26 +76,21 @@ impl<T: Eq, A: Allocator> Eq for Boxed<T, A> {
 }
 
 impl<T: SameEq, A: Allocator> SameEq for Boxed<T, A> {
-    ghost decides = { T.decides };
-}
-
-impl<T: CloneEq + Drop, A: Allocator + Copy> Boxed<T, A> {
-    /// An equal value on the heap.
-    ///
-    /// # Errors
-    /// `AllocError` where memory is refused.
-    pub fn clone(&self) -> Result<Self, AllocError>
-        ensures { IfOk result (λ copy. copy ≡ self.now) }
-    {
-        self.clone_eq()
+    fn decides() {
+        T::decides();
     }
 }
 
-impl<T: CloneEq + Drop, A: Allocator + Copy> CloneEq for Boxed<T, A> {
-    fn clone_eq(&self) -> Result<Self, AllocError> {
-        let value = self.0.clone_eq()?;
-        Boxed::new(*Box::allocator(&self.0), value)
+impl<T: Clone, A: Allocator + Copy> Clone for Boxed<T, A> {
+    ghost is_clone = { T.is_clone };
+
+    fn clone(&self) -> Result<Self, AllocError> {
+        Ok(Boxed(self.0.clone()?))
     }
+}
+
+impl<T: CloneEq, A: Allocator + Copy> CloneEq for Boxed<T, A> {
+    ghost exact = { T.exact };
 }
 
 impl<T: ToContent, A: Allocator> ToContent for Boxed<T, A> {

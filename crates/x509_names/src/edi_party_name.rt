@@ -1,6 +1,6 @@
 //! Names of parties to electronic data interchange.
 
-ghost use Rattle.std.specs.Prelude.{◌≡◌, refl, IfOk};
+ghost use Rattle.std.specs.Prelude.{◌≡◌, refl};
 ghost use Rattle.x509_der.specs.Structure.{structure};
 ghost use Rattle.x509_der.specs.laws.ContentOf.{content_of_lawful, tagged_fields};
 ghost use Rattle.x509_der.specs.laws.Structure.{structure_lawful, structure_element};
@@ -9,11 +9,11 @@ ghost use Rattle.x509_names.specs.EdiPartyNames.{edi_party_name as edi_names};
 ghost use Rattle.x509_names.specs.facts.EdiPartyNames.{edi_same, assigner_apart};
 
 use crate::boxed::TakesMemory;
-use std::alloc::{AllocError, Allocator, Global};
+use std::alloc::{Allocator, Global};
 use x509_der::parts::{
-    Constructed, Content, Explicit0, Explicit1, Field, Join, OneTag, Optional, Reader,
-    SEQUENCE_TAG, Sequence, Structure, Tagged, ToContent, clone_both, element_len, known_there,
-    read_as_content, read_sequence, write_element,
+    Constructed, Content, ContextConstructed, Field, Join, OneTag, Optional, Reader, SEQUENCE_TAG,
+    Sequence, Structure, Tagged, ToContent, element_len, known_there, read_as_content,
+    read_sequence, write_element,
 };
 use x509_der::{CloneEq, FromDer, ReadError, SameEq, ToDer, TooLong};
 use x509_names_parts::DirectoryString;
@@ -25,6 +25,7 @@ use x509_names_parts::DirectoryString;
 /// tags are explicit ones, since a `DirectoryString` is a choice.
 #[derive(Drop)]
 #[derive_where(Debug, PartialEq, Eq)]
+#[derive_where(Clone; A: Copy)]
 pub struct EdiPartyName<A: Allocator = Global> {
     /// Who named the party, where that is said.
     pub name_assigner: Option<DirectoryString<A>>,
@@ -32,39 +33,21 @@ pub struct EdiPartyName<A: Allocator = Global> {
     pub party_name: DirectoryString<A>,
 }
 
-impl<A: Allocator + Copy> EdiPartyName<A> {
-    /// An equal name.
-    ///
-    /// # Errors
-    /// `AllocError` where memory is refused.
-    pub fn clone(&self) -> Result<Self, AllocError>
-        ensures { IfOk result (λ copy. copy ≡ self.now) }
-    {
-        self.clone_eq()
-    }
-}
-
 impl<A: Allocator + Copy> CloneEq for EdiPartyName<A> {
-    fn clone_eq(&self) -> Result<Self, AllocError> {
-        let (name_assigner, party_name) = clone_both(&self.name_assigner, &self.party_name)?;
-        Ok(EdiPartyName {
-            name_assigner,
-            party_name,
-        })
-    }
+    ghost use Rattle.std.proofs.Common.{rules};
+
+    ghost exact = { Prim.search (rules) };
 }
 
 impl<A: Allocator> SameEq for EdiPartyName<A> {
-    ghost use Rattle.std.proofs.Common.{rules};
-    ghost use Rattle.std.specs.Cmp.Lexicographic.{bytes_decides};
-    ghost use Rattle.x509_names.specs.facts.EdiPartyNames.{parties_decide};
-
-    ghost decides = { parties_decide {E = ⟦<DirectoryString<A> as PartialEq>⟧.eq}
-        (λ a b. Prim.search (rules, bytes_decides)) };
+    fn decides() {
+        Option::<DirectoryString<A>>::decides();
+        DirectoryString::<A>::decides();
+    }
 }
 
 /// The fields in the SEQUENCE, owned or borrowed.
-type Nest<D> = Join<Optional<Tagged<Explicit0, D>>, Tagged<Explicit1, D>>;
+type Nest<D> = Join<Optional<Tagged<ContextConstructed<0>, D>>, Tagged<ContextConstructed<1>, D>>;
 
 /// The fields, owned.
 type Inner<A> = Nest<DirectoryString<A>>;
@@ -77,7 +60,7 @@ fn written<A: Allocator>(value: &EdiPartyName<A>) -> Written<'_, A>
     ensures { ⟦<Written<'static, A> as ToDer>⟧.strict result ≡ edi_inner.strict (edi_parts value.now) }
 {
     Join(
-        Optional::lent(&value.name_assigner),
+        Optional::borrowed_element(&value.name_assigner),
         Tagged::new(&value.party_name),
     )
 }
@@ -172,9 +155,7 @@ impl<A: Allocator + Copy> TakesMemory<A> for EdiPartyName<A> {
 }
 
 impl<A: Allocator + Copy> FromDer<A> for EdiPartyName<A> {
-    ghost always = { tt };
-
-    ghost whole = { tt };
+    ghost stands_alone = { (tt, tt) };
 }
 
 impl<A: Allocator + Copy> OneTag<A> for EdiPartyName<A> {

@@ -18,9 +18,8 @@ use crate::other_name::OtherName;
 use std::alloc::{AllocError, Allocator, Global};
 use x509_der::parts::Choice::{First, Second};
 use x509_der::parts::{
-    Choice, Content, ContentOf, Explicit0, Explicit1, Explicit2, Explicit4, Explicit5, Explicit6,
-    Explicit7, Explicit8, Field, Found, Implicit1, Implicit2, Implicit4, Implicit6, Implicit7,
-    Implicit8, Reader, Tag, Tagged, View, element_len, read_viewed, write_element,
+    Choice, Content, ContentOf, ContextConstructed, ContextPrimitive, Field, Reader, Tagged, View,
+    WholeDeviations, element_len, read_viewed, write_element,
 };
 use x509_der::{
     Asn1SequenceOf, CloneEq, Deviation, FromDer, ObjectIdentifierAsn1, OctetStringAsn1, ReadError,
@@ -50,6 +49,7 @@ pub type GeneralNames<A = Global> = Asn1SequenceOf<GeneralName<A>, A>;
 /// The two large forms, which are rare, are on the heap, so that a list of names is small.
 #[derive(Drop)]
 #[derive_where(Debug, PartialEq, Eq)]
+#[derive_where(Clone; A: Copy)]
 pub enum GeneralName<A: Allocator = Global> {
     /// A name of the form that an object identifier tells.
     OtherName(Boxed<OtherName<A>, A>),
@@ -100,64 +100,44 @@ impl<A: Allocator> From<Name<A>> for GeneralName<A> {
     }
 }
 
-impl<A: Allocator + Copy> GeneralName<A> {
-    /// An equal name.
-    ///
-    /// # Errors
-    /// `AllocError` where memory is refused.
-    pub fn clone(&self) -> Result<Self, AllocError>
-        ensures { IfOk result (λ copy. copy ≡ self.now) }
-    {
-        self.clone_eq()
-    }
-}
-
 impl<A: Allocator + Copy> CloneEq for GeneralName<A> {
-    fn clone_eq(&self) -> Result<Self, AllocError> {
-        match self {
-            GeneralName::OtherName(name) => Ok(GeneralName::OtherName(name.clone()?)),
-            GeneralName::Rfc822Name(text) => Ok(GeneralName::Rfc822Name(text.clone()?)),
-            GeneralName::DnsName(text) => Ok(GeneralName::DnsName(text.clone()?)),
-            GeneralName::DirectoryName(name) => Ok(GeneralName::DirectoryName(name.clone()?)),
-            GeneralName::EdiPartyName(name) => Ok(GeneralName::EdiPartyName(name.clone()?)),
-            GeneralName::Uri(text) => Ok(GeneralName::Uri(text.clone()?)),
-            GeneralName::IpAddress(octets) => Ok(GeneralName::IpAddress(octets.clone()?)),
-            GeneralName::RegisteredId(id) => Ok(GeneralName::RegisteredId(id.clone()?)),
-        }
-    }
+    ghost use Rattle.std.proofs.Common.{rules};
+
+    ghost exact = { Prim.search (rules) };
 }
 
 impl<A: Allocator> SameEq for GeneralName<A> {
-    ghost use Rattle.std.proofs.Common.{rules};
-    ghost use Rattle.std.specs.Cmp.Lexicographic.{bytes_decides, pointwise_decides};
-    ghost use Rattle.x509_names.specs.facts.EdiPartyNames.{parties_decide};
-    ghost use Rattle.x509_names.specs.facts.OtherNames.{others_decide};
-    ghost use Rattle.x509_names.specs.facts.SameGeneralNames.{general_names_decide};
-
-    ghost decides = { general_names_decide ⟦<GeneralName<A> as PartialEq>⟧.eq {N = ⟦<Name<A> as PartialEq>⟧.eq}
-        (λ x y. Prim.search (rules)) others_decide
-        (pointwise_decides (pointwise_decides (λ a b. Prim.search (rules, bytes_decides))))
-        (parties_decide {E = ⟦<DirectoryString<A> as PartialEq>⟧.eq} (λ a b. Prim.search (rules, bytes_decides))) };
+    fn decides() {
+        OtherName::<A>::decides();
+        Ia5StringAsn1::<A>::decides();
+        Name::<A>::decides();
+        EdiPartyName::<A>::decides();
+        OctetStringAsn1::<A>::decides();
+        ObjectIdentifierAsn1::<A>::decides();
+    }
 }
 
 /// The alternatives that are written, the first half of them.
 type StrictFront<A> = Choice<
     Choice<
-        Tagged<Explicit0, ContentOf<Boxed<OtherName<A>, A>>>,
-        Tagged<Implicit1, ContentOf<Ia5StringAsn1<A>>>,
+        Tagged<ContextConstructed<0>, ContentOf<Boxed<OtherName<A>, A>>>,
+        Tagged<ContextPrimitive<1>, ContentOf<Ia5StringAsn1<A>>>,
     >,
-    Choice<Tagged<Implicit2, ContentOf<Ia5StringAsn1<A>>>, Tagged<Explicit4, Name<A>>>,
+    Choice<
+        Tagged<ContextPrimitive<2>, ContentOf<Ia5StringAsn1<A>>>,
+        Tagged<ContextConstructed<4>, Name<A>>,
+    >,
 >;
 
 /// The other half.
 type StrictBack<A> = Choice<
     Choice<
-        Tagged<Explicit5, ContentOf<Boxed<EdiPartyName<A>, A>>>,
-        Tagged<Implicit6, ContentOf<Ia5StringAsn1<A>>>,
+        Tagged<ContextConstructed<5>, ContentOf<Boxed<EdiPartyName<A>, A>>>,
+        Tagged<ContextPrimitive<6>, ContentOf<Ia5StringAsn1<A>>>,
     >,
     Choice<
-        Tagged<Implicit7, ContentOf<OctetStringAsn1<A>>>,
-        Tagged<Implicit8, ContentOf<ObjectIdentifierAsn1<A>>>,
+        Tagged<ContextPrimitive<7>, ContentOf<OctetStringAsn1<A>>>,
+        Tagged<ContextPrimitive<8>, ContentOf<ObjectIdentifierAsn1<A>>>,
     >,
 >;
 
@@ -166,14 +146,20 @@ type Strict<A> = Choice<StrictFront<A>, StrictBack<A>>;
 
 /// The alternatives that are deviations, the first two of them.
 type LooseFront<A> = Choice<
-    Tagged<Explicit1, Ia5StringAsn1<A>>,
-    Tagged<Explicit2, Ia5StringAsn1<A>>,
+    Tagged<ContextConstructed<1>, Ia5StringAsn1<A>>,
+    Tagged<ContextConstructed<2>, Ia5StringAsn1<A>>,
 >;
 
 /// The other four.
 type LooseBack<A> = Choice<
-    Choice<Tagged<Explicit6, Ia5StringAsn1<A>>, Tagged<Explicit7, OctetStringAsn1<A>>>,
-    Choice<Tagged<Explicit8, ObjectIdentifierAsn1<A>>, Tagged<Implicit4, ContentOf<Name<A>>>>,
+    Choice<
+        Tagged<ContextConstructed<6>, Ia5StringAsn1<A>>,
+        Tagged<ContextConstructed<7>, OctetStringAsn1<A>>,
+    >,
+    Choice<
+        Tagged<ContextConstructed<8>, ObjectIdentifierAsn1<A>>,
+        Tagged<ContextPrimitive<4>, ContentOf<Name<A>>>,
+    >,
 >;
 
 /// The alternatives that are deviations.
@@ -212,45 +198,54 @@ fn from_loose<A: Allocator>(parts: Loose<A>) -> GeneralName<A>
     }
 }
 
+/// The tags that the forms are written under.
+const OTHER_NAME: u8 = 0xA0;
+
+const RFC822_NAME: u8 = 0x81;
+
+const DNS_NAME: u8 = 0x82;
+
+const DIRECTORY_NAME: u8 = 0xA4;
+
+const EDI_PARTY_NAME: u8 = 0xA5;
+
+const URI: u8 = 0x86;
+
+const IP_ADDRESS: u8 = 0x87;
+
+const REGISTERED_ID: u8 = 0x88;
+
 impl<A: Allocator> ToDer for GeneralName<A> {
     ghost strict = { λ v. general_names.strict v };
 
     fn encoded_len(&self) -> Result<usize, TooLong> {
         match self {
-            GeneralName::OtherName(name) => element_len(Explicit0::BYTE, &ContentOf(name)),
-            GeneralName::Rfc822Name(text) => element_len(Implicit1::BYTE, &ContentOf(text)),
-            GeneralName::DnsName(text) => element_len(Implicit2::BYTE, &ContentOf(text)),
-            GeneralName::DirectoryName(name) => element_len(Explicit4::BYTE, name),
-            GeneralName::EdiPartyName(name) => element_len(Explicit5::BYTE, &ContentOf(name)),
-            GeneralName::Uri(text) => element_len(Implicit6::BYTE, &ContentOf(text)),
-            GeneralName::IpAddress(octets) => element_len(Implicit7::BYTE, &ContentOf(octets)),
-            GeneralName::RegisteredId(id) => element_len(Implicit8::BYTE, &ContentOf(id)),
+            GeneralName::OtherName(name) => element_len(OTHER_NAME, &ContentOf(name)),
+            GeneralName::Rfc822Name(text) => element_len(RFC822_NAME, &ContentOf(text)),
+            GeneralName::DnsName(text) => element_len(DNS_NAME, &ContentOf(text)),
+            GeneralName::DirectoryName(name) => element_len(DIRECTORY_NAME, name),
+            GeneralName::EdiPartyName(name) => element_len(EDI_PARTY_NAME, &ContentOf(name)),
+            GeneralName::Uri(text) => element_len(URI, &ContentOf(text)),
+            GeneralName::IpAddress(octets) => element_len(IP_ADDRESS, &ContentOf(octets)),
+            GeneralName::RegisteredId(id) => element_len(REGISTERED_ID, &ContentOf(id)),
         }
     }
 
     fn write_back(&self, out: &mut [u8]) -> usize {
         match self {
-            GeneralName::OtherName(name) => write_element(Explicit0::BYTE, &ContentOf(name), out),
-            GeneralName::Rfc822Name(text) => write_element(Implicit1::BYTE, &ContentOf(text), out),
-            GeneralName::DnsName(text) => write_element(Implicit2::BYTE, &ContentOf(text), out),
-            GeneralName::DirectoryName(name) => write_element(Explicit4::BYTE, name, out),
-            GeneralName::EdiPartyName(name) => write_element(
-                Explicit5::BYTE,
-                &ContentOf(name),
-                out,
-            ),
-            GeneralName::Uri(text) => write_element(Implicit6::BYTE, &ContentOf(text), out),
-            GeneralName::IpAddress(octets) => write_element(
-                Implicit7::BYTE,
-                &ContentOf(octets),
-                out,
-            ),
-            GeneralName::RegisteredId(id) => write_element(Implicit8::BYTE, &ContentOf(id), out),
+            GeneralName::OtherName(name) => write_element(OTHER_NAME, &ContentOf(name), out),
+            GeneralName::Rfc822Name(text) => write_element(RFC822_NAME, &ContentOf(text), out),
+            GeneralName::DnsName(text) => write_element(DNS_NAME, &ContentOf(text), out),
+            GeneralName::DirectoryName(name) => write_element(DIRECTORY_NAME, name, out),
+            GeneralName::EdiPartyName(name) => write_element(EDI_PARTY_NAME, &ContentOf(name), out),
+            GeneralName::Uri(text) => write_element(URI, &ContentOf(text), out),
+            GeneralName::IpAddress(octets) => write_element(IP_ADDRESS, &ContentOf(octets), out),
+            GeneralName::RegisteredId(id) => write_element(REGISTERED_ID, &ContentOf(id), out),
         }
     }
 }
 
-impl<A: Allocator + Copy> View<Fields<A>> for GeneralName<A> {
+impl<A: Allocator + Copy> View<Fields<A>, A> for GeneralName<A> {
     ghost base = { general_base };
 
     ghost view = { general_meaning };
@@ -261,10 +256,13 @@ impl<A: Allocator + Copy> View<Fields<A>> for GeneralName<A> {
       edi = ⟦<ContentOf<EdiPartyName<A>> as Field<A>>⟧.lawful tt;
     }) };
 
-    fn meaning(parts: Fields<A>) -> Option<(Self, Found)> {
+    fn meaning(_alloc: A, parts: Fields<A>) -> Result<(Self, WholeDeviations), ReadError> {
         match parts {
-            First(strict) => Some((from_strict(strict), Found::Nothing)),
-            Second(loose) => { Some((from_loose(loose), Found::One(Deviation::GeneralNameForm))) }
+            First(strict) => Ok((from_strict(strict), WholeDeviations::Nothing)),
+            Second(loose) => Ok((
+                from_loose(loose),
+                WholeDeviations::One(Deviation::GeneralNameForm),
+            )),
         }
     }
 }
@@ -278,7 +276,7 @@ type OfFour<F, G, H, I> = Choice<Choice<F, G>, Choice<H, I>>;
 /// # Errors
 /// As the fields; also where none begins there.
 fn read_of_four<
-    T: View<OfFour<F, G, H, I>>,
+    T: View<OfFour<F, G, H, I>, A>,
     F: Field<A>,
     G: Field<A>,
     H: Field<A>,
@@ -338,7 +336,5 @@ impl<A: Allocator + Copy> Field<A> for GeneralName<A> {
 }
 
 impl<A: Allocator + Copy> FromDer<A> for GeneralName<A> {
-    ghost always = { tt };
-
-    ghost whole = { tt };
+    ghost stands_alone = { (tt, tt) };
 }

@@ -39,6 +39,7 @@ pub type DirectoryName<A = Global> = Name<A>;
 /// `Name ::= CHOICE { rdnSequence RDNSequence }` (RFC 5280, 4.1.2.4): tag 30, and the sets one behind another.
 #[derive(Drop)]
 #[derive_where(Debug, PartialEq, Eq)]
+#[derive_where(Clone; A: Copy)]
 pub struct Name<A: Allocator = Global>(pub RdnSequence<A>);
 
 impl<A: Allocator> Model for Name<A> {
@@ -153,29 +154,16 @@ impl<A: Allocator + Copy> Name<A> {
     }
 }
 
-impl<A: Allocator + Copy> Name<A> {
-    /// An equal name.
-    ///
-    /// # Errors
-    /// `AllocError` where memory is refused.
-    pub fn clone(&self) -> Result<Self, AllocError>
-        ensures { IfOk result (λ copy. copy ≡ self.now) }
-    {
-        self.clone_eq()
-    }
-}
-
 impl<A: Allocator + Copy> CloneEq for Name<A> {
-    fn clone_eq(&self) -> Result<Self, AllocError> {
-        Ok(Name(self.0.clone_eq()?))
-    }
+    ghost use Rattle.std.proofs.Common.{rules};
+
+    ghost exact = { Prim.search (rules) };
 }
 
 impl<A: Allocator> SameEq for Name<A> {
-    ghost use Rattle.std.proofs.Common.{rules};
-    ghost use Rattle.std.specs.Cmp.Lexicographic.{bytes_decides, pointwise_decides};
-
-    ghost decides = { pointwise_decides (pointwise_decides (Prim.search (rules, bytes_decides))) };
+    fn decides() {
+        RdnSequence::<A>::decides();
+    }
 }
 
 impl<A: Allocator> ToContent for Name<A> {
@@ -251,9 +239,7 @@ impl<A: Allocator + Copy> Field<A> for Name<A> {
 }
 
 impl<A: Allocator + Copy> FromDer<A> for Name<A> {
-    ghost always = { tt };
-
-    ghost whole = { tt };
+    ghost stands_alone = { (tt, tt) };
 }
 
 impl<A: Allocator + Copy> OneTag<A> for Name<A> {

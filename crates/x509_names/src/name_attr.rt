@@ -1,6 +1,7 @@
 //! The attributes of names whose values are directory strings.
 
-ghost use Rattle.std.specs.Prelude.{◌≡◌, IfOk, Ok};
+ghost use Rattle.std.specs.Prelude.{◌≡◌, ◌∷◌, [], IfOk};
+ghost use Rattle.x509_der.specs.ObjectIdentifier.{arcs_spelled};
 ghost use Rattle.x509_names.specs.Attributes.{arcs_of, attr_of as attr_by};
 
 use std::alloc::{AllocError, Allocator};
@@ -8,7 +9,7 @@ use x509_der::parts::from_lawful;
 use x509_der::{CloneEq, ObjectIdentifier, SameEq};
 
 /// An attribute of a name whose value is a directory string (RFC 5280, appendix A.1; X.520).
-#[derive(Debug, Drop, PartialEq, Eq)]
+#[derive(Clone, Copy, Debug, PartialEq, Eq)]
 pub enum NameAttr {
     /// `id-at-commonName`, 2.5.4.3.
     CommonName,
@@ -50,65 +51,36 @@ const ATTRS: &'static [NameAttr] = &[
 ];
 
 impl SameEq for NameAttr {
-    ghost use Rattle.std.proofs.Common.{rules};
-
-    ghost decides = { Prim.search (rules) };
+    fn decides() {}
 }
 
 impl NameAttr {
-    /// The same attribute. Takes no memory, and so never fails.
-    ///
-    /// # Errors
-    /// None: the type of the answer is that of every `clone`.
-    pub fn clone(&self) -> Result<Self, AllocError>
-        ensures { result ≡ Ok self.now }
-    {
-        Ok(self.copied())
-    }
-
-    /// The arcs of its object identifier.
-    fn arcs(&self) -> &'static [u64]
-        ensures { result.now ≡ arcs_of self.now }
+    /// The last arc of its object identifier: 2.5.4 and this one, which the content spells by `0x55`, 4 and this one.
+    #[tactic(auto, unfolding(x509_der::specs::ObjectIdentifier::numbers_from))]
+    fn last_arc(&self) -> u8
+        ensures arcs { arcs_of self.now ≡ 2 ∷ 5 ∷ 4 ∷ result ∷ [] }
+        ensures content { arcs_spelled (85 ∷ 4 ∷ result ∷ []) ≡ arcs_of self.now }
     {
         match self {
-            NameAttr::CommonName => &[2, 5, 4, 3],
-            NameAttr::Surname => &[2, 5, 4, 4],
-            NameAttr::SerialNumber => &[2, 5, 4, 5],
-            NameAttr::CountryName => &[2, 5, 4, 6],
-            NameAttr::LocalityName => &[2, 5, 4, 7],
-            NameAttr::StateOrProvinceName => &[2, 5, 4, 8],
-            NameAttr::StreetName => &[2, 5, 4, 9],
-            NameAttr::OrganizationName => &[2, 5, 4, 10],
-            NameAttr::OrganizationalUnitName => &[2, 5, 4, 11],
-            NameAttr::GivenName => &[2, 5, 4, 42],
-            NameAttr::Phone => &[2, 5, 4, 20],
-        }
-    }
-
-    /// The same attribute.
-    fn copied(&self) -> Self
-        ensures { result ≡ self.now }
-    {
-        match self {
-            NameAttr::CommonName => NameAttr::CommonName,
-            NameAttr::Surname => NameAttr::Surname,
-            NameAttr::SerialNumber => NameAttr::SerialNumber,
-            NameAttr::CountryName => NameAttr::CountryName,
-            NameAttr::LocalityName => NameAttr::LocalityName,
-            NameAttr::StateOrProvinceName => NameAttr::StateOrProvinceName,
-            NameAttr::StreetName => NameAttr::StreetName,
-            NameAttr::OrganizationName => NameAttr::OrganizationName,
-            NameAttr::OrganizationalUnitName => NameAttr::OrganizationalUnitName,
-            NameAttr::GivenName => NameAttr::GivenName,
-            NameAttr::Phone => NameAttr::Phone,
+            NameAttr::CommonName => 3,
+            NameAttr::Surname => 4,
+            NameAttr::SerialNumber => 5,
+            NameAttr::CountryName => 6,
+            NameAttr::LocalityName => 7,
+            NameAttr::StateOrProvinceName => 8,
+            NameAttr::StreetName => 9,
+            NameAttr::OrganizationName => 10,
+            NameAttr::OrganizationalUnitName => 11,
+            NameAttr::GivenName => 42,
+            NameAttr::Phone => 20,
         }
     }
 }
 
 impl CloneEq for NameAttr {
-    fn clone_eq(&self) -> Result<Self, AllocError> {
-        Ok(self.copied())
-    }
+    ghost use Rattle.std.proofs.Common.{rules};
+
+    ghost exact = { Prim.search (rules) };
 }
 
 /// The attribute that an object identifier says, of those whose values are directory strings.
@@ -116,8 +88,8 @@ pub(crate) fn attr_of<A: Allocator>(identifier: &ObjectIdentifier<A>) -> Option<
     ensures { result ≡ attr_by identifier.now }
 {
     for attr in ATTRS {
-        if identifier.is_arcs(attr.arcs()) {
-            return Some(attr.copied());
+        if identifier.is_content(&[0x55, 4, attr.last_arc()]) {
+            return Some(*attr);
         }
     }
     None
@@ -134,5 +106,5 @@ pub(crate) fn identifier_of<A: Allocator>(
 ) -> Result<ObjectIdentifier<A>, AllocError>
     ensures { IfOk result (λ o. o ≡ arcs_of attr.now) }
 {
-    from_lawful(alloc, attr.arcs())
+    from_lawful(alloc, &[2, 5, 4, attr.last_arc() as u64])
 }

@@ -1,6 +1,6 @@
 //! Names of forms that are told by an object identifier.
 
-ghost use Rattle.std.specs.Prelude.{◌≡◌, refl, IfOk};
+ghost use Rattle.std.specs.Prelude.{◌≡◌, refl};
 ghost use Rattle.x509_der.specs.Structure.{structure};
 ghost use Rattle.x509_der.specs.laws.ContentOf.{content_of_lawful, tagged_fields};
 ghost use Rattle.x509_der.specs.laws.Structure.{structure_lawful, structure_element};
@@ -9,11 +9,10 @@ ghost use Rattle.x509_names.specs.OtherNames.{other_name as other_names};
 ghost use Rattle.x509_names.specs.facts.OtherNames.{other_same};
 
 use crate::boxed::TakesMemory;
-use std::alloc::{AllocError, Allocator, Global};
+use std::alloc::{Allocator, Global};
 use x509_der::parts::{
-    Constructed, Content, Explicit0, Field, Join, OneTag, Reader, SEQUENCE_TAG, Sequence,
-    Structure, Tagged, ToContent, clone_both, element_len, read_as_content, read_sequence,
-    write_element,
+    Constructed, Content, ContextConstructed, Field, Join, OneTag, Reader, SEQUENCE_TAG, Sequence,
+    Structure, Tagged, ToContent, element_len, read_as_content, read_sequence, write_element,
 };
 use x509_der::{
     Asn1RawDer, CloneEq, FromDer, ObjectIdentifierAsn1, ReadError, SameEq, ToDer, TooLong,
@@ -26,6 +25,7 @@ use x509_der::{
 /// looked into: it is any one element.
 #[derive(Drop)]
 #[derive_where(Debug, PartialEq, Eq)]
+#[derive_where(Clone; A: Copy)]
 pub struct OtherName<A: Allocator = Global> {
     /// The form.
     pub type_id: ObjectIdentifierAsn1<A>,
@@ -33,33 +33,21 @@ pub struct OtherName<A: Allocator = Global> {
     pub value: Asn1RawDer<A>,
 }
 
-impl<A: Allocator + Copy> OtherName<A> {
-    /// An equal name.
-    ///
-    /// # Errors
-    /// `AllocError` where memory is refused.
-    pub fn clone(&self) -> Result<Self, AllocError>
-        ensures { IfOk result (λ copy. copy ≡ self.now) }
-    {
-        self.clone_eq()
-    }
-}
-
 impl<A: Allocator + Copy> CloneEq for OtherName<A> {
-    fn clone_eq(&self) -> Result<Self, AllocError> {
-        let (type_id, value) = clone_both(&self.type_id, &self.value)?;
-        Ok(OtherName { type_id, value })
-    }
+    ghost use Rattle.std.proofs.Common.{rules};
+
+    ghost exact = { Prim.search (rules) };
 }
 
 impl<A: Allocator> SameEq for OtherName<A> {
-    ghost use Rattle.x509_names.specs.facts.OtherNames.{others_decide};
-
-    ghost decides = { others_decide };
+    fn decides() {
+        ObjectIdentifierAsn1::<A>::decides();
+        Asn1RawDer::<A>::decides();
+    }
 }
 
 /// The fields in the SEQUENCE, owned or borrowed.
-type Nest<I, V> = Join<I, Tagged<Explicit0, V>>;
+type Nest<I, V> = Join<I, Tagged<ContextConstructed<0>, V>>;
 
 /// The fields, owned.
 type Inner<A> = Nest<ObjectIdentifierAsn1<A>, Asn1RawDer<A>>;
@@ -164,9 +152,7 @@ impl<A: Allocator + Copy> TakesMemory<A> for OtherName<A> {
 }
 
 impl<A: Allocator + Copy> FromDer<A> for OtherName<A> {
-    ghost always = { tt };
-
-    ghost whole = { tt };
+    ghost stands_alone = { (tt, tt) };
 }
 
 impl<A: Allocator + Copy> OneTag<A> for OtherName<A> {

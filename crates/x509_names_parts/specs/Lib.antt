@@ -1,6 +1,6 @@
 pub mod DirectoryStrings
 pub mod DirectoryTexts
-pub mod Times
+pub mod Time
 pub mod Validities
 pub mod Versions
 pub mod facts

@@ -8,9 +8,8 @@ use Rattle.x509_der.specs.Shape.{Shape}
 use Rattle.x509_der.specs.Tagged.{tagged}
 use Rattle.x509_der.specs.Join.{join}
 use Rattle.x509_der.specs.Structure.{structure}
-use Rattle.x509_der.specs.ContentOf.{content_of}
 use Rattle.x509_der.specs.Fields.{Stands}
-use Rattle.x509_names_parts.specs.Times.{time}
+use Rattle.x509_names_parts.specs.Time.{time}
 
 abbrev pub validity_parts : Validity → Time × Time
 validity_parts v = (v.not_before, v.not_after)
@@ -25,10 +24,6 @@ validity_base = tagged 48 validity_inner
 
 abbrev pub validity : Shape Validity
 validity = structure validity_parts validity_base
-
--- its content, without the header
-abbrev pub validity_content : Shape Validity
-validity_content = content_of (structure validity_parts validity_inner)
 
 -- the times one behind the other in the SEQUENCE, each in the form that was taken
 pub record TimesAt (v : Validity) (string : List ℕ) (y : Tally) : Type 0 where

@@ -1,11 +1,10 @@
 -- The version of a certificate (RFC 5280, 4.1.2.1).
-use Rattle.std.specs.Prelude.{◌≡◌, ℕ, ◌==◌, if◌then◌else◌, List, Option, Some, None}
+use Rattle.std.specs.Prelude.{ℕ, ◌==◌, if◌then◌else◌, Option, Some, None}
 use Rattle.x509_names_parts.specs.declared.version.Version.{Version}
 use Rattle.x509_names_parts.specs.declared.version.Version.TheVariants.{V1, V2, V3}
 use Rattle.x509_der.specs.Shape.{Shape}
 use Rattle.x509_der.specs.Tagged.{tagged}
-use Rattle.x509_der.specs.PrimitiveContent.{plain}
-use Rattle.x509_der.specs.SmallInteger.{small_integers, small_integer_content}
+use Rattle.x509_der.specs.SmallInteger.{small_integers}
 use Rattle.x509_der.specs.View.{Meaning, seen}
 use Rattle.x509_der.specs.Partly.{partly}
 
@@ -29,14 +28,3 @@ version_meaning = partly version_of version_number version_base
 -- Version ::= INTEGER { v1(0), v2(1), v3(2) }
 abbrev pub version : Shape Version
 version = seen version_meaning version_base
-
--- its content, without the header: that of the number (X.690, 8.3)
-abbrev pub version_bytes : Version → List ℕ
-version_bytes v = small_integer_content (version_number v)
-
-abbrev pub IsVersion : Version → List ℕ → Type 0
-IsVersion v p = p ≡ version_bytes v
-
--- a version without a header, which is read without memory
-abbrev pub version_content : Shape Version
-version_content = plain IsVersion version_bytes (λ v. Unit {0}) (Unit {0})

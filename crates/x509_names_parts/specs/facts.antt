@@ -1,5 +1,5 @@
 -- Lemmas about the definitions.
 pub mod DirectoryStrings
-pub mod Times
+pub mod Time
 pub mod Validities
 pub mod Versions

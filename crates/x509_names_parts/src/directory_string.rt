@@ -1,11 +1,11 @@
 //! The strings that stand in names.
 
-ghost use Rattle.std.specs.Prelude.{◌≡◌, refl, IfOk};
+ghost use Rattle.std.specs.Prelude.{◌≡◌, refl};
 ghost use Rattle.x509_der.specs.laws.Structure.{structure_lawful, structure_element};
 ghost use Rattle.x509_names_parts.specs.DirectoryStrings.{directory_parts, directory_base, directory_string};
 ghost use Rattle.x509_names_parts.specs.facts.DirectoryStrings.{directory_same, unicode_apart, printable_apart};
 
-use std::alloc::{AllocError, Allocator, Global};
+use std::alloc::{Allocator, Global};
 use x509_der::parts::{
     BMP_STRING_TAG, Choice, Field, PRINTABLE_STRING_TAG, Reader, Structure, UTF8_STRING_TAG,
     read_fields,
@@ -20,6 +20,7 @@ use x509_prim::{BmpStringAsn1, PrintableStringAsn1, Utf8String};
 /// 13, 0C or 1E. The standard's teletexString and universalString are refused, and an empty string is read.
 #[derive(Drop)]
 #[derive_where(Debug, PartialEq, Eq)]
+#[derive_where(Clone; A: Copy)]
 pub enum DirectoryString<A: Allocator = Global> {
     /// Letters, digits, spaces and a few marks.
     PrintableString(PrintableStringAsn1<A>),
@@ -38,35 +39,18 @@ type Fields<A> = Nest<PrintableStringAsn1<A>, Utf8String<A>, BmpStringAsn1<A>>;
 /// The alternatives, borrowed.
 type Written<'a, A> = Nest<&'a PrintableStringAsn1<A>, &'a Utf8String<A>, &'a BmpStringAsn1<A>>;
 
-impl<A: Allocator + Copy> DirectoryString<A> {
-    /// An equal string.
-    ///
-    /// # Errors
-    /// `AllocError` where memory is refused.
-    pub fn clone(&self) -> Result<Self, AllocError>
-        ensures { IfOk result (λ copy. copy ≡ self.now) }
-    {
-        self.clone_eq()
-    }
-}
-
 impl<A: Allocator + Copy> CloneEq for DirectoryString<A> {
-    fn clone_eq(&self) -> Result<Self, AllocError> {
-        match self {
-            DirectoryString::PrintableString(text) => {
-                Ok(DirectoryString::PrintableString(text.clone()?))
-            }
-            DirectoryString::Utf8String(text) => Ok(DirectoryString::Utf8String(text.clone()?)),
-            DirectoryString::BmpString(text) => Ok(DirectoryString::BmpString(text.clone()?)),
-        }
-    }
+    ghost use Rattle.std.proofs.Common.{rules};
+
+    ghost exact = { Prim.search (rules) };
 }
 
 impl<A: Allocator> SameEq for DirectoryString<A> {
-    ghost use Rattle.std.proofs.Common.{rules};
-    ghost use Rattle.std.specs.Cmp.Lexicographic.{bytes_decides};
-
-    ghost decides = { Prim.search (rules, bytes_decides) };
+    fn decides() {
+        PrintableStringAsn1::<A>::decides();
+        Utf8String::<A>::decides();
+        BmpStringAsn1::<A>::decides();
+    }
 }
 
 /// The alternative of a string, to be written.
@@ -139,7 +123,5 @@ impl<A: Allocator + Copy> Field<A> for DirectoryString<A> {
 }
 
 impl<A: Allocator + Copy> FromDer<A> for DirectoryString<A> {
-    ghost always = { tt };
-
-    ghost whole = { tt };
+    ghost stands_alone = { (tt, tt) };
 }

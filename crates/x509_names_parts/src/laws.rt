@@ -3,7 +3,7 @@
 ghost use Rattle.std.specs.Prelude.{ℕ, List};
 ghost use Rattle.x509_der.specs.Tally.{Tally};
 ghost use Rattle.x509_names_parts.specs.DirectoryStrings.{directory_string as directory_strings, StringAt};
-ghost use Rattle.x509_names_parts.specs.Times.{time as times, FormAt};
+ghost use Rattle.x509_names_parts.specs.Time.{time as times, FormAt};
 ghost use Rattle.x509_names_parts.specs.Validities.{validity as validities, TimesAt};
 
 use crate::directory_string::DirectoryString;

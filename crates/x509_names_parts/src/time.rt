@@ -1,11 +1,11 @@
 //! A second, in one of two forms.
 
-ghost use Rattle.std.specs.Prelude.{◌≡◌, refl, Ok};
+ghost use Rattle.std.specs.Prelude.{◌≡◌, refl};
 ghost use Rattle.x509_der.specs.laws.Structure.{structure_lawful, structure_element};
-ghost use Rattle.x509_names_parts.specs.Times.{time_parts, time_base, time as times};
-ghost use Rattle.x509_names_parts.specs.facts.Times.{time_same, times_apart};
+ghost use Rattle.x509_names_parts.specs.Time.{time_parts, time_base, time as times};
+ghost use Rattle.x509_names_parts.specs.facts.Time.{time_same, times_apart};
 
-use std::alloc::{AllocError, Allocator};
+use std::alloc::Allocator;
 use x509_der::parts::{
     Choice, Field, GENERALIZED_TIME_TAG, Reader, Structure, UTC_TIME_TAG, read_fields,
 };
@@ -17,7 +17,7 @@ use x509_prim::{GeneralizedTime, GeneralizedTimeAsn1, UTCTime, UtcTimeAsn1};
 ///
 /// # Encoding
 /// `Time ::= CHOICE { utcTime UTCTime, generalTime GeneralizedTime }`. Reading it takes no memory.
-#[derive(Debug, Drop, PartialEq, Eq)]
+#[derive(Clone, Debug, Drop, PartialEq, Eq)]
 pub enum Time {
     /// In the years 1950 to 2049.
     Utc(UtcTimeAsn1),
@@ -65,31 +65,17 @@ impl From<GeneralizedTime> for Time {
     }
 }
 
-impl Time {
-    /// An equal time. Takes no memory.
-    ///
-    /// # Errors
-    /// None: it answers a `Result` as every `clone` does.
-    pub fn clone(&self) -> Result<Time, AllocError>
-        ensures { result ≡ Ok self.now }
-    {
-        match self {
-            Time::Utc(time) => Ok(Time::Utc(time.clone()?)),
-            Time::Generalized(time) => Ok(Time::Generalized(time.clone()?)),
-        }
-    }
-}
-
 impl CloneEq for Time {
-    fn clone_eq(&self) -> Result<Time, AllocError> {
-        self.clone()
-    }
+    ghost use Rattle.std.proofs.Common.{rules};
+
+    ghost exact = { Prim.search (rules) };
 }
 
 impl SameEq for Time {
-    ghost use Rattle.std.proofs.Common.{rules};
-
-    ghost decides = { Prim.search (rules) };
+    fn decides() {
+        UtcTimeAsn1::decides();
+        GeneralizedTimeAsn1::decides();
+    }
 }
 
 /// The alternatives.
@@ -159,7 +145,5 @@ impl<A: Allocator + Copy> Field<A> for Time {
 }
 
 impl<A: Allocator + Copy> FromDer<A> for Time {
-    ghost always = { tt };
-
-    ghost whole = { tt };
+    ghost stands_alone = { (tt, tt) };
 }

@@ -1,18 +1,15 @@
 //! The version of a certificate.
 
-ghost use Rattle.std.specs.Prelude.{◌≡◌, refl, IfSome, IfNone};
+ghost use Rattle.std.specs.Prelude.{◌≡◌, refl, Err, IfErr};
 ghost use Rattle.x509_der.specs.Types.read_error.{BadVersion, OutOfMemory};
+ghost use Rattle.x509_der.specs.View.{meant};
 ghost use Rattle.x509_der.specs.laws.Meaning.{seen_lawful, seen_element};
 ghost use Rattle.x509_names_parts.specs.declared.version.Version.{Version};
 ghost use Rattle.x509_names_parts.specs.Versions.{version_number, version_of, version_base, version_meaning, version};
-ghost use Rattle.x509_names_parts.specs.Versions.{version_bytes, version_content};
-ghost use Rattle.x509_names_parts.specs.facts.Versions.{version_is, version_keeps, version_content_lawful, version_around};
+ghost use Rattle.x509_names_parts.specs.facts.Versions.{version_is, version_keeps};
 
-use std::alloc::{AllocError, Allocator};
-use x509_der::parts::{
-    Content, Field, Found, INTEGER_TAG, OneTag, Primitive, Reader, Refusal, ToContent, View,
-    read_viewed_or,
-};
+use std::alloc::Allocator;
+use x509_der::parts::{Field, INTEGER_TAG, Reader, View, WholeDeviations, read_viewed};
 use x509_der::{CloneEq, FromDer, ReadError, SameEq, ToDer, TooLong};
 
 /// The version of a certificate (RFC 5280, 4.1.2.1).
@@ -63,15 +60,13 @@ impl Version {
 }
 
 impl CloneEq for Version {
-    fn clone_eq(&self) -> Result<Version, AllocError> {
-        Ok(*self)
-    }
+    ghost use Rattle.std.proofs.Common.{rules};
+
+    ghost exact = { Prim.search (rules) };
 }
 
 impl SameEq for Version {
-    ghost use Rattle.std.proofs.Common.{rules};
-
-    ghost decides = { Prim.search (rules) };
+    fn decides() {}
 }
 
 impl ToDer for Version {
@@ -86,37 +81,22 @@ impl ToDer for Version {
     }
 }
 
-impl ToContent for Version {
-    ghost content = { version_bytes };
-
-    fn content_len(&self) -> Result<usize, TooLong> {
-        self.number().content_len()
-    }
-
-    fn write_content(&self, out: &mut [u8]) -> usize {
-        self.number().write_content(out)
-    }
-}
-
-impl View<u8> for Version {
+impl<A: Allocator> View<u8, A> for Version {
     ghost base = { version_base };
 
     ghost view = { version_meaning };
 
     ghost keeps = { version_keeps };
 
-    fn meaning(parts: u8) -> Option<(Self, Found)> {
-        let version = Version::from_u8(parts)?;
-        Some((version, Found::Nothing))
-    }
-}
-
-impl Refusal<u8> for Version {
-    fn refusal(_parts: &u8) -> ReadError
-        ensures memory { result ≡ OutOfMemory → ⊥ }
-        ensures name { result ≡ BadVersion }
+    fn meaning(_alloc: A, parts: u8) -> Result<(Self, WholeDeviations), ReadError>
+        ensures meaning { version_meaning.of parts ≡ meant result }
+        ensures refusal { result ≡ Err OutOfMemory → ⊥ }
+        ensures name { IfErr result (λ e. e ≡ BadVersion) }
     {
-        ReadError::BadVersion
+        match Version::from_u8(parts) {
+            Some(version) => Ok((version, WholeDeviations::Nothing)),
+            None => Err(ReadError::BadVersion),
+        }
     }
 }
 
@@ -137,60 +117,10 @@ impl<A: Allocator + Copy> Field<A> for Version {
     fn known(&self) {}
 
     fn read(alloc: A, reader: &mut Reader<'_, A>) -> Result<Self, ReadError> {
-        read_viewed_or::<Self, u8, Self, A>(alloc, reader)
-    }
-}
-
-/// The version of a content.
-#[tactic(auto, using(crate::specs::facts::Versions::one_byte, crate::specs::facts::Versions::no_byte, crate::specs::facts::Versions::one_long))]
-fn version_in(bytes: &[u8]) -> Option<Version>
-    ensures some { IfSome result (λ v. bytes.now ≡ version_bytes v) }
-    ensures none { IfNone result ((v : Version) → bytes.now ≡ version_bytes v → ⊥) }
-{
-    match bytes {
-        [number] => Version::from_u8(*number),
-        _ => None,
-    }
-}
-
-impl<A: Allocator + Copy> Content<A> for Version {
-    ghost content_shape = { version_content };
-
-    ghost content_fits = { Unit {0} };
-
-    ghost content_lawful = { λ h. version_content_lawful };
-
-    ghost content_always = { tt };
-
-    ghost open = { λ b. refl };
-
-    ghost content_agrees = { λ v. refl };
-
-    fn known_content(&self) {}
-
-    fn read_content(_alloc: A, reader: &mut Reader<'_, A>) -> Result<Self, ReadError> {
-        let Some(version) = version_in(reader.rest()) else {
-            return Err(ReadError::BadVersion);
-        };
-        reader.pass_rest();
-        Ok(version)
+        read_viewed::<Self, u8, A>(alloc, reader)
     }
 }
 
 impl<A: Allocator + Copy> FromDer<A> for Version {
-    ghost always = { tt };
-
-    ghost whole = { tt };
-}
-
-impl<A: Allocator + Copy> OneTag<A> for Version {
-    type Form = Primitive;
-
-    ghost tag = { 2 };
-
-    ghost form = { refl };
-
-    ghost spelled_around = { λ v p y. version_around v p y };
-
-    ghost strict_around = { λ v. refl };
+    ghost stands_alone = { (tt, tt) };
 }

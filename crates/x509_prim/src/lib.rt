@@ -17,4 +17,5 @@ pub use crate::printable_string::{PrintableCharSet, PrintableString, PrintableSt
 pub use crate::restricted_string::{AsciiCharSet, CharSet, RestrictedString, RestrictedStringAsn1};
 pub use crate::utf8_string::Utf8String;
 pub use x509_prim_parts::generalized_time::{GeneralizedTime, GeneralizedTimeAsn1};
+pub use x509_prim_parts::time_asn1::TimeAsn1;
 pub use x509_prim_parts::utc_time::{UTCTime, UtcTimeAsn1};

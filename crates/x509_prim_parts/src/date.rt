@@ -1,29 +1,59 @@
 //! What the two types of times have in common.
 
-ghost use Rattle.std.specs.Prelude.{◌≡◌, ◌↔◌, IsTrue, SomeIff, Ok};
+ghost use Rattle.std.specs.Prelude.{◌≡◌, ◌+◌, ◌≤◌, ◌↔◌, ◌++◌, ℕ, List, length, take, IsTrue, SomeIff, IfSome, IfNone};
+ghost use Rattle.x509_der.specs.Element.{form_bit};
+ghost use Rattle.x509_der.specs.laws.PrimitiveContent.{IsPlain};
 ghost use Rattle.x509_prim_parts.specs.Calendar.{Moment, IsMoment, moment};
 
 use crate::calendar::DateTime;
-use std::alloc::AllocError;
 use std::marker::{Model, PhantomData};
+use x509_der::parts::Tag;
 use x509_der::{CloneEq, SameEq};
 
-/// The years of a type of times, at the level of types.
-pub trait Years {
+/// The years of a type of times, at the level of types, with the type's tag and its texts.
+pub trait Years: Tag {
     /// The seconds of these years.
     ghost allowed: { Moment → Type 0 };
 
     /// Each of them is a second of a day of the calendar.
     ghost lawful: { (m : Moment) → allowed m → IsMoment m };
 
+    /// The seconds that a text says.
+    ghost says: { Moment → List ℕ → Type 0 };
+
+    /// The text of a second.
+    ghost text: { Moment → List ℕ };
+
+    /// A text says one second, of these years, and is its text; and the text of each second of these years says it.
+    ghost plain: { IsPlain says text allowed };
+
     /// Whether a second is one of these years. Takes no memory.
     fn have(moment: DateTime) -> bool
         ensures { IsTrue result ↔ allowed moment };
+
+    /// The second that a text says. Takes no memory.
+    fn moment_of(content: &[u8]) -> Option<DateTime>
+        ensures some { IfSome result (λ t. says t content.now) }
+        ensures none { IfNone result ((t : Moment) → says t content.now → ⊥) };
+
+    /// How long the text of a second is.
+    fn text_len(moment: &DateTime) -> usize
+        ensures { result ≡ length (text moment.now) };
+
+    /// Fills the end of a slice that is long enough with the text of a second, and answers where it begins. The bytes
+    /// before it are unchanged. Takes no memory.
+    fn write_text(moment: &DateTime, out: &mut [u8]) -> usize
+        requires { length (text moment.now) ≤ length out.old }
+        ensures start { result + length (text moment.now) ≡ length out.old }
+        ensures bytes { out.new ≡ take result out.old ++ text moment.now };
+
+    /// The tag is a primitive one.
+    ghost primitive: { form_bit Self.BYTE ≡ 0 };
 }
 
 /// A second of a day of the years `Y`, in the Gregorian calendar and in UTC. Contracts see its six numbers.
 #[derive(Drop)]
-#[derive_where(Debug, PartialEq, Eq)]
+#[derive_where(Clone, Debug, PartialEq, Eq)]
 pub struct Date<Y: Years> {
     moment: DateTime,
     years: PhantomData<Y>,
@@ -109,35 +139,21 @@ impl<Y: Years> Date<Y> {
         self.moment.second()
     }
 
-    /// What a text has of the time from the month on.
-    pub(crate) fn behind_year(&self) -> &DateTime
-        ensures { result.now ≡ self.now }
+    /// The six numbers.
+    pub(crate) fn moment(&self) -> &DateTime
+        ensures moment { result.now ≡ self.now }
+        ensures lawful { Y.allowed self.now }
     {
         &self.moment
-    }
-
-    /// An equal time. Takes no memory.
-    ///
-    /// # Errors
-    /// None: it answers a `Result` as every `clone` does.
-    pub fn clone(&self) -> Result<Self, AllocError>
-        ensures { result ≡ Ok self.now }
-    {
-        Ok(Date {
-            moment: self.moment,
-            years: PhantomData,
-        })
     }
 }
 
 impl<Y: Years> CloneEq for Date<Y> {
-    fn clone_eq(&self) -> Result<Self, AllocError> {
-        self.clone()
-    }
+    ghost use Rattle.std.proofs.Common.{rules};
+
+    ghost exact = { Prim.search (rules) };
 }
 
 impl<Y: Years> SameEq for Date<Y> {
-    ghost use Rattle.std.proofs.Common.{rules};
-
-    ghost decides = { Prim.search (rules) };
+    fn decides() {}
 }

@@ -19,7 +19,7 @@ pub(crate) fn extensions<A: Allocator + Copy, S: Sink>(
 ) -> Result<(), S::Error> {
     let mut items = at.inside;
     sink.begin(Label::Field(field), at.span, Shape::Items)?;
-    for item in &value.0 {
+    for item in &value.0.0 {
         extension(sink, bytes, items.next().span, item)?;
     }
     sink.end()
@@ -91,8 +91,8 @@ impl<A: Allocator + Copy> Reported for Extensions<A> {
     }
 
     fn summary<W: Write>(&self, out: &mut W) -> fmt::Result {
-        writeln!(out, "  extensions  {}", self.0.len())?;
-        for extension in &self.0 {
+        writeln!(out, "  extensions  {}", self.0.0.len())?;
+        for extension in &self.0.0 {
             if let ExtensionView::SubjectAltName(names) = extension.extn_value() {
                 writeln!(out, "  names       {}", NamesLine(names))?;
             }

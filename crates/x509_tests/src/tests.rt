@@ -5,7 +5,6 @@ mod attributes;
 mod callers;
 mod certificates;
 mod character_strings;
-mod clones;
 mod damages;
 mod elements;
 mod explained;

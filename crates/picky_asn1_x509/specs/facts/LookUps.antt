@@ -1,8 +1,8 @@
 -- What another view lends isn't what is looked for.
 use Rattle.std.proofs.Common.{◌≡◌, None, refl}
 use Rattle.picky_asn1_x509_parts.specs.Extensions.{viewed}
-use Rattle.picky_asn1_x509_parts.specs.declared.extension.ExtensionView.{ExtensionView}
-use Rattle.picky_asn1_x509_parts.specs.declared.extension.ExtensionView.TheVariants as view
+use Rattle.picky_asn1_x509_parts.specs.declared.extension_view.ExtensionView.{ExtensionView}
+use Rattle.picky_asn1_x509_parts.specs.declared.extension_view.ExtensionView.TheVariants as view
 use Rattle.picky_asn1_x509.specs.LookUps.{subject_key_in, authority_key_in, constraints_in}
 
 -- what another view lends holds no subject key identifier

@@ -6,7 +6,7 @@ use Rattle.x509_der.specs.facts.Lists.{same_append}
 use Rattle.x509_der.specs.laws.StrictSpelling.{agree_items}
 use Rattle.x509_names.specs.facts.NameFacts.{name_agrees}
 use Rattle.x509_keys.specs.facts.SubjectPublicKeyInfos.{subject_agrees}
-use Rattle.picky_asn1_x509_parts.specs.RequestAttributes.{attribute, attribute_bytes}
+use Rattle.picky_asn1_x509_parts.specs.Attribute.{attribute, attribute_bytes}
 use Rattle.picky_asn1_x509_parts.specs.facts.AttributeFacts.{attribute_agrees}
 use Rattle.picky_asn1_x509_parts.specs.declared.attribute.Attribute.{Attribute}
 use Rattle.picky_asn1_x509.specs.Requests.{InfoFields, info_parts, request_info, info_bytes, request_attributes, request_attributes_bytes, RequestFields, request_parts, request, request_bytes}

@@ -28,7 +28,7 @@ use Rattle.picky_asn1_x509_parts.specs.Extensions.{ExtensionFields}
 use Rattle.picky_asn1_x509_parts.specs.ExtensionLists.{extensions, extensions_bytes}
 use Rattle.picky_asn1_x509_parts.specs.facts.ExtensionListFacts.{extensions_agree}
 use Rattle.picky_asn1_x509.specs.declared.tbs_certificate.TbsCertificate.{TbsCertificate}
-use Rattle.picky_asn1_x509.specs.TbsCertificates.{CoreFields, EndFields, TbsFields, version_field, core, extensions_field, ends, after_version, tbs_inner, tbs_base, version_in, written_version, version_kinds, list_in, written_list, list_kinds, is_fitting, ids_fit, extensions_fit, tbs_with, core_of, issuer_id_field, subject_id_field, tbs_of, tbs_back, tbs_means, tbs_meaning, tbs_certificate, core_bytes, id_bytes, list_bytes, end_bytes, tbs_bytes}
+use Rattle.picky_asn1_x509.specs.TbsCertificates.{RequiredFields, EndFields, TbsFields, version_field, required_fields, extensions_field, ends, after_version, tbs_inner, tbs_base, version_in, written_version, version_kinds, list_in, written_list, list_kinds, is_fitting, ids_fit, extensions_fit, tbs_with, required_of, issuer_id_field, subject_id_field, tbs_of, tbs_back, tbs_means, tbs_meaning, tbs_certificate, required_bytes, id_bytes, list_bytes, end_bytes, tbs_bytes}
 
 -- fields that are told apart by their first bytes
 pub version_apart : (c : ℕ) → (eqb c 2 || (eqb c 48 || (eqb c 48 || (eqb c 48 || (eqb c 48 || eqb c 48)))) || (eqb c 129 || (eqb c 130 || eqb c 163))) ≡ true → (false || eqb c 160) ≡ false
@@ -69,11 +69,6 @@ read_version s (Some V1) d = tt
 read_version s (Some V2) d = d
 read_version s (Some V3) d = d
 
-pub valid_version : (s : Shape Version) (v : Version) → s.valid v → (optional s).valid (written_version v)
-valid_version s V1 d = tt
-valid_version s V2 d = d
-valid_version s V3 d = d
-
 -- a list that is written, and one that was read
 same_list : {E : Type 0} (es : List E) → list_in (written_list es) ≡ es
 same_list [] = refl
@@ -98,10 +93,6 @@ read_list s None d = tt
 read_list s (Some []) d = tt
 read_list s (Some (e ∷ es)) d = d
 
-pub valid_list : {E : Type 0} (s : Shape (List E)) (es : List E) → s.valid es → (optional s).valid (written_list es)
-valid_list s [] d = tt
-valid_list s (e ∷ es) d = d
-
 -- neither of two lists has anything where both together have nothing
 none_left : (ks ls : List Deviation) → ks ++ ls ≡ [] → (ks ≡ []) × (ls ≡ [])
 none_left [] ls e = (refl, e)
@@ -114,8 +105,8 @@ written_means v h =
     let s = v.subject_unique_id in
     let ks = version_kinds (written_version v.version) in
     let ls = list_kinds (written_list v.extensions) in
-    ap (λ n. read_if (ids_fit n i s && extensions_fit n (list_in (written_list v.extensions))) (tbs_with n (core_of v) i s (list_in (written_list v.extensions))) (ks ++ ls)) (same_version v.version)
-    ∙ ap (λ es. read_if (ids_fit v.version i s && extensions_fit v.version es) (tbs_with v.version (core_of v) i s es) (ks ++ ls)) (same_list v.extensions)
+    ap (λ n. read_if (ids_fit n i s && extensions_fit n (list_in (written_list v.extensions))) (tbs_with n (required_of v) i s (list_in (written_list v.extensions))) (ks ++ ls)) (same_version v.version)
+    ∙ ap (λ es. read_if (ids_fit v.version i s && extensions_fit v.version es) (tbs_with v.version (required_of v) i s es) (ks ++ ls)) (same_list v.extensions)
     ∙ ap (λ x. read_if (is_fitting v) v (x ++ ls)) (no_version_kinds v.version)
     ∙ ap (λ x. read_if (is_fitting v) v x) (no_list_kinds v.extensions)
     ∙ ap (λ t. read_if t v []) h
@@ -186,8 +177,8 @@ pub tbs_keeps : {A : Type 0} → Lawful version → Lawful version_field → Law
 tbs_keeps n m r l = (tagged_lawful 48 tbs_inner l, tbs_seen n m r l)
 
 -- what is written is the strict spelling
-pub core_agrees : {A : Type 0} (c : CoreFields A) → core.strict c ≡ core_bytes c
-core_agrees c =
+pub required_agree : {A : Type 0} (c : RequiredFields A) → required_fields.strict c ≡ required_bytes c
+required_agree c =
     ap (λ x. element 2 c.0 ++ x) (same_append (algorithm_agrees (written_fields c.1.0)) (same_append (name_agrees c.1.1.0) (ap (λ x. validity.strict c.1.1.1.0 ++ x) (same_append (name_agrees c.1.1.1.1.0) (subject_agrees c.1.1.1.1.1)))))
 
 list_agrees : {A : Type 0} (es : Option (List (ExtensionFields A))) → (optional extensions_field).strict es ≡ list_bytes es
@@ -197,7 +188,7 @@ end_agrees : {A : Type 0} (e : EndFields A) → ends.strict e ≡ end_bytes e
 end_agrees e = ap (λ x. id_bytes 129 e.0 ++ (id_bytes 130 e.1.0 ++ x)) (list_agrees e.1.1)
 
 pub tbs_agrees : {A : Type 0} (v : TbsCertificate A) → tbs_certificate.strict v ≡ tbs_bytes v
-tbs_agrees v = ap (λ x. element 48 ((optional version_field).strict (written_version v.version) ++ x)) (same_append (core_agrees (core_of v)) (end_agrees (tbs_back v).1.1))
+tbs_agrees v = ap (λ x. element 48 ((optional version_field).strict (written_version v.version) ++ x)) (same_append (required_agree (required_of v)) (end_agrees (tbs_back v).1.1))
 
 -- a value is read back exactly where its version fits and its fields are read back
 version_readable : (v : Version) → (optional version_field).readable (written_version v)
@@ -217,7 +208,7 @@ bits_readable : (s : Shape (List Bool)) → ((b : List Bool) → s.readable b) �
 bits_readable s r None = tt
 bits_readable s r (Some b) = r b
 
-pub tbs_readable : {A : Type 0} (v : TbsCertificate A) → (is_fitting v ≡ true) × (core.readable (core_of v) × extensions.readable v.extensions) → tbs_certificate.readable v
+pub tbs_readable : {A : Type 0} (v : TbsCertificate A) → (is_fitting v ≡ true) × (required_fields.readable (required_of v) × extensions.readable v.extensions) → tbs_certificate.readable v
 tbs_readable v r = (
   r.0,
   (
@@ -229,5 +220,5 @@ tbs_readable v r = (
   ),
 )
 
-pub readable_tbs : {A : Type 0} (v : TbsCertificate A) → tbs_certificate.readable v → (is_fitting v ≡ true) × (core.readable (core_of v) × extensions.readable v.extensions)
+pub readable_tbs : {A : Type 0} (v : TbsCertificate A) → tbs_certificate.readable v → (is_fitting v ≡ true) × (required_fields.readable (required_of v) × extensions.readable v.extensions)
 readable_tbs v r = (r.0, (r.1.1.0, readable_list v.extensions r.1.1.1.1.1))

@@ -4,12 +4,12 @@ use Rattle.x509_der.specs.DefinedBy.{IsFamily}
 use Rattle.x509_der.specs.Element.{element}
 use Rattle.x509_der.specs.ObjectIdentifier.{oid_content}
 use Rattle.x509_der.specs.RawElement.{raws}
-use Rattle.x509_der.specs.Shape.{Shape, Lawful}
+use Rattle.x509_der.specs.Shape.{Lawful}
 use Rattle.x509_der.specs.laws.RawElement.{raws_lawful}
 use Rattle.x509_der.specs.laws.StrictSpelling.{agree_items}
 use Rattle.x509_der.specs.laws.Variant.{variant_lawful, IsVariant}
 use Rattle.picky_asn1_x509_parts.specs.ExtensionLists.{extensions, extensions_bytes}
-use Rattle.picky_asn1_x509_parts.specs.RequestAttributes.{kind_of, requests, content_types, statements, digests, times, value_bytes, IsValue, by_kind, Fields, attribute_parts, attribute, attribute_bytes}
+use Rattle.picky_asn1_x509_parts.specs.Attribute.{kind_of, requests, content_types, statements, digests, times, value_bytes, IsValue, by_kind, attribute, attribute_bytes}
 use Rattle.picky_asn1_x509_parts.specs.facts.ExtensionListFacts.{extensions_agree}
 use Rattle.picky_asn1_x509_parts.specs.declared.attribute.AttributeKind.{AttributeKind}
 use Rattle.picky_asn1_x509_parts.specs.declared.attribute.AttributeValues.{AttributeValues}

@@ -5,7 +5,7 @@ use Rattle.picky_asn1_x509_parts.specs.declared.attribute.AttributeKind.{Attribu
 use Rattle.picky_asn1_x509_parts.specs.declared.attribute.AttributeKind.TheVariants as kinds
 use Rattle.picky_asn1_x509_parts.specs.declared.attribute.AttributeValues.{AttributeValues}
 use Rattle.picky_asn1_x509_parts.specs.declared.attribute.AttributeValues.TheVariants as value
-use Rattle.picky_asn1_x509_parts.specs.RequestAttributes.{kind_of, kind_in, AreReadable, by_kind, attribute}
+use Rattle.picky_asn1_x509_parts.specs.Attribute.{kind_of, kind_in, AreReadable, by_kind, attribute}
 
 reads_as : {A : Type 0} (k : AttributeKind) (v : AttributeValues A) → kind_in v ≡ k → AreReadable v → (by_kind k).readable v
 reads_as kinds.Extensions (value.Extensions x) e h = record { payload = x; is = refl; readable = h }

@@ -1,6 +1,6 @@
 -- Attributes with the same type and the same values are the same.
 use Rattle.std.proofs.Common.{◌≡◌, ap}
-use Rattle.picky_asn1_x509_parts.specs.RequestAttributes.{Fields, attribute_parts}
+use Rattle.picky_asn1_x509_parts.specs.Attribute.{Fields, attribute_parts}
 use Rattle.picky_asn1_x509_parts.specs.declared.attribute.Attribute.{Attribute}
 
 abbrev pub attribute_of : {A : Type 0} → Fields A → Attribute A

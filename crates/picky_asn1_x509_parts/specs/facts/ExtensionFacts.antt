@@ -7,7 +7,7 @@ use Rattle.x509_der.specs.Element.{element}
 use Rattle.x509_der.specs.Optional.{optional}
 use Rattle.x509_der.specs.PrimitiveContent.{octets}
 use Rattle.x509_der.specs.Reading.{Cursor, Accepts}
-use Rattle.x509_der.specs.Shape.{Shape, Lawful}
+use Rattle.x509_der.specs.Shape.{Lawful}
 use Rattle.x509_der.specs.Tagged.{tagged}
 use Rattle.x509_der.specs.Tally.{Tally}
 use Rattle.x509_der.specs.facts.Alternatives.{byte_apart}
@@ -17,12 +17,12 @@ use Rattle.x509_der.specs.laws.PrimitiveContent.{octets_lawful}
 use Rattle.x509_der.specs.laws.Tagged.{tagged_lawful}
 use Rattle.x509_der.specs.laws.Variant.{variant_lawful, IsVariant}
 use Rattle.x509_der.specs.laws.View.{some_one}
-use Rattle.picky_asn1_x509_parts.specs.facts.KeyAuthorityFacts.{authority_agrees}
+use Rattle.picky_asn1_x509_parts.specs.facts.AuthorityKeyIdentifierFacts.{authority_agrees}
 use Rattle.picky_asn1_x509_parts.specs.Extensions.{kind_of, kind_in, authority_key, subject_key, usage, names, constraints, purposes, generic, crl_number, value_bytes, IsValue, IsReadable, by_kind, Key, Fields, key, inner, extension_base, fields_bytes, AreFitting, ExtensionFields, IsFitting, critical_of, written_critical, critical_kinds, extension_of, extension_means, extension_back, extension_meaning, extension, extension_bytes}
-use Rattle.picky_asn1_x509_parts.specs.declared.extension.ExtensionKind.{ExtensionKind}
-use Rattle.picky_asn1_x509_parts.specs.declared.extension.ExtensionValue.{ExtensionValue}
-use Rattle.picky_asn1_x509_parts.specs.declared.extension.ExtensionKind.TheVariants as kinds
-use Rattle.picky_asn1_x509_parts.specs.declared.extension.ExtensionValue.TheVariants as value
+use Rattle.picky_asn1_x509_parts.specs.declared.extension_value.ExtensionKind.{ExtensionKind}
+use Rattle.picky_asn1_x509_parts.specs.declared.extension_value.ExtensionValue.{ExtensionValue}
+use Rattle.picky_asn1_x509_parts.specs.declared.extension_value.ExtensionKind.TheVariants as kinds
+use Rattle.picky_asn1_x509_parts.specs.declared.extension_value.ExtensionValue.TheVariants as value
 
 authority_kind : {A : Type 0} → IsVariant {V = ExtensionValue A} value.AuthorityKeyIdentifier value_bytes IsValue authority_key
 authority_kind = record { strict = λ u. ap (element 4) (sym (authority_agrees u)); valid = λ u h. h; payload = λ u h. h }
@@ -130,88 +130,19 @@ pub read_fitting : {A : Type 0} (old new : Cursor) (f : Fields A) → Accepts in
 read_fitting old new f a = kind_spelled (kind_of f.0.0) f.1 a.spelled.back a.spelled.second a.spelled.aft
 
 -- a value of a kind is read back as itself where what it holds is
+own_kind : {A : Type 0} (v : ExtensionValue A) → IsReadable v → (by_kind (kind_in v)).readable v
+own_kind (value.AuthorityKeyIdentifier u) h = record { payload = u; is = refl; readable = h }
+own_kind (value.SubjectKeyIdentifier u) h = record { payload = u; is = refl; readable = h }
+own_kind (value.KeyUsage u) h = record { payload = u; is = refl; readable = h }
+own_kind (value.SubjectAltName u) h = record { payload = u; is = refl; readable = h }
+own_kind (value.IssuerAltName u) h = record { payload = u; is = refl; readable = h }
+own_kind (value.BasicConstraints u) h = record { payload = u; is = refl; readable = h }
+own_kind (value.ExtendedKeyUsage u) h = record { payload = u; is = refl; readable = h }
+own_kind (value.Generic u) h = record { payload = u; is = refl; readable = h }
+own_kind (value.CrlNumber u) h = record { payload = u; is = refl; readable = h }
+
 reads_as : {A : Type 0} (k : ExtensionKind) (v : ExtensionValue A) → kind_in v ≡ k → IsReadable v → (by_kind k).readable v
-reads_as kinds.AuthorityKeyIdentifier (value.AuthorityKeyIdentifier u) e h = record { payload = u; is = refl; readable = h }
-reads_as kinds.AuthorityKeyIdentifier (value.SubjectKeyIdentifier u) e h = cc
-reads_as kinds.AuthorityKeyIdentifier (value.KeyUsage u) e h = cc
-reads_as kinds.AuthorityKeyIdentifier (value.SubjectAltName u) e h = cc
-reads_as kinds.AuthorityKeyIdentifier (value.IssuerAltName u) e h = cc
-reads_as kinds.AuthorityKeyIdentifier (value.BasicConstraints u) e h = cc
-reads_as kinds.AuthorityKeyIdentifier (value.ExtendedKeyUsage u) e h = cc
-reads_as kinds.AuthorityKeyIdentifier (value.Generic u) e h = cc
-reads_as kinds.AuthorityKeyIdentifier (value.CrlNumber u) e h = cc
-reads_as kinds.SubjectKeyIdentifier (value.AuthorityKeyIdentifier u) e h = cc
-reads_as kinds.SubjectKeyIdentifier (value.SubjectKeyIdentifier u) e h = record { payload = u; is = refl; readable = h }
-reads_as kinds.SubjectKeyIdentifier (value.KeyUsage u) e h = cc
-reads_as kinds.SubjectKeyIdentifier (value.SubjectAltName u) e h = cc
-reads_as kinds.SubjectKeyIdentifier (value.IssuerAltName u) e h = cc
-reads_as kinds.SubjectKeyIdentifier (value.BasicConstraints u) e h = cc
-reads_as kinds.SubjectKeyIdentifier (value.ExtendedKeyUsage u) e h = cc
-reads_as kinds.SubjectKeyIdentifier (value.Generic u) e h = cc
-reads_as kinds.SubjectKeyIdentifier (value.CrlNumber u) e h = cc
-reads_as kinds.KeyUsage (value.AuthorityKeyIdentifier u) e h = cc
-reads_as kinds.KeyUsage (value.SubjectKeyIdentifier u) e h = cc
-reads_as kinds.KeyUsage (value.KeyUsage u) e h = record { payload = u; is = refl; readable = h }
-reads_as kinds.KeyUsage (value.SubjectAltName u) e h = cc
-reads_as kinds.KeyUsage (value.IssuerAltName u) e h = cc
-reads_as kinds.KeyUsage (value.BasicConstraints u) e h = cc
-reads_as kinds.KeyUsage (value.ExtendedKeyUsage u) e h = cc
-reads_as kinds.KeyUsage (value.Generic u) e h = cc
-reads_as kinds.KeyUsage (value.CrlNumber u) e h = cc
-reads_as kinds.SubjectAltName (value.AuthorityKeyIdentifier u) e h = cc
-reads_as kinds.SubjectAltName (value.SubjectKeyIdentifier u) e h = cc
-reads_as kinds.SubjectAltName (value.KeyUsage u) e h = cc
-reads_as kinds.SubjectAltName (value.SubjectAltName u) e h = record { payload = u; is = refl; readable = h }
-reads_as kinds.SubjectAltName (value.IssuerAltName u) e h = cc
-reads_as kinds.SubjectAltName (value.BasicConstraints u) e h = cc
-reads_as kinds.SubjectAltName (value.ExtendedKeyUsage u) e h = cc
-reads_as kinds.SubjectAltName (value.Generic u) e h = cc
-reads_as kinds.SubjectAltName (value.CrlNumber u) e h = cc
-reads_as kinds.IssuerAltName (value.AuthorityKeyIdentifier u) e h = cc
-reads_as kinds.IssuerAltName (value.SubjectKeyIdentifier u) e h = cc
-reads_as kinds.IssuerAltName (value.KeyUsage u) e h = cc
-reads_as kinds.IssuerAltName (value.SubjectAltName u) e h = cc
-reads_as kinds.IssuerAltName (value.IssuerAltName u) e h = record { payload = u; is = refl; readable = h }
-reads_as kinds.IssuerAltName (value.BasicConstraints u) e h = cc
-reads_as kinds.IssuerAltName (value.ExtendedKeyUsage u) e h = cc
-reads_as kinds.IssuerAltName (value.Generic u) e h = cc
-reads_as kinds.IssuerAltName (value.CrlNumber u) e h = cc
-reads_as kinds.BasicConstraints (value.AuthorityKeyIdentifier u) e h = cc
-reads_as kinds.BasicConstraints (value.SubjectKeyIdentifier u) e h = cc
-reads_as kinds.BasicConstraints (value.KeyUsage u) e h = cc
-reads_as kinds.BasicConstraints (value.SubjectAltName u) e h = cc
-reads_as kinds.BasicConstraints (value.IssuerAltName u) e h = cc
-reads_as kinds.BasicConstraints (value.BasicConstraints u) e h = record { payload = u; is = refl; readable = h }
-reads_as kinds.BasicConstraints (value.ExtendedKeyUsage u) e h = cc
-reads_as kinds.BasicConstraints (value.Generic u) e h = cc
-reads_as kinds.BasicConstraints (value.CrlNumber u) e h = cc
-reads_as kinds.ExtendedKeyUsage (value.AuthorityKeyIdentifier u) e h = cc
-reads_as kinds.ExtendedKeyUsage (value.SubjectKeyIdentifier u) e h = cc
-reads_as kinds.ExtendedKeyUsage (value.KeyUsage u) e h = cc
-reads_as kinds.ExtendedKeyUsage (value.SubjectAltName u) e h = cc
-reads_as kinds.ExtendedKeyUsage (value.IssuerAltName u) e h = cc
-reads_as kinds.ExtendedKeyUsage (value.BasicConstraints u) e h = cc
-reads_as kinds.ExtendedKeyUsage (value.ExtendedKeyUsage u) e h = record { payload = u; is = refl; readable = h }
-reads_as kinds.ExtendedKeyUsage (value.Generic u) e h = cc
-reads_as kinds.ExtendedKeyUsage (value.CrlNumber u) e h = cc
-reads_as kinds.Generic (value.AuthorityKeyIdentifier u) e h = cc
-reads_as kinds.Generic (value.SubjectKeyIdentifier u) e h = cc
-reads_as kinds.Generic (value.KeyUsage u) e h = cc
-reads_as kinds.Generic (value.SubjectAltName u) e h = cc
-reads_as kinds.Generic (value.IssuerAltName u) e h = cc
-reads_as kinds.Generic (value.BasicConstraints u) e h = cc
-reads_as kinds.Generic (value.ExtendedKeyUsage u) e h = cc
-reads_as kinds.Generic (value.Generic u) e h = record { payload = u; is = refl; readable = h }
-reads_as kinds.Generic (value.CrlNumber u) e h = cc
-reads_as kinds.CrlNumber (value.AuthorityKeyIdentifier u) e h = cc
-reads_as kinds.CrlNumber (value.SubjectKeyIdentifier u) e h = cc
-reads_as kinds.CrlNumber (value.KeyUsage u) e h = cc
-reads_as kinds.CrlNumber (value.SubjectAltName u) e h = cc
-reads_as kinds.CrlNumber (value.IssuerAltName u) e h = cc
-reads_as kinds.CrlNumber (value.BasicConstraints u) e h = cc
-reads_as kinds.CrlNumber (value.ExtendedKeyUsage u) e h = cc
-reads_as kinds.CrlNumber (value.Generic u) e h = cc
-reads_as kinds.CrlNumber (value.CrlNumber u) e h = record { payload = u; is = refl; readable = h }
+reads_as k v e h = let P : ExtensionKind → Type 0 = λ k. (by_kind k).readable v in subst P e (own_kind v h)
 
 -- the tag of a value is none that a key may not be followed by
 pub key_apart : (c : ℕ) → eqb c 4 ≡ true → (false || eqb c 1) ≡ false

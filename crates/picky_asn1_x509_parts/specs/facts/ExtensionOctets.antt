@@ -3,9 +3,9 @@ use Rattle.std.proofs.Common.{◌≡◌, ℕ, List}
 use Rattle.x509_der.specs.Element.{element}
 use Rattle.x509_der.specs.Tally.{Tally}
 use Rattle.picky_asn1_x509_parts.specs.Extensions.{by_kind}
-use Rattle.picky_asn1_x509_parts.specs.declared.extension.ExtensionKind.{ExtensionKind}
-use Rattle.picky_asn1_x509_parts.specs.declared.extension.ExtensionKind.TheVariants as kinds
-use Rattle.picky_asn1_x509_parts.specs.declared.extension.ExtensionValue.{ExtensionValue}
+use Rattle.picky_asn1_x509_parts.specs.declared.extension_value.ExtensionKind.{ExtensionKind}
+use Rattle.picky_asn1_x509_parts.specs.declared.extension_value.ExtensionKind.TheVariants as kinds
+use Rattle.picky_asn1_x509_parts.specs.declared.extension_value.ExtensionValue.{ExtensionValue}
 
 pub value_octets : {A : Type 0} (k : ExtensionKind) (v : ExtensionValue A) (p : List ℕ) (y : Tally) → (by_kind k).spelled v p y → (c : List ℕ) × (p ≡ element 4 c)
 value_octets kinds.AuthorityKeyIdentifier v p y a = (a.spelled.content, a.spelled.bytes)

@@ -3,12 +3,11 @@
 use super::checks::{bytes_of, same, same_bytes};
 use std::alloc::{Allocator, Global};
 use std::process::Abort;
-use x509_der::{Asn1RawDer, CloneEq, from_bytes, to_vec};
+use x509_der::{Asn1RawDer, from_bytes, to_vec};
 
 #[test]
 fn null_is_as_stated(rt: HostRuntime) {
     assert!(rt; from_bytes::<(), Global>(rt.alloc(), &[5, 0]) == Ok(()));
-    assert!(rt; ().clone_eq() == Ok(()));
 }
 
 /// Whether the bytes are taken as one element; those that aren't come back.

@@ -115,12 +115,12 @@ fn times_are_moved(rt: HostRuntime) {
     heap.refuse_all();
     is_made(&rt, &heap, Time::from(utc_time(&rt)), UTC);
     heap.refuse_all();
-    let time = UtcTimeAsn1(utc_time(&rt));
+    let time = UtcTimeAsn1::from(utc_time(&rt));
     is_made(&rt, &heap, Time::from(time), UTC);
     heap.refuse_all();
     is_made(&rt, &heap, Time::from(generalized_time(&rt)), GENERALIZED);
     heap.refuse_all();
-    let time = GeneralizedTimeAsn1(generalized_time(&rt));
+    let time = GeneralizedTimeAsn1::from(generalized_time(&rt));
     is_made(&rt, &heap, Time::from(time), GENERALIZED);
 }
 

@@ -1,16 +1,14 @@
 //! Lists and containers.
 
 use super::Heap;
-use super::checks::bytes_of;
 use refusing::{Refusing, Turn, in_turn};
 use std::alloc::Global;
 use std::process::Abort;
-use x509_der::parts::{ContentOf, Explicit0, Implicit0, OneTag, TagOf, Tagged};
+use x509_der::parts::{ContentOf, ContextConstructed, ContextPrimitive, OneTag, TagOf, Tagged};
 use x509_der::{
     Asn1SequenceOf, Asn1SetOf, BitStringAsn1Container, IntegerAsn1, OctetStringAsn1Container,
     ReadError, from_bytes,
 };
-use x509_names::{Validity, Version};
 
 #[test]
 fn items_of_sequences_are_as_stated(rt: HostRuntime) {
@@ -64,14 +62,19 @@ fn content_is_read<A: Heap, N: TagOf<T::Form> + Drop, T: OneTag<A> + PartialEq>(
 
 fn contents_are_read_over<A: Heap>(rt: &impl Abort, heap: A) {
     let list = [0x30, 6, 2, 1, 1, 2, 1, 2];
-    content_is_read::<A, Explicit0, Asn1SequenceOf<u8, A>>(
+    content_is_read::<A, ContextConstructed<0>, Asn1SequenceOf<u8, A>>(
         rt,
         heap,
         &list,
         &[0xA0, 6, 2, 1, 1, 2, 1, 2],
     );
     let set = [0x31, 6, 2, 1, 2, 2, 1, 1];
-    content_is_read::<A, Explicit0, Asn1SetOf<u8, A>>(rt, heap, &set, &[0xA0, 6, 2, 1, 2, 2, 1, 1]);
+    content_is_read::<A, ContextConstructed<0>, Asn1SetOf<u8, A>>(
+        rt,
+        heap,
+        &set,
+        &[0xA0, 6, 2, 1, 2, 2, 1, 1],
+    );
 }
 
 #[test]
@@ -82,14 +85,14 @@ fn contents_are_read(rt: HostRuntime) {
 
 fn contents_of_containers_are_read_over<A: Heap>(rt: &impl Abort, heap: A) {
     let octets = [4, 3, 2, 1, 5];
-    content_is_read::<A, Implicit0, OctetStringAsn1Container<IntegerAsn1<A>>>(
+    content_is_read::<A, ContextPrimitive<0>, OctetStringAsn1Container<IntegerAsn1<A>>>(
         rt,
         heap,
         &octets,
         &[0x80, 3, 2, 1, 5],
     );
     let bits = [3, 4, 0, 2, 1, 5];
-    content_is_read::<A, Implicit0, BitStringAsn1Container<IntegerAsn1<A>>>(
+    content_is_read::<A, ContextPrimitive<0>, BitStringAsn1Container<IntegerAsn1<A>>>(
         rt,
         heap,
         &bits,
@@ -101,30 +104,4 @@ fn contents_of_containers_are_read_over<A: Heap>(rt: &impl Abort, heap: A) {
 fn contents_of_containers_are_read(rt: HostRuntime) {
     let heap = Refusing::new(rt.alloc());
     contents_of_containers_are_read_over(&rt, &heap);
-}
-
-/// From 191017174128Z to 221016174128Z, as in a SEQUENCE and under another tag.
-const VALIDITY: &str = "301e170d3139313031373137343132385a170d3232313031363137343132385a";
-
-const VALIDITY_UNDER: &str = "a01e170d3139313031373137343132385a170d3232313031363137343132385a";
-
-fn contents_of_versions_are_read_over<A: Heap>(rt: &impl Abort, heap: A) {
-    content_is_read::<A, Implicit0, Version>(rt, heap, &[2, 1, 0], &[0x80, 1, 0]);
-    content_is_read::<A, Implicit0, Version>(rt, heap, &[2, 1, 2], &[0x80, 1, 2]);
-    let unknown = from_bytes::<Tagged<Implicit0, ContentOf<Version>>, A>(heap, &[0x80, 1, 3]);
-    assert!(rt; unknown.is_err(), "no version has the number 3");
-}
-
-#[test]
-fn contents_of_versions_are_read(rt: HostRuntime) {
-    let heap = Refusing::new(rt.alloc());
-    contents_of_versions_are_read_over(&rt, &heap);
-}
-
-#[test]
-fn contents_of_validities_are_read(rt: HostRuntime) {
-    let alone = bytes_of(&rt, rt.alloc(), VALIDITY);
-    let under = bytes_of(&rt, rt.alloc(), VALIDITY_UNDER);
-    let heap = Refusing::new(rt.alloc());
-    content_is_read::<_, Explicit0, Validity>(&rt, &heap, &alone, &under);
 }

@@ -363,6 +363,7 @@ fn values_are_cloned(rt: HostRuntime) {
 #[test]
 fn kinds_of_attributes_are_cloned(rt: HostRuntime) {
     for (attr, _arc) in ATTRS {
-        is_so(&rt, attr.clone().as_ref() == Ok(attr), "the same attribute");
+        let copy: Result<NameAttr, AllocError> = attr.clone();
+        is_so(&rt, copy.as_ref() == Ok(attr), "the same attribute");
     }
 }

@@ -6,11 +6,11 @@ ghost use Rattle.x509_der.specs.ObjectIdentifier.{IsOid, arcs_spelled, oid_conte
 
 use x509_der_parts::errors::ReadError;
 
-/// Whether a number begins with a digit that says nothing.
-fn is_padding(fresh: bool, digit: u8) -> bool
-    ensures { result ≡ (fresh && digit == 128) }
+/// Whether a number begins with a digit that says nothing. Of one that is under way something was read, and no zero.
+fn is_padding(number: u64, digit: u8) -> bool
+    ensures { result ≡ ((number == 0) && digit == 128) }
 {
-    fresh && digit == 128
+    number == 0 && digit == 128
 }
 
 /// From here on, one digit more passes 64 bits.
@@ -52,8 +52,8 @@ pub(crate) fn check(bytes: &[u8]) -> Result<(), ReadError>
     if bytes.is_empty() {
         return Err(ReadError::BadOid);
     }
+    // what was read of the number that is under way: 0 where none is
     let mut number: u64 = 0;
-    let mut fresh = true;
     for byte in bytes {
         if number >= FULL {
             return Err(ReadError::BadOid);
@@ -61,17 +61,15 @@ pub(crate) fn check(bytes: &[u8]) -> Result<(), ReadError>
         let digit = *byte;
         if digit < 128 {
             number = 0;
-            fresh = true;
         } else {
-            let padded = is_padding(fresh, digit);
+            let padded = is_padding(number, digit);
             if padded {
                 return Err(ReadError::BadOid);
             }
             number = number * 128 + (digit - 128) as u64;
-            fresh = false;
         }
     }
-    if fresh {
+    if number == 0 {
         Ok(())
     } else {
         Err(ReadError::BadOid)

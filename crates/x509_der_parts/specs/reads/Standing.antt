@@ -1,5 +1,5 @@
 -- Where a reader stands that went over nothing.
-use Rattle.std.proofs.Common.{◌≡◌, ℕ, ◌+◌, Bool, false, List, [], ◌∷◌, ◌++◌, length, refl, sym, ap, ◌∙◌, arith, length-append}
+use Rattle.std.proofs.Common.{◌≡◌, ℕ, Bool, false, List, [], ◌∷◌, ◌++◌, length, refl, sym, ap, ◌∙◌, arith, length-append}
 use Rattle.x509_der_parts.specs.Shape.{Shape, Lawful, Follows, Begins}
 use Rattle.x509_der_parts.specs.declared.errors.ReadError.TheVariants.{OutOfMemory}
 use Rattle.x509_der_parts.specs.Reading.{Cursor, Accepts, Refuses}

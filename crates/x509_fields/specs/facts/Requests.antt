@@ -12,7 +12,7 @@ use Rattle.x509_der.specs.laws.Tagged.{tagged_element}
 use Rattle.x509_names.specs.Names.{name}
 use Rattle.x509_keys.specs.AlgorithmIdentifier.{algorithm_identifier}
 use Rattle.x509_keys.specs.SubjectPublicKeyInfos.{subject_public_key_info}
-use Rattle.picky_asn1_x509.specs.RequestAttributes.{attribute}
+use Rattle.picky_asn1_x509.specs.Attribute.{attribute}
 use Rattle.picky_asn1_x509.specs.Requests.{InfoFields, info_inner, info_parts, request_attributes, request_info}
 use Rattle.picky_asn1_x509.specs.CertificatePlaces.{RequestAt}
 use Rattle.picky_asn1_x509.specs.declared.certification_request.CertificationRequest.{CertificationRequest}

@@ -1,18 +1,10 @@
 -- What the fields of an elliptic curve private key mean keeps the laws.
 use Rattle.std.proofs.Common.{◌≡◌, refl, ap, subst, ℕ, ◌≤◌, ◌||◌, eqb, true, false, List, [], length, Some, arith}
 use Rattle.std.proofs.lemmas.Bool.Decides.{nat_tests}
-use Rattle.std.specs.Prelude.{Bool, ◌&&◌, nat_eq}
-use Rattle.std.specs.Bool.{Decides, beq}
-use Rattle.std.specs.Option.{option_eq}
-use Rattle.std.specs.Cmp.Lexicographic.{pointwise, bytes_decides}
-use Rattle.x509_der.specs.facts.BitString.{bits_decide}
-use Rattle.x509_der.specs.facts.SameEq.{options_decide}
-use Rattle.x509_keys_parts.specs.declared.ec_parameters.EcParameters.{EcParameters}
-use Rattle.x509_keys.specs.facts.SameFields.{four_decide}
 use Rattle.x509_der.specs.Types.{Deviation}
 use Rattle.x509_der.specs.laws.Meaning.{IsMeaning}
 use Rattle.x509_keys.specs.declared.ec_private_key.ECPrivateKey.{ECPrivateKey}
-use Rattle.x509_keys.specs.EcPrivateKeys.{EcFields, ec_key_parts, ec_key_of, ec_key_with, ec_key_base, ec_key_inner, is_one, ec_key_means, ec_key_meaning}
+use Rattle.x509_keys.specs.EcPrivateKeys.{EcFields, ec_key_parts, ec_key_of, ec_key_base, ec_key_inner, is_one, ec_key_means, ec_key_meaning}
 use Rattle.x509_keys.specs.facts.ReadIf.{was_read}
 
 -- the tag of a point is none that a curve begins with
@@ -35,9 +27,3 @@ ec_key_is {A} = record {
 -- and there is no deviation over the whole
 pub ec_key_one : {A : Type 0} (f : EcFields A) (v : ECPrivateKey A) (ks : List Deviation) → ec_key_means f ≡ Some (v, ks) → length ks ≤ 1
 ec_key_one f v ks e = omega (arith, ap length (means_ec_key f v ks e).1.1)
-
--- the tests of the fields decide whether two keys are the same
-pub ec_keys_decide :
-    {A : Type 0} {E : EcParameters A → EcParameters A → Bool} → ((x y : EcParameters A) → Decides (E x y) (x ≡ y)) →
-    (x y : ECPrivateKey A) → Decides (pointwise nat_eq x.version y.version && (pointwise nat_eq x.private_key y.private_key && (option_eq E x.parameters y.parameters && option_eq (pointwise beq) x.public_key y.public_key))) (x ≡ y)
-ec_keys_decide d = four_decide (λ v. v.version) (λ v. v.private_key) (λ v. v.parameters) (λ v. v.public_key) ec_key_with (λ v. refl) bytes_decides bytes_decides (options_decide d) (options_decide bits_decide)

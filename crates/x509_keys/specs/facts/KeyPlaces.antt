@@ -3,13 +3,17 @@ use Rattle.std.proofs.Common.{◌≡◌, ◌∙◌, ap, sym, subst, ℕ, ◌+◌
 use Rattle.x509_der.specs.Element.{element, header}
 use Rattle.x509_der.specs.Fields.{FieldAt, Stands}
 use Rattle.x509_der.specs.Tally.{Tally}
+use Rattle.x509_keys.specs.declared.public_key.PublicKey.{PublicKey}
 use Rattle.x509_keys.specs.declared.rsa_public_key.RsaPublicKey.{RsaPublicKey}
 use Rattle.x509_keys.specs.KeyPlaces.{RsaNumbersAt}
 use Rattle.x509_keys.specs.PublicKeys.{public_by_kind}
 use Rattle.x509_keys.specs.RsaPublicKeys.{number}
-use Rattle.x509_keys.specs.facts.SamePublicKeys.{rsa_or}
 use Rattle.x509_keys.specs.declared.key_kind.KeyKind.TheVariants as kinds
 use Rattle.x509_keys.specs.declared.public_key.PublicKey.TheVariants as key
+
+abbrev rsa_or : {A : Type 0} → RsaPublicKey A → PublicKey A → RsaPublicKey A
+rsa_or u (key.Rsa w) = w
+rsa_or u w = u
 
 pub rsa_numbers : {A : Type 0} (k : RsaPublicKey A) (n : ℕ) (slice string : List ℕ) (y : Tally) → Stands (public_by_kind kinds.Rsa) (key.Rsa k) n slice string y → RsaNumbersAt k n slice string y
 rsa_numbers {A} k n slice string y a =

@@ -8,6 +8,7 @@ use Rattle.x509_der.specs.Shape.{Shape}
 use Rattle.x509_der.specs.Tagged.{ContentAt, tagged}
 use Rattle.x509_der.specs.Tally.{Tally}
 use Rattle.x509_keys.specs.declared.ec_private_key.ECPrivateKey.{ECPrivateKey}
+use Rattle.x509_keys.specs.declared.private_key_value.PrivateKeyValue.{PrivateKeyValue}
 use Rattle.x509_keys.specs.declared.rsa_private_key.RsaPrivateKey.{RsaPrivateKey}
 use Rattle.x509_keys.specs.declared.rsa_public_key.RsaPublicKey.{RsaPublicKey}
 use Rattle.x509_keys.specs.EcPrivateKeys.{EcFields, ec_key_of, ec_private_key}
@@ -16,9 +17,20 @@ use Rattle.x509_keys.specs.PrivateKeyValues.{private_by_kind}
 use Rattle.x509_keys.specs.RsaPrivateKeys.{Number, number_and, rsa_private_key}
 use Rattle.x509_keys.specs.RsaPublicKeys.{number, rsa_public_key}
 use Rattle.x509_keys.specs.facts.EcPrivateKeys.{means_ec_key}
-use Rattle.x509_keys.specs.facts.SamePrivateKeys.{rsa_or, ec_or, ed_or}
 use Rattle.x509_keys.specs.declared.key_kind.KeyKind.TheVariants as kinds
 use Rattle.x509_keys.specs.declared.private_key_value.PrivateKeyValue.TheVariants as key
+
+abbrev rsa_or : {A : Type 0} → RsaPrivateKey A → PrivateKeyValue A → RsaPrivateKey A
+rsa_or u (key.Rsa w) = w
+rsa_or u w = u
+
+abbrev ec_or : {A : Type 0} → ECPrivateKey A → PrivateKeyValue A → ECPrivateKey A
+ec_or u (key.EC w) = w
+ec_or u w = u
+
+abbrev ed_or : {A : Type 0} → List ℕ → PrivateKeyValue A → List ℕ
+ed_or u (key.ED w) = w
+ed_or u w = u
 
 pub rsa_inside : {A : Type 0} (k : RsaPrivateKey A) (n : ℕ) (slice string : List ℕ) (y : Tally) → Stands (private_by_kind kinds.Rsa) (key.Rsa k) n slice string y → ContentAt 4 rsa_private_key k n slice string y
 rsa_inside {A} k n slice string y a =

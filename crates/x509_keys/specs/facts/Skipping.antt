@@ -2,7 +2,7 @@
 use Rattle.std.specs.Prelude.{◌≡◌, refl, ℕ, Bool}
 use Rattle.x509_der.specs.facts.Lists.{same_pair}
 use Rattle.x509_der.specs.Shape.{Shape, Lawful}
-use Rattle.x509_der.specs.Join.{join, Apart}
+use Rattle.x509_der.specs.Join.{Apart}
 use Rattle.x509_der.specs.Optional.{optional}
 use Rattle.x509_der.specs.RawIn.{raws_in}
 use Rattle.x509_der.specs.laws.Join.{join_lawful}

@@ -4,7 +4,7 @@ use Rattle.std.specs.Prelude.{slice_index}
 use Rattle.x509_der.specs.facts.Lists.{same_pair}
 use Rattle.x509_der.specs.Types.{Deviation}
 use Rattle.x509_der.specs.Element.{element, digits}
-use Rattle.x509_der.specs.ObjectIdentifier.{IsLawful, oids, septets, high}
+use Rattle.x509_der.specs.ObjectIdentifier.{IsLawful, arcs_spelled, numbers_from, oids, septets, high}
 use Rattle.x509_der.specs.laws.View.{some_one}
 use Rattle.x509_der.specs.Shape.{Lawful}
 use Rattle.x509_der.specs.laws.Meaning.{IsMeaning, tagged_markable}
@@ -78,6 +78,18 @@ name_bytes hash.SHA3_224 = refl
 name_bytes hash.SHA3_256 = refl
 name_bytes hash.SHA3_384 = refl
 name_bytes hash.SHA3_512 = refl
+
+-- the arcs that its content spells
+pub content_arcs : (h : HashAlgorithm) → arcs_spelled (96 ∷ 134 ∷ 72 ∷ 1 ∷ 101 ∷ 3 ∷ 4 ∷ 2 ∷ hash_number h ∷ []) ≡ hash_arcs h
+unfolding numbers_from
+content_arcs hash.SHA224 = refl
+content_arcs hash.SHA256 = refl
+content_arcs hash.SHA384 = refl
+content_arcs hash.SHA512 = refl
+content_arcs hash.SHA3_224 = refl
+content_arcs hash.SHA3_256 = refl
+content_arcs hash.SHA3_384 = refl
+content_arcs hash.SHA3_512 = refl
 
 clean_null : (u : Option (Unit {0})) → null_kinds u ≡ [] → u ≡ Some tt
 clean_null None e = cc

@@ -1,5 +1,5 @@
--- What the fields of an algorithm identifier mean keeps the laws, and where two in a list stand.
-use Rattle.std.proofs.Common.{◌≡◌, lit<, ℕ, zero, suc, ◌+◌, ◌≤◌, Bool, true, false, cond, List, [], ◌∷◌, ◌++◌, length, append-nil, refl, ap, sym, subst, ◌∙◌, arith, Option, Some, None}
+-- What the fields of an algorithm identifier mean keeps the laws.
+use Rattle.std.proofs.Common.{◌≡◌, lit<, ℕ, zero, suc, ◌+◌, ◌≤◌, Bool, true, false, cond, List, [], ◌∷◌, length, refl, ap, ◌∙◌, arith, Option, Some, None}
 use Rattle.std.proofs.lemmas.Bool.Decides.{nat_tests}
 use Rattle.x509_der.specs.Types.{Deviation}
 use Rattle.x509_der.specs.Reading.{Cursor, Ready, RawTaken, Accepts}
@@ -15,17 +15,8 @@ use Rattle.x509_der.specs.laws.RawElement.{raws_lawful, raws_element, raws_inner
 use Rattle.x509_der.specs.View.{IsSeen}
 use Rattle.x509_der.specs.MarkOrder.{Deep}
 use Rattle.x509_der.specs.laws.Meaning.{IsMeaning, Markable, seen_one, seen_lawful, seen_element}
-use Rattle.x509_der.specs.Tally.{Tally, Mark, none, joined}
-use Rattle.x509_der.specs.facts.Element.{element_one}
-use Rattle.x509_der.specs.Shape.{Shape, Lawful, IsElement}
-use Rattle.x509_der.specs.laws.NotEmpty.{full}
-use Rattle.x509_der.specs.Tagged.{tagged}
-use Rattle.x509_der.specs.laws.Tagged.{tagged_lawful}
-use Rattle.x509_der.specs.Fields.{FieldAt}
-use Rattle.x509_der.specs.facts.Fields.{stands_whole}
-use Rattle.x509_der.specs.Items.{Items, items}
-use Rattle.x509_der.specs.laws.Items.{items_lawful}
-use Rattle.x509_der.specs.facts.ItemPlaces.{item_exactly}
+use Rattle.x509_der.specs.Tally.{Tally, Mark}
+use Rattle.x509_der.specs.Shape.{Lawful, IsElement}
 use Rattle.x509_keys_parts.specs.RawAlgorithm.{RawAlgorithm, is_null, without_null, written_parameters, NotNull, RawIfThere, IsParameters, AnyParameters, element_meaning, parameters_meaning, parameters, Fields, inner, base, kinds_of, if_there, meaning, written_fields, IsRawAlgorithm, raw_meaning}
 
 null_bytes : AreBytes (5 ∷ 0 ∷ [])

@@ -1,8 +1,7 @@
 -- What the fields of RSASSA-PSS parameters mean keeps the laws.
 use Rattle.std.proofs.Common.{◌≡◌, ℕ, ◌<◌, ◌≤◌, ◌^◌, Bool, true, false, cond, List, [], ◌∷◌, length, Option, Some, None, ⊎_elim, refl, sym, ap, subst, ◌∙◌, arith}
-use Rattle.std.specs.Prelude.{pos, nat_lt, nat_le, nat_abs, ◌&&◌}
-use Rattle.std.specs.Bool.{Decides}
-use Rattle.std.proofs.lemmas.Bool.Decides.{Decides-like, nat_tests}
+use Rattle.std.specs.Prelude.{pos, nat_lt, nat_le, nat_abs}
+use Rattle.std.proofs.lemmas.Bool.Decides.{nat_tests}
 use Rattle.std.proofs.lemmas.Bool.{cases_lt}
 use Rattle.x509_der.specs.Types.{Deviation}
 use Rattle.x509_der.specs.Types.deviation
@@ -11,11 +10,9 @@ use Rattle.x509_der.specs.Integer.{sign_bit, signed_value, unsigned_value, unsig
 use Rattle.x509_der.specs.facts.Integer.{signed_value-low}
 use Rattle.x509_der.specs.facts.NaturalNumber.{natural_minimal, natural_bytes, natural_value, natural_read}
 use Rattle.x509_der.specs.facts.Lists.{same_pair}
-use Rattle.x509_der.specs.facts.SameEq.{and_decides}
 use Rattle.x509_der.specs.laws.View.{some_one}
 use Rattle.x509_der.specs.laws.Meaning.{IsMeaning}
 use Rattle.x509_keys_parts.specs.RsassaPss.{MaskGenFields, mask_gen_parts, mask_gen, PssFields, pss_inner, pss_base, salt_of, with_salt, pss_means, pss_fields, IsPss, pss_meaning}
-use Rattle.x509_keys_parts.specs.declared.hash_algorithm.HashAlgorithm.{HashAlgorithm}
 use Rattle.x509_keys_parts.specs.declared.rsassa_pss.MaskGenAlgorithm.{MaskGenAlgorithm}
 use Rattle.x509_keys_parts.specs.declared.rsassa_pss.RsassaPssParams.{RsassaPssParams}
 
@@ -132,17 +129,3 @@ pss_is {A} = record {
 
 pub pss_one : {A : Type 0} (b : PssFields A) (v : RsassaPssParams A) (ks : List Deviation) → pss_means b ≡ Some (v, ks) → length ks ≤ 1
 pss_one b v ks e = (salt_says b.1.1 v.salt_length ks (pss_says b v ks e).salt).few
-
--- tests of the fields decide whether the parameters are the same
-salted : {A : Type 0} (x y : RsassaPssParams A) → x.hash_algorithm ≡ y.hash_algorithm → x.mask_gen_algorithm ≡ y.mask_gen_algorithm → x.salt_length ≡ y.salt_length → x ≡ y
-salted {A} x y e f g =
-    let of : RsassaPssParams A → HashAlgorithm × (MaskGenAlgorithm A × ℕ) = λ v. (v.hash_algorithm, (v.mask_gen_algorithm, v.salt_length)) in
-    let m = same_pair (λ (z : MaskGenAlgorithm A × ℕ). z.0) (λ z. z.1) (λ a b. (a, b)) (λ z. refl) (of x).1 (of y).1 f g in
-    same_pair (λ (v : RsassaPssParams A). (of v).0) (λ v. (of v).1) (λ a b. record { hash_algorithm = a; mask_gen_algorithm = b.0; salt_length = b.1 }) (λ v. refl) x y e m
-
-pub pss_decides : {A : Type 0} (x y : RsassaPssParams A) (s t u : Bool) → Decides s (x.hash_algorithm ≡ y.hash_algorithm) → Decides t (x.mask_gen_algorithm ≡ y.mask_gen_algorithm) → Decides u (x.salt_length ≡ y.salt_length) → Decides (s && (t && u)) (x ≡ y)
-pss_decides {A} x y s t u d e f =
-    Decides-like (s && (t && u))
-    (λ h. salted x y h.0 h.1.0 h.1.1)
-    (λ h. (ap (λ (v : RsassaPssParams A). v.hash_algorithm) h, (ap (λ (v : RsassaPssParams A). v.mask_gen_algorithm) h, ap (λ (v : RsassaPssParams A). v.salt_length) h)))
-    (and_decides s (t && u) d (and_decides t u e f))

@@ -66,7 +66,7 @@ value_agrees (kind.Text a) v = refl
 value_agrees kind.Email v = refl
 value_agrees kind.Other v = refl
 
-pub inner_agrees : {A : Type 0} (v : AttributeTypeAndValue A) → attribute_inner.strict (v.ty, v.value) ≡ attribute_bytes v
+inner_agrees : {A : Type 0} (v : AttributeTypeAndValue A) → attribute_inner.strict (v.ty, v.value) ≡ attribute_bytes v
 inner_agrees v = ap (λ x. element 6 (oid_content v.ty) ++ x) (value_agrees (kind_of v.ty) v.value)
 
 pub attribute_agrees : {A : Type 0} (v : AttributeTypeAndValue A) → attribute.strict v ≡ element 48 (attribute_bytes v)

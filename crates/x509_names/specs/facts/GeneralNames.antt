@@ -40,7 +40,7 @@ pub record ContentsLawful (A : Type 0) : Type 0 where
   pub edi : Lawful (edi_content {A = A})
 
 -- the same name, there and back
-pub there : {A : Type 0} (v : GeneralName A) → strict_name (general_parts v) ≡ v
+there : {A : Type 0} (v : GeneralName A) → strict_name (general_parts v) ≡ v
 there (form.OtherName v) = refl
 there (form.Rfc822Name v) = refl
 there (form.DnsName v) = refl

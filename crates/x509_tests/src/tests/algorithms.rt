@@ -1,6 +1,5 @@
 //! Algorithm identifiers, and the parameters of AES and of elliptic curve keys.
 
-use super::clones::OwnClone;
 use super::fields::Field;
 use super::rows::{Heap, Row, Table, all_hold};
 use refusing::Refusing;
@@ -8,30 +7,6 @@ use std::alloc::{AllocError, Allocator};
 use std::process::Abort;
 use x509_der::Deviation;
 use x509_keys::{AesAuthEncParams, AesParameters, AlgorithmIdentifier, EcParameters};
-
-impl<A: Allocator + Copy> OwnClone for AesAuthEncParams<A> {
-    fn own_clone(&self) -> Result<Self, AllocError> {
-        self.clone()
-    }
-}
-
-impl<A: Allocator + Copy> OwnClone for AesParameters<A> {
-    fn own_clone(&self) -> Result<Self, AllocError> {
-        self.clone()
-    }
-}
-
-impl<A: Allocator + Copy> OwnClone for EcParameters<A> {
-    fn own_clone(&self) -> Result<Self, AllocError> {
-        self.clone()
-    }
-}
-
-impl<A: Allocator + Copy> OwnClone for AlgorithmIdentifier<A> {
-    fn own_clone(&self) -> Result<Self, AllocError> {
-        self.clone()
-    }
-}
 
 /// The nonce of authenticated encryption, and the length of its integrity check value.
 const NONCE: Field<'static> = Field {

@@ -1,6 +1,5 @@
 //! Certificates, requests, and what is signed of them.
 
-use super::clones::OwnClone;
 use super::fields::Field;
 use super::rows::{Heap, Row, Table, all_hold};
 use picky_asn1_x509::{
@@ -10,36 +9,6 @@ use refusing::Refusing;
 use std::alloc::{AllocError, Allocator};
 use std::process::Abort;
 use x509_der::Deviation;
-
-impl<A: Allocator + Copy> OwnClone for TbsCertificate<A> {
-    fn own_clone(&self) -> Result<Self, AllocError> {
-        self.clone()
-    }
-}
-
-impl<A: Allocator + Copy> OwnClone for Certificate<A> {
-    fn own_clone(&self) -> Result<Self, AllocError> {
-        self.clone()
-    }
-}
-
-impl<A: Allocator + Copy> OwnClone for OpenSslAttributes<A> {
-    fn own_clone(&self) -> Result<Self, AllocError> {
-        self.clone()
-    }
-}
-
-impl<A: Allocator + Copy> OwnClone for CertificationRequestInfo<A> {
-    fn own_clone(&self) -> Result<Self, AllocError> {
-        self.clone()
-    }
-}
-
-impl<A: Allocator + Copy> OwnClone for CertificationRequest<A> {
-    fn own_clone(&self) -> Result<Self, AllocError> {
-        self.clone()
-    }
-}
 
 /// What is signed of the smallest certificate, with neither version nor extensions.
 const PLAIN_PART: &str =

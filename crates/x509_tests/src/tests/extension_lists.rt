@@ -1,6 +1,5 @@
 //! Extensions, lists of them, and attributes.
 
-use super::clones::OwnClone;
 use super::fields::{ANY, Field};
 use super::rows::{Heap, Row, Table, all_hold};
 use picky_asn1_x509::{Attribute, Extension, Extensions};
@@ -8,24 +7,6 @@ use refusing::Refusing;
 use std::alloc::{AllocError, Allocator};
 use std::process::Abort;
 use x509_der::Deviation;
-
-impl<A: Allocator + Copy> OwnClone for Extension<A> {
-    fn own_clone(&self) -> Result<Self, AllocError> {
-        self.clone()
-    }
-}
-
-impl<A: Allocator + Copy> OwnClone for Extensions<A> {
-    fn own_clone(&self) -> Result<Self, AllocError> {
-        self.clone()
-    }
-}
-
-impl<A: Allocator + Copy> OwnClone for Attribute<A> {
-    fn own_clone(&self) -> Result<Self, AllocError> {
-        self.clone()
-    }
-}
 
 /// Empty basic constraints, with and without a FALSE that is encoded.
 const FALSE_SPELLED: &str = "300c0603551d1301010004023000";

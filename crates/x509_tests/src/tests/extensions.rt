@@ -1,6 +1,5 @@
 //! What extensions hold: key usage, basic constraints, extended key usage and authority key identifiers.
 
-use super::clones::OwnClone;
 use super::fields::Field;
 use super::rows::{Heap, Row, Table, all_hold};
 use picky_asn1_x509::{AuthorityKeyIdentifier, BasicConstraints, ExtendedKeyUsage, KeyUsage};
@@ -8,30 +7,6 @@ use refusing::Refusing;
 use std::alloc::{AllocError, Allocator};
 use std::process::Abort;
 use x509_der::Deviation;
-
-impl<A: Allocator + Copy> OwnClone for KeyUsage<A> {
-    fn own_clone(&self) -> Result<Self, AllocError> {
-        self.clone()
-    }
-}
-
-impl OwnClone for BasicConstraints {
-    fn own_clone(&self) -> Result<Self, AllocError> {
-        self.clone()
-    }
-}
-
-impl<A: Allocator + Copy> OwnClone for ExtendedKeyUsage<A> {
-    fn own_clone(&self) -> Result<Self, AllocError> {
-        self.clone()
-    }
-}
-
-impl<A: Allocator + Copy> OwnClone for AuthorityKeyIdentifier<A> {
-    fn own_clone(&self) -> Result<Self, AllocError> {
-        self.clone()
-    }
-}
 
 /// Trailing unset bits are kept, and a set bit behind the last is refused.
 const USAGES: Table<'static> = Table {

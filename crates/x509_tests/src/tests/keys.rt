@@ -1,6 +1,5 @@
 //! Public and private keys.
 
-use super::clones::OwnClone;
 use super::fields::{ANY, Field};
 use super::rows::{Heap, Row, Table, all_hold, bytes_of, copies_agree, is_written};
 use refusing::Refusing;
@@ -11,48 +10,6 @@ use x509_keys::{
     ECPrivateKey, PrivateKeyInfo, PrivateKeyValue, PublicKey, RsaPrivateKey, RsaPublicKey,
     SubjectPublicKeyInfo,
 };
-
-impl<A: Allocator + Copy> OwnClone for RsaPublicKey<A> {
-    fn own_clone(&self) -> Result<Self, AllocError> {
-        self.clone()
-    }
-}
-
-impl<A: Allocator + Copy> OwnClone for RsaPrivateKey<A> {
-    fn own_clone(&self) -> Result<Self, AllocError> {
-        self.clone()
-    }
-}
-
-impl<A: Allocator + Copy> OwnClone for ECPrivateKey<A> {
-    fn own_clone(&self) -> Result<Self, AllocError> {
-        self.clone()
-    }
-}
-
-impl<A: Allocator + Copy> OwnClone for PublicKey<A> {
-    fn own_clone(&self) -> Result<Self, AllocError> {
-        self.clone()
-    }
-}
-
-impl<A: Allocator + Copy> OwnClone for PrivateKeyValue<A> {
-    fn own_clone(&self) -> Result<Self, AllocError> {
-        self.clone()
-    }
-}
-
-impl<A: Allocator + Copy> OwnClone for SubjectPublicKeyInfo<A> {
-    fn own_clone(&self) -> Result<Self, AllocError> {
-        self.clone()
-    }
-}
-
-impl<A: Allocator + Copy> OwnClone for PrivateKeyInfo<A> {
-    fn own_clone(&self) -> Result<Self, AllocError> {
-        self.clone()
-    }
-}
 
 /// The numbers 5 and 3.
 const RSA_PUBLIC_KEYS: Table<'static> = Table {

@@ -1,6 +1,5 @@
 //! Directory strings, and what they and names print.
 
-use super::clones::OwnClone;
 use super::rows::{Heap, Table, all_hold, bytes_of};
 use refusing::Refusing;
 use std::alloc::{AllocError, Allocator};
@@ -8,12 +7,6 @@ use std::fmt::Display;
 use std::process::Abort;
 use x509_der::{FromDer, from_bytes};
 use x509_names::{DirectoryString, Name, NamePrettyFormatter};
-
-impl<A: Allocator + Copy> OwnClone for DirectoryString<A> {
-    fn own_clone(&self) -> Result<Self, AllocError> {
-        self.clone()
-    }
-}
 
 /// Strings of the three types, empty ones too, with surrogates that have a partner and that have none. A star isn't
 /// printable, a surrogate isn't UTF-8, an odd byte is no unit, and the other string types aren't alternatives.

@@ -16,7 +16,7 @@ use std::marker::Model;
 use std::process::Abort;
 use x509_der::laws::fields;
 use x509_der::parts::{
-    ContentOf, Explicit0, Explicit1, Field, Implicit2, Join, Optional, Reader, SEQUENCE_TAG,
+    ContentOf, ContextConstructed, ContextPrimitive, Field, Join, Optional, Reader, SEQUENCE_TAG,
     Sequence, Structure, Tagged, known_there, read_fields,
 };
 use x509_der::{FromDer, OctetStringAsn1, ReadError, ToDer, TooLong};
@@ -50,8 +50,11 @@ impl<A: Allocator> Model for Options<A> {
 type OptionNest<N, F, O> = Tagged<
     Sequence,
     Join<
-        Optional<Tagged<Explicit0, N>>,
-        Join<Optional<Tagged<Explicit1, F>>, Optional<Tagged<Implicit2, ContentOf<O>>>>,
+        Optional<Tagged<ContextConstructed<0>, N>>,
+        Join<
+            Optional<Tagged<ContextConstructed<1>, F>>,
+            Optional<Tagged<ContextPrimitive<2>, ContentOf<O>>>,
+        >,
     >,
 >;
 
@@ -66,10 +69,10 @@ fn written_options<A: Allocator>(value: &Options<A>) -> WrittenOptions<'_, A>
     ensures { ⟦<WrittenOptions<'static, A> as ToDer>⟧.strict result ≡ options.strict value.now }
 {
     let rest = Join(
-        Optional::lent(&value.flag),
-        Optional::lent_body(&value.octets),
+        Optional::borrowed_element(&value.flag),
+        Optional::borrowed_content(&value.octets),
     );
-    Tagged::new(Join(Optional::lent(&value.number), rest))
+    Tagged::new(Join(Optional::borrowed_element(&value.number), rest))
 }
 
 impl<A: Allocator> ToDer for Options<A> {
@@ -126,9 +129,7 @@ impl<A: Allocator + Copy> Field<A> for Options<A> {
 }
 
 impl<A: Allocator + Copy> FromDer<A> for Options<A> {
-    ghost always = { tt };
-
-    ghost whole = { tt };
+    ghost stands_alone = { (tt, tt) };
 }
 
 /// Each part of three fields that may be absent stands at its place.
@@ -349,9 +350,7 @@ impl<A: Allocator + Copy> Field<A> for Letter<A> {
 }
 
 impl<A: Allocator + Copy> FromDer<A> for Letter<A> {
-    ghost always = { tt };
-
-    ghost whole = { tt };
+    ghost stands_alone = { (tt, tt) };
 }
 
 /// Each part of a letter stands at its place.

@@ -1,7 +1,7 @@
 use Rattle.std.proofs.Common.{◌+◌, drop, sym, ap, ◌∙◌, arith}
 use Rattle.x509_der.specs.Lasts.{ascends_from}
-use Rattle.picky_asn1_x509_parts.specs.KeyAuthorities.{number}
-use Rattle.picky_asn1_x509_parts.specs.facts.KeyAuthorityFacts.{ascends_stops, ascends_goes}
+use Rattle.picky_asn1_x509_parts.specs.AuthorityKeyIdentifier.{number}
+use Rattle.picky_asn1_x509_parts.specs.facts.AuthorityKeyIdentifierFacts.{ascends_stops, ascends_goes}
 use Rattle.picky_asn1_x509_parts.proofs.authority_key_identifier.are_ascending.Goals as goal
 
 pub returns-then-number-least : goal.returns-then-number-least

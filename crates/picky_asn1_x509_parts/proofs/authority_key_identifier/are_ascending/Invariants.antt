@@ -1,5 +1,5 @@
 use Rattle.std.proofs.Common.{◌≡◌, ◌≤◌, drop}
-use Rattle.picky_asn1_x509_parts.specs.KeyAuthorities.{number}
+use Rattle.picky_asn1_x509_parts.specs.AuthorityKeyIdentifier.{number}
 use Rattle.x509_der.specs.Lasts.{ascends, ascends_from}
 use Rattle.picky_asn1_x509_parts.proofs.authority_key_identifier.are_ascending.Given as goal
 

@@ -2,8 +2,8 @@ use Rattle.std.proofs.Common.{ap, sym, ◌∙◌}
 use Rattle.std.proofs.lemmas.List.{map-id}
 use Rattle.std.proofs.lemmas.Iterator.Adapters.{YieldsList-from_vec}
 use Rattle.std.proofs.lemmas.Iterator.Consumers.{YieldsList-end}
-use Rattle.picky_asn1_x509_parts.specs.KeyAuthorities.{authority_of}
-use Rattle.picky_asn1_x509_parts.specs.facts.KeyAuthorityFacts.{authority_push}
+use Rattle.picky_asn1_x509_parts.specs.AuthorityKeyIdentifier.{authority_of}
+use Rattle.picky_asn1_x509_parts.specs.facts.AuthorityKeyIdentifierFacts.{authority_push}
 use Rattle.picky_asn1_x509_parts.proofs.authority_key_identifier.last_of_each.Goals as goal
 
 pub fields-preserved : goal.fields-preserved

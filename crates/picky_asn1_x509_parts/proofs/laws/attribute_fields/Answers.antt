@@ -1,5 +1,5 @@
 use Rattle.x509_der.specs.facts.ElementPlaces.{content_first}
-use Rattle.picky_asn1_x509_parts.specs.RequestAttributes.{attribute_inner, attribute_parts}
+use Rattle.picky_asn1_x509_parts.specs.Attribute.{attribute_inner, attribute_parts}
 use Rattle.picky_asn1_x509_parts.proofs.laws.attribute_fields.Goals as goal
 
 pub returns : goal.returns

@@ -1,5 +1,5 @@
 use Rattle.x509_der.specs.facts.ElementPlaces.{content_first}
-use Rattle.picky_asn1_x509_parts.specs.facts.KeyAuthorityFacts.{means_one}
+use Rattle.picky_asn1_x509_parts.specs.facts.AuthorityKeyIdentifierFacts.{means_one}
 use Rattle.picky_asn1_x509_parts.proofs.laws.authority_key_identifier_fields.Goals as goal
 
 pub returns : goal.returns

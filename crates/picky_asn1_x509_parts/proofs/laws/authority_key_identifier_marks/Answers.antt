@@ -1,4 +1,4 @@
-use Rattle.picky_asn1_x509_parts.specs.facts.KeyAuthorityLaws.{authority_marks}
+use Rattle.picky_asn1_x509_parts.specs.facts.AuthorityKeyIdentifierLaws.{authority_marks}
 use Rattle.picky_asn1_x509_parts.proofs.laws.authority_key_identifier_marks.Goals as goal
 
 pub returns : goal.returns

@@ -1,5 +1,4 @@
-use Rattle.std.proofs.Common.{◌∙◌}
-use Rattle.x509_der_parts.specs.reads.WholeInput.{counted_whole, got_to, frugal_whole}
+use Rattle.x509_der_parts.specs.reads.WholeInput.{counted_whole}
 use Rattle.x509_der.proofs.calls.read_explained.Goals as goal
 
 pub returns-in-Ok-clause-read : goal.returns-in-Ok-clause-read

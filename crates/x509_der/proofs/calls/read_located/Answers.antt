@@ -3,4 +3,4 @@ use Rattle.x509_der_parts.specs.reads.WholeInput.{located_whole}
 use Rattle.x509_der.proofs.calls.read_located.Goals as goal
 
 pub returns-clause-ok : goal.returns-clause-ok
-returns-clause-ok g c = located_whole g.T.Field.shape (g.T.Field.lawful g.met.T.FromDer.always) c.locating_reader-reader.result c.read_all.new.reader c.args.bytes.now c.in_ok-value.value c.in-Some.places.items c.locating_reader-reader.ensures.rest c.locating_reader-reader.ensures.at c.locating_reader-reader.ensures.places (sym c.in-Some.ensures) c.in_ok-value.ensures
+returns-clause-ok g c = located_whole g.T.Field.shape (g.T.Field.lawful g.met.T.FromDer.stands_alone.0) c.locating_reader-reader.result c.read_all.new.reader c.args.bytes.now c.in_ok-value.value c.in-Some.places.items c.locating_reader-reader.ensures.rest c.locating_reader-reader.ensures.at c.locating_reader-reader.ensures.places (sym c.in-Some.ensures) c.in_ok-value.ensures

@@ -11,10 +11,10 @@ use Rattle.x509_der.proofs.raw_in.pass_over.Goals.{in_default-via-in-Some+else-s
 pub returns-in_err-element-in-Some-clause-err : goal.returns-in_err-element-in-Some-clause-err
 returns-in_err-element-in-Some-clause-err g c =
     let p = err_from_is_err_and c.from_residual.result c.from_residual.ensures.1 in
-    rw (p.1, p.2) (raws_in_refuses g.K.Tags.keep c.args.reader.now c.lent_element.new.reader _ (begun_cons (λ t. is_tag t && g.K.Tags.keep t) c.in-Some.byte _ c.args.reader.now.rest c.in-Some.ensures.some (sym c.starts_in.ensures ∙ c.if-starts_in.true)) c.in_err-element-in-Some.ensures.err)
+    rw (p.1, p.2) (raws_in_refuses g.K.Tags.keep c.args.reader.now c.borrowed_element.new.reader _ (begun_cons (λ t. is_tag t && g.K.Tags.keep t) c.in-Some.byte _ c.args.reader.now.rest c.in-Some.ensures.some (sym c.starts_in.ensures ∙ c.if-starts_in.true)) c.in_err-element-in-Some.ensures.err)
 
 pub returns-in_ok-element-in-Some-clause-ok : goal.returns-in_ok-element-in-Some-clause-ok
-returns-in_ok-element-in-Some-clause-ok g c = raws_in_accepts g.K.Tags.keep c.args.reader.now c.lent_element.new.reader c.in_ok-element-in-Some.element.now (begun_cons (λ t. is_tag t && g.K.Tags.keep t) c.in-Some.byte _ c.args.reader.now.rest c.in-Some.ensures.some (sym c.starts_in.ensures ∙ c.if-starts_in.true)) c.in_ok-element-in-Some.ensures.ok
+returns-in_ok-element-in-Some-clause-ok g c = raws_in_accepts g.K.Tags.keep c.args.reader.now c.borrowed_element.new.reader c.in_ok-element-in-Some.element.now (begun_cons (λ t. is_tag t && g.K.Tags.keep t) c.in-Some.byte _ c.args.reader.now.rest c.in-Some.ensures.some (sym c.starts_in.ensures ∙ c.if-starts_in.true)) c.in_ok-element-in-Some.ensures.ok
 
 pub returns-in_default-clause-err : goal.returns-in_default-clause-err
 returns-in_default-clause-err g c =

@@ -1,8 +1,8 @@
 use Rattle.std.proofs.Common.{rules}
 use Rattle.x509_keys.proofs.key_kind.key_kind.Goals as goal
 
-pub returns-then-is_among : goal.returns-then-is_among
-returns-then-is_among g c = search (rules)
+pub returns-then-is_ed_algorithm : goal.returns-then-is_ed_algorithm
+returns-then-is_ed_algorithm g c = search (rules)
 
-pub returns-else-is_among-2 : goal.returns-else-is_among-2
-returns-else-is_among-2 g c = search (rules)
+pub returns-else-is_mldsa_algorithm : goal.returns-else-is_mldsa_algorithm
+returns-else-is_mldsa_algorithm g c = search (rules)

@@ -11,37 +11,37 @@ use Rattle.x509_keys_parts.specs.HashAlgorithms.{null}
 use Rattle.x509_keys_parts.specs.declared.algorithm_parameters.AlgorithmIdentifierParameters.TheVariants as parameters
 use Rattle.x509_keys_parts.proofs.algorithm_parameters.read_as.Goals as goal
 
-pub returns-in_ok-null-in-Rsa : goal.returns-in_ok-null-in-Rsa
-returns-in_ok-null-in-Rsa g c = rw c.in-Rsa.is (variant_accepts if_null parameters_bytes AreParameters (optional null) c.args.reader.now c.read.new.reader c.in_ok-null-in-Rsa.null _ c.if_null.ensures c.in_ok-null-in-Rsa.ensures)
+pub returns-in_ok-read-in-Rsa : goal.returns-in_ok-read-in-Rsa
+returns-in_ok-read-in-Rsa g c = rw c.in-Rsa.is (variant_accepts if_null parameters_bytes AreParameters (optional null) c.args.reader.now c.read.new.reader _ _ c.if_null.ensures c.in_ok-read-in-Rsa.ensures)
 
-pub returns-in_err-null-in-Rsa : goal.returns-in_err-null-in-Rsa
-returns-in_err-null-in-Rsa g c =
+pub returns-in_err-read-in-Rsa : goal.returns-in_err-read-in-Rsa
+returns-in_err-read-in-Rsa g c =
     let p = err_from_is_err_and c.from_residual.result c.from_residual.ensures.1 in
-    rw (p.1, p.2, c.in-Rsa.is) (variant_refuses if_null parameters_bytes AreParameters (optional null) c.args.reader.now c.read.new.reader _ c.in_err-null-in-Rsa.ensures)
+    rw (p.1, p.2, c.in-Rsa.is) (variant_refuses if_null parameters_bytes AreParameters (optional null) c.args.reader.now c.read.new.reader _ c.in_err-read-in-Rsa.ensures)
 
-pub returns-in_ok-pss-in-RsassaPss : goal.returns-in_ok-pss-in-RsassaPss
-returns-in_ok-pss-in-RsassaPss g c = rw c.in-RsassaPss.is (variant_accepts parameters.RsassaPss parameters_bytes AreParameters rsassa_pss c.args.reader.now c.read-in-RsassaPss.new.reader c.in_ok-pss-in-RsassaPss.pss _ refl c.in_ok-pss-in-RsassaPss.ensures)
+pub returns-in_ok-read-in-RsassaPss : goal.returns-in_ok-read-in-RsassaPss
+returns-in_ok-read-in-RsassaPss g c = rw c.in-RsassaPss.is (variant_accepts parameters.RsassaPss parameters_bytes AreParameters rsassa_pss c.args.reader.now c.read-in-RsassaPss.new.reader _ _ refl c.in_ok-read-in-RsassaPss.ensures)
 
-pub returns-in_err-pss-in-RsassaPss : goal.returns-in_err-pss-in-RsassaPss
-returns-in_err-pss-in-RsassaPss g c =
-    let p = err_from_is_err_and c.from_residual-in_err-pss-in-RsassaPss.result c.from_residual-in_err-pss-in-RsassaPss.ensures.1 in
-    rw (p.1, p.2, c.in-RsassaPss.is) (variant_refuses parameters.RsassaPss parameters_bytes AreParameters rsassa_pss c.args.reader.now c.read-in-RsassaPss.new.reader _ c.in_err-pss-in-RsassaPss.ensures)
+pub returns-in_err-read-in-RsassaPss : goal.returns-in_err-read-in-RsassaPss
+returns-in_err-read-in-RsassaPss g c =
+    let p = err_from_is_err_and c.from_residual-in_err-read-in-RsassaPss.result c.from_residual-in_err-read-in-RsassaPss.ensures.1 in
+    rw (p.1, p.2, c.in-RsassaPss.is) (variant_refuses parameters.RsassaPss parameters_bytes AreParameters rsassa_pss c.args.reader.now c.read-in-RsassaPss.new.reader _ c.in_err-read-in-RsassaPss.ensures)
 
-pub returns-in_ok-curve-in-EcPublicKey : goal.returns-in_ok-curve-in-EcPublicKey
-returns-in_ok-curve-in-EcPublicKey g c = rw c.in-EcPublicKey.is (variant_accepts parameters.Ec parameters_bytes AreParameters ec_parameters c.args.reader.now c.read-in-EcPublicKey.new.reader c.in_ok-curve-in-EcPublicKey.curve _ refl c.in_ok-curve-in-EcPublicKey.ensures)
+pub returns-in_ok-read-in-EcPublicKey : goal.returns-in_ok-read-in-EcPublicKey
+returns-in_ok-read-in-EcPublicKey g c = rw c.in-EcPublicKey.is (variant_accepts parameters.Ec parameters_bytes AreParameters ec_parameters c.args.reader.now c.read-in-EcPublicKey.new.reader _ _ refl c.in_ok-read-in-EcPublicKey.ensures)
 
-pub returns-in_err-curve-in-EcPublicKey : goal.returns-in_err-curve-in-EcPublicKey
-returns-in_err-curve-in-EcPublicKey g c =
-    let p = err_from_is_err_and c.from_residual-in_err-curve-in-EcPublicKey.result c.from_residual-in_err-curve-in-EcPublicKey.ensures.1 in
-    rw (p.1, p.2, c.in-EcPublicKey.is) (variant_refuses parameters.Ec parameters_bytes AreParameters ec_parameters c.args.reader.now c.read-in-EcPublicKey.new.reader _ c.in_err-curve-in-EcPublicKey.ensures)
+pub returns-in_err-read-in-EcPublicKey : goal.returns-in_err-read-in-EcPublicKey
+returns-in_err-read-in-EcPublicKey g c =
+    let p = err_from_is_err_and c.from_residual-in_err-read-in-EcPublicKey.result c.from_residual-in_err-read-in-EcPublicKey.ensures.1 in
+    rw (p.1, p.2, c.in-EcPublicKey.is) (variant_refuses parameters.Ec parameters_bytes AreParameters ec_parameters c.args.reader.now c.read-in-EcPublicKey.new.reader _ c.in_err-read-in-EcPublicKey.ensures)
 
-pub returns-in_ok-aes-in-Aes : goal.returns-in_ok-aes-in-Aes
-returns-in_ok-aes-in-Aes g c = rw c.in-Aes.is (variant_accepts if_aes parameters_bytes AreParameters (optional aes_parameters) c.args.reader.now c.read-in-Aes.new.reader c.in_ok-aes-in-Aes.aes _ c.if_aes.ensures c.in_ok-aes-in-Aes.ensures)
+pub returns-in_ok-read-in-Aes : goal.returns-in_ok-read-in-Aes
+returns-in_ok-read-in-Aes g c = rw c.in-Aes.is (variant_accepts if_aes parameters_bytes AreParameters (optional aes_parameters) c.args.reader.now c.read-in-Aes.new.reader _ _ c.if_aes.ensures c.in_ok-read-in-Aes.ensures)
 
-pub returns-in_err-aes-in-Aes : goal.returns-in_err-aes-in-Aes
-returns-in_err-aes-in-Aes g c =
-    let p = err_from_is_err_and c.from_residual-in_err-aes-in-Aes.result c.from_residual-in_err-aes-in-Aes.ensures.1 in
-    rw (p.1, p.2, c.in-Aes.is) (variant_refuses if_aes parameters_bytes AreParameters (optional aes_parameters) c.args.reader.now c.read-in-Aes.new.reader _ c.in_err-aes-in-Aes.ensures)
+pub returns-in_err-read-in-Aes : goal.returns-in_err-read-in-Aes
+returns-in_err-read-in-Aes g c =
+    let p = err_from_is_err_and c.from_residual-in_err-read-in-Aes.result c.from_residual-in_err-read-in-Aes.ensures.1 in
+    rw (p.1, p.2, c.in-Aes.is) (variant_refuses if_aes parameters_bytes AreParameters (optional aes_parameters) c.args.reader.now c.read-in-Aes.new.reader _ c.in_err-read-in-Aes.ensures)
 
 pub returns-in_ok-read-in-Hash : goal.returns-in_ok-read-in-Hash
 returns-in_ok-read-in-Hash g c = rw c.in-Hash.is (variant_accepts (λ u. parameters.Null) parameters_bytes AreParameters null c.args.reader.now c.read-in-Hash.new.reader tt _ refl c.in_ok-read-in-Hash.ensures)

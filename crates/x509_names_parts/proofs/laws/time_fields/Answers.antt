@@ -1,5 +1,5 @@
 use Rattle.x509_der.specs.facts.FieldPlaces.{stands_parts, stands_first, stands_second}
-use Rattle.x509_names_parts.specs.Times.{time_parts, time_base, utc, generalized}
+use Rattle.x509_names_parts.specs.Time.{time_parts, time_base, utc, generalized}
 use Rattle.x509_names_parts.specs.declared.time.Time.TheVariants.{Utc, Generalized}
 use Rattle.x509_names_parts.proofs.laws.time_fields.Goals as goal
 

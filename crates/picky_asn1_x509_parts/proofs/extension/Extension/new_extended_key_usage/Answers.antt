@@ -1,7 +1,7 @@
 use Rattle.std.specs.Prelude.{not}
 use Rattle.std.proofs.Common.{ap}
 use Rattle.picky_asn1_x509_parts.specs.Extensions.{made}
-use Rattle.picky_asn1_x509_parts.specs.declared.extension.ExtensionValue.TheVariants as value
+use Rattle.picky_asn1_x509_parts.specs.declared.extension_value.ExtensionValue.TheVariants as value
 use Rattle.picky_asn1_x509_parts.proofs.Makers.{is_absent}
 use Rattle.picky_asn1_x509_parts.proofs.extension.Extension.new_extended_key_usage.Goals as goal
 

@@ -1,4 +1,4 @@
-use Rattle.std.proofs.Common.{◌≡◌, length, ◌+◌, ◌-◌, length-append, arith, ap, ◌∙◌}
+use Rattle.std.proofs.Common.{◌≡◌, length, ◌+◌, ◌-◌, length-append, arith, ap}
 use Rattle.x509_der_parts.specs.reads.Header.{other_tag, entered}
 use Rattle.x509_der_parts.specs.Reading.{Cursor}
 use Rattle.x509_der_parts.specs.facts.Element.{element_length}

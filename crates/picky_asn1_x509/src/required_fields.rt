@@ -1,0 +1,165 @@
+//! The fields that every certificate has.
+
+ghost use Rattle.std.specs.Prelude.{◌≡◌, refl, IfOk};
+ghost use Rattle.picky_asn1_x509.specs.TbsCertificates.{tbs_with, required_fields, required_of, required_bytes};
+ghost use Rattle.picky_asn1_x509.specs.facts.TbsCertificates.{required_agree};
+
+use crate::tbs_certificate::TbsCertificate;
+use picky_asn1_x509_parts::Extensions;
+use std::alloc::{AllocError, Allocator};
+use std::marker::Model;
+use x509_der::parts::{Field, INTEGER_TAG, Join, Reader, SEQUENCE_TAG, clone_three};
+use x509_der::{BitString, IntegerAsn1, ReadError, ToDer, TooLong};
+use x509_keys::{AlgorithmIdentifier, SubjectPublicKeyInfo};
+use x509_names::{Name, Validity, Version};
+
+/// The fields that every certificate has, one behind another, owned or borrowed.
+type RequiredNest<I, S, N, V, K> = Join<I, Join<S, Join<N, Join<V, Join<N, K>>>>>;
+
+/// The fields that every certificate has, owned.
+type RequiredParts<A> = RequiredNest<
+    IntegerAsn1<A>,
+    AlgorithmIdentifier<A>,
+    Name<A>,
+    Validity,
+    SubjectPublicKeyInfo<A>,
+>;
+
+/// These as one field: the structure's own field then has few parts. Contracts see the pairs.
+#[derive(Drop)]
+pub(crate) struct RequiredFields<A: Allocator>(RequiredParts<A>);
+
+impl<A: Allocator> Model for RequiredFields<A> {
+    ghost use Rattle.picky_asn1_x509.specs.TbsCertificates.{RequiredFields};
+
+    ghost Value = { RequiredFields A };
+
+    ghost view = { λ c. c.0 };
+}
+
+impl<A: Allocator> ToDer for RequiredFields<A> {
+    ghost strict = { required_bytes };
+
+    fn encoded_len(&self) -> Result<usize, TooLong> {
+        self.0.encoded_len()
+    }
+
+    fn write_back(&self, out: &mut [u8]) -> usize {
+        self.0.write_back(out)
+    }
+}
+
+impl<A: Allocator + Copy> Field<A> for RequiredFields<A> {
+    ghost shape = { required_fields };
+
+    ghost lawful = { λ h. ⟦<RequiredParts<A> as Field<A>>⟧.lawful (
+      tt,
+      (
+        tt,
+        (
+          tt,
+          (
+            tt,
+            (tt, tt, λ c h. refl),
+            λ c h. refl,
+          ),
+          λ c h. refl,
+        ),
+        λ c h. refl,
+      ),
+      λ c h. refl,
+    ) };
+
+    ghost alone = { ⊥ };
+
+    ghost elements = { λ h. absurd h };
+
+    ghost agrees = { required_agree };
+
+    fn starts(byte: u8) -> bool {
+        // with any of the parts, as the shape of a join says
+        byte == INTEGER_TAG || byte == SEQUENCE_TAG
+    }
+
+    fn known(&self) {
+        let RequiredFields(Join(serial_number, Join(signature, Join(issuer, rest)))) = self;
+        let Join(validity, Join(subject, subject_public_key_info)) = rest;
+        serial_number.known();
+        signature.known();
+        issuer.known();
+        Field::<A>::known(validity);
+        subject.known();
+        subject_public_key_info.known();
+    }
+
+    fn read(alloc: A, reader: &mut Reader<'_, A>) -> Result<Self, ReadError> {
+        Ok(RequiredFields(RequiredParts::read(alloc, reader)?))
+    }
+}
+
+/// The fields that every certificate has, borrowed.
+pub(crate) type WrittenRequired<'a, A> = RequiredNest<
+    &'a IntegerAsn1<A>,
+    &'a AlgorithmIdentifier<A>,
+    &'a Name<A>,
+    &'a Validity,
+    &'a SubjectPublicKeyInfo<A>,
+>;
+
+/// The value of these fields.
+pub(crate) fn from_required<A: Allocator>(
+    version: Version,
+    required: RequiredFields<A>,
+    issuer_unique_id: Option<BitString<A>>,
+    subject_unique_id: Option<BitString<A>>,
+    extensions: Extensions<A>,
+) -> TbsCertificate<A>
+    ensures { result ≡ tbs_with version required issuer_unique_id subject_unique_id extensions }
+{
+    let RequiredFields(Join(serial_number, Join(signature, Join(issuer, rest)))) = required;
+    let Join(validity, Join(subject, subject_public_key_info)) = rest;
+    TbsCertificate {
+        version,
+        serial_number,
+        signature,
+        issuer,
+        validity,
+        subject,
+        subject_public_key_info,
+        issuer_unique_id,
+        subject_unique_id,
+        extensions,
+    }
+}
+
+/// Equal fields of those that every certificate has.
+///
+/// # Errors
+/// `AllocError` where memory is refused.
+pub(crate) fn clone_required<A: Allocator + Copy>(
+    value: &TbsCertificate<A>,
+) -> Result<RequiredFields<A>, AllocError>
+    ensures { IfOk result (λ required. required ≡ required_of value.now) }
+{
+    let (serial_number, signature, issuer) = clone_three(
+        &value.serial_number,
+        &value.signature,
+        &value.issuer,
+    )?;
+    let (validity, subject, key) = clone_three(
+        &value.validity,
+        &value.subject,
+        &value.subject_public_key_info,
+    )?;
+    let rest = Join(validity, Join(subject, key));
+    Ok(RequiredFields(Join(serial_number, Join(signature, Join(issuer, rest)))))
+}
+
+/// The fields that every certificate has, to be written.
+pub(crate) fn borrowed_required<A: Allocator>(value: &TbsCertificate<A>) -> WrittenRequired<'_, A>
+    ensures { ⟦<WrittenRequired<'static, A> as ToDer>⟧.strict result ≡ required_bytes (required_of value.now) }
+{
+    let subject = Join(&value.subject, &value.subject_public_key_info);
+    let rest = Join(&value.issuer, Join(&value.validity, subject));
+    Join(&value.serial_number, Join(&value.signature, rest))
+}
