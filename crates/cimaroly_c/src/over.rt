@@ -17,7 +17,7 @@ ghost use Rattle.cimaroly_c.specs.Exports.{Arena};
 use bumpalo::Bump;
 use lent_memory::OneBlock;
 use x509_flat::certificate_fields::{
-    CertificateAnswer, certificate_fields as flat_certificate_fields,
+    FlatCertificate, certificate_fields as flat_certificate_fields,
 };
 use x509_flat::check::{Checked, check as flat_check};
 use x509_flat::encode::encode as flat_encode;
@@ -25,11 +25,11 @@ use x509_flat::extensions::{FlatExtension, of_certificate, of_extensions};
 use x509_flat::kind::Kind;
 use x509_flat::places::{FlatPlace, places as flat_places};
 use x509_flat::private_key_fields::{
-    PrivateKeyAnswer, private_key_fields as flat_private_key_fields,
+    FlatPrivateKey, private_key_fields as flat_private_key_fields,
 };
-use x509_flat::request_fields::{RequestAnswer, request_fields as flat_request_fields};
+use x509_flat::request_fields::{FlatRequest, request_fields as flat_request_fields};
 use x509_flat::signed_part::{self, SignedAnswer};
-use x509_flat::status::Sized;
+use x509_flat::status::{Answer, Sized};
 use x509_flat_report::report as flat_report;
 
 /// How many bytes an arena keeps of a chunk for itself, and how many it takes its parent to keep.
@@ -103,7 +103,7 @@ pub(crate) fn request_signed_part(block: &OneBlock, bytes: &[u8]) -> SignedAnswe
 }
 
 /// The fields of a certificate.
-pub(crate) fn certificate_fields(block: &OneBlock, bytes: &[u8]) -> CertificateAnswer
+pub(crate) fn certificate_fields(block: &OneBlock, bytes: &[u8]) -> Answer<FlatCertificate>
     ensures { CertificateTold Arena bytes.now result.status result.fields }
 {
     let arena = arena(block);
@@ -111,7 +111,7 @@ pub(crate) fn certificate_fields(block: &OneBlock, bytes: &[u8]) -> CertificateA
 }
 
 /// The fields of a request.
-pub(crate) fn request_fields(block: &OneBlock, bytes: &[u8]) -> RequestAnswer
+pub(crate) fn request_fields(block: &OneBlock, bytes: &[u8]) -> Answer<FlatRequest>
     ensures { RequestTold Arena bytes.now result.status result.fields }
 {
     let arena = arena(block);
@@ -119,7 +119,7 @@ pub(crate) fn request_fields(block: &OneBlock, bytes: &[u8]) -> RequestAnswer
 }
 
 /// The fields of a private key.
-pub(crate) fn private_key_fields(block: &OneBlock, bytes: &[u8]) -> PrivateKeyAnswer
+pub(crate) fn private_key_fields(block: &OneBlock, bytes: &[u8]) -> Answer<FlatPrivateKey>
     ensures { PrivateKeyTold Arena bytes.now result.status result.fields }
 {
     let arena = arena(block);

@@ -15,6 +15,15 @@ use x509_inspect::{
 };
 use x509_report_parts::shown::ShownBytes;
 
+/// What a refusal says of bytes.
+fn line_of(refused: Refused, kind: Kind, bytes: &[u8]) -> RefusalLine<'_> {
+    RefusalLine {
+        refused,
+        kind,
+        bytes,
+    }
+}
+
 impl<W: Write> Session<'_, W> {
     /// Works on a PEM block.
     ///
@@ -99,14 +108,7 @@ impl<W: Write> Session<'_, W> {
                 write_read(&mut self.text, source, kind, places.as_slice())?;
                 self.put_text()
             }
-            Err(refused) => self.refuse_as(
-                source,
-                RefusalLine {
-                    refused,
-                    kind,
-                    bytes,
-                },
-            ),
+            Err(refused) => self.refuse_as(source, line_of(refused, kind, bytes)),
         }
     }
 
@@ -169,14 +171,7 @@ impl<W: Write> Session<'_, W> {
                 self.put_text()
             }
             Ok(Err(_)) => Err(Stop::memory()),
-            Err(refused) => self.refuse_as(
-                source,
-                RefusalLine {
-                    refused,
-                    kind,
-                    bytes,
-                },
-            ),
+            Err(refused) => self.refuse_as(source, line_of(refused, kind, bytes)),
         }
     }
 
@@ -198,14 +193,7 @@ impl<W: Write> Session<'_, W> {
             }
             Ok(Err(WriteError::OutOfMemory)) => Err(Stop::memory()),
             Ok(Err(WriteError::TooLong)) => self.refuse(source, "the DER encoding is too long"),
-            Err(refused) => self.refuse_encoding(
-                source,
-                RefusalLine {
-                    refused,
-                    kind,
-                    bytes,
-                },
-            ),
+            Err(refused) => self.refuse_encoding(source, line_of(refused, kind, bytes)),
         }
     }
 

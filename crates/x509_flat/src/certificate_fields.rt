@@ -2,10 +2,9 @@
 
 ghost use Rattle.std.specs.Prelude.{◌≡◌};
 ghost use Rattle.x509_flat.specs.Fields.{flat_certificate, CertificateTold};
-ghost use Rattle.x509_flat.specs.Statuses.{IsStatusOf};
 
 use crate::span::FlatSpan;
-use crate::status::{Status, status_of};
+use crate::status::Answer;
 use picky_asn1_x509::{Certificate, from_bytes};
 use std::alloc::Allocator;
 use x509_fields::CertificateFields;
@@ -84,31 +83,16 @@ impl FlatCertificate {
     }
 }
 
-/// The fields of a certificate by their status.
-#[derive(Clone, Copy, Debug, PartialEq, Eq)]
-pub struct CertificateAnswer {
-    /// The status.
-    pub status: Status,
-    /// The fields: all zeros where there are none.
-    pub fields: FlatCertificate,
-}
-
 /// Where the fields of a certificate stand.
-pub fn certificate_fields<A: Allocator + Copy>(alloc: A, bytes: &[u8]) -> CertificateAnswer
+pub fn certificate_fields<A: Allocator + Copy>(alloc: A, bytes: &[u8]) -> Answer<FlatCertificate>
     ensures { CertificateTold A bytes.now result.status result.fields }
 {
     match from_bytes::<Certificate<A>, A>(alloc, bytes) {
         Ok(value) => {
             let places = CertificateFields::of(&value, bytes);
             drop(value);
-            CertificateAnswer {
-                status: Status::Done,
-                fields: FlatCertificate::of(places),
-            }
+            Answer::done(FlatCertificate::of(places))
         }
-        Err(error) => CertificateAnswer {
-            status: status_of(error),
-            fields: FlatCertificate::none(),
-        },
+        Err(error) => Answer::refused(error, FlatCertificate::none()),
     }
 }

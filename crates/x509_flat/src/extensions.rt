@@ -89,10 +89,7 @@ fn put_places<A: Allocator + Copy>(
 {
     let size = list.len();
     if out.len() < size {
-        return Sized {
-            status: Status::TooShort,
-            size,
-        };
+        return Sized::too_short(size);
     }
     write_places(list, bytes, items, out);
     Sized {
@@ -112,12 +109,19 @@ pub fn of_certificate<A: Allocator + Copy>(
     match from_bytes::<Certificate<A>, A>(alloc, bytes) {
         Ok(value) => {
             let items = certificate_extensions(&value, bytes);
-            let sized = put_places(&value.tbs_certificate.extensions.0, bytes, items, out);
+            let sized = put_places(value.extensions(), bytes, items, out);
             drop(value);
             sized
         }
         Err(error) => unsized_of(error),
     }
+}
+
+/// The items of a list.
+fn items_of<A: Allocator>(list: &Extensions<A>) -> &[Extension<A>]
+    ensures { result.now ≡ list.now }
+{
+    list.0.0.as_slice()
 }
 
 /// Writes where each extension of a list stands, and tells how many there are.
@@ -131,7 +135,7 @@ pub fn of_extensions<A: Allocator + Copy>(
     match from_bytes::<Extensions<A>, A>(alloc, bytes) {
         Ok(value) => {
             let items = listed_extensions(&value, bytes);
-            let sized = put_places(&value.0, bytes, items, out);
+            let sized = put_places(items_of(&value), bytes, items, out);
             drop(value);
             sized
         }

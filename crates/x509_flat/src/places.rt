@@ -53,10 +53,7 @@ fn put_places(places: &[Place], out: &mut [FlatPlace]) -> Sized
 {
     let size = places.len();
     if out.len() < size {
-        return Sized {
-            status: Status::TooShort,
-            size,
-        };
+        return Sized::too_short(size);
     }
     copy_places(places, out);
     Sized {

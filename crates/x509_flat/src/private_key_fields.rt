@@ -2,10 +2,9 @@
 
 ghost use Rattle.std.specs.Prelude.{◌≡◌};
 ghost use Rattle.x509_flat.specs.Fields.{flat_private_key, PrivateKeyTold};
-ghost use Rattle.x509_flat.specs.Statuses.{IsStatusOf};
 
 use crate::span::FlatSpan;
-use crate::status::{Status, status_of};
+use crate::status::Answer;
 use picky_asn1_x509::{PrivateKeyInfo, from_bytes};
 use std::alloc::Allocator;
 use x509_fields::PrivateKeyInfoFields;
@@ -52,31 +51,16 @@ impl FlatPrivateKey {
     }
 }
 
-/// The fields of a private key by their status.
-#[derive(Clone, Copy, Debug, PartialEq, Eq)]
-pub struct PrivateKeyAnswer {
-    /// The status.
-    pub status: Status,
-    /// The fields: all zeros where there are none.
-    pub fields: FlatPrivateKey,
-}
-
 /// Where the fields of a private key stand.
-pub fn private_key_fields<A: Allocator + Copy>(alloc: A, bytes: &[u8]) -> PrivateKeyAnswer
+pub fn private_key_fields<A: Allocator + Copy>(alloc: A, bytes: &[u8]) -> Answer<FlatPrivateKey>
     ensures { PrivateKeyTold A bytes.now result.status result.fields }
 {
     match from_bytes::<PrivateKeyInfo<A>, A>(alloc, bytes) {
         Ok(value) => {
             let places = PrivateKeyInfoFields::of(&value, bytes);
             drop(value);
-            PrivateKeyAnswer {
-                status: Status::Done,
-                fields: FlatPrivateKey::of(places),
-            }
+            Answer::done(FlatPrivateKey::of(places))
         }
-        Err(error) => PrivateKeyAnswer {
-            status: status_of(error),
-            fields: FlatPrivateKey::none(),
-        },
+        Err(error) => Answer::refused(error, FlatPrivateKey::none()),
     }
 }

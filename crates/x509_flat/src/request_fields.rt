@@ -2,10 +2,9 @@
 
 ghost use Rattle.std.specs.Prelude.{◌≡◌};
 ghost use Rattle.x509_flat.specs.Fields.{flat_request, RequestTold};
-ghost use Rattle.x509_flat.specs.Statuses.{IsStatusOf};
 
 use crate::span::FlatSpan;
-use crate::status::{Status, status_of};
+use crate::status::Answer;
 use picky_asn1_x509::{CertificationRequest, from_bytes};
 use std::alloc::Allocator;
 use x509_fields::CertificationRequestFields;
@@ -60,31 +59,16 @@ impl FlatRequest {
     }
 }
 
-/// The fields of a request by their status.
-#[derive(Clone, Copy, Debug, PartialEq, Eq)]
-pub struct RequestAnswer {
-    /// The status.
-    pub status: Status,
-    /// The fields: all zeros where there are none.
-    pub fields: FlatRequest,
-}
-
 /// Where the fields of a request stand.
-pub fn request_fields<A: Allocator + Copy>(alloc: A, bytes: &[u8]) -> RequestAnswer
+pub fn request_fields<A: Allocator + Copy>(alloc: A, bytes: &[u8]) -> Answer<FlatRequest>
     ensures { RequestTold A bytes.now result.status result.fields }
 {
     match from_bytes::<CertificationRequest<A>, A>(alloc, bytes) {
         Ok(value) => {
             let places = CertificationRequestFields::of(&value, bytes);
             drop(value);
-            RequestAnswer {
-                status: Status::Done,
-                fields: FlatRequest::of(places),
-            }
+            Answer::done(FlatRequest::of(places))
         }
-        Err(error) => RequestAnswer {
-            status: status_of(error),
-            fields: FlatRequest::none(),
-        },
+        Err(error) => Answer::refused(error, FlatRequest::none()),
     }
 }

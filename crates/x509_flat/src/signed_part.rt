@@ -55,11 +55,19 @@ fn refused(error: ReadError) -> SignedAnswer
 }
 
 /// The answer to a read.
-fn told(start: usize, signed: &[u8], inside: Deviations, outside: Deviations) -> SignedAnswer
-    requires { start + length signed.now < 2 ^ 64 }
+fn told<T: Drop>(read: SignedRead<'_, T>) -> SignedAnswer
+    requires { read.start + length read.signed.now < 2 ^ 64 }
     ensures status { result.status ≡ Status.Done }
-    ensures signed { IsSigned start signed.now inside outside result.signed }
+    ensures signed { IsSigned read.entry.start read.entry.signed.now read.entry.inside read.entry.outside result.signed }
 {
+    let SignedRead {
+        value,
+        signed,
+        start,
+        inside,
+        outside,
+    } = read;
+    drop(value);
     SignedAnswer {
         status: Status::Done,
         signed: FlatSigned {
@@ -78,17 +86,7 @@ pub fn of_certificate<A: Allocator + Copy>(alloc: A, bytes: &[u8]) -> SignedAnsw
     ensures { SignedTold (certificate {A = A}) certificate_parts tbs_certificate signature_fields bytes.now result.status result.signed }
 {
     match Certificate::read_with_signed_part(alloc, bytes) {
-        Ok(read) => {
-            let SignedRead {
-                value,
-                signed,
-                start,
-                inside,
-                outside,
-            } = read;
-            drop(value);
-            told(start, signed, inside, outside)
-        }
+        Ok(read) => told(read),
         Err(error) => refused(error),
     }
 }
@@ -98,17 +96,7 @@ pub fn of_request<A: Allocator + Copy>(alloc: A, bytes: &[u8]) -> SignedAnswer
     ensures { SignedTold (request {A = A}) request_parts request_info signature_fields bytes.now result.status result.signed }
 {
     match CertificationRequest::read_with_signed_part(alloc, bytes) {
-        Ok(read) => {
-            let SignedRead {
-                value,
-                signed,
-                start,
-                inside,
-                outside,
-            } = read;
-            drop(value);
-            told(start, signed, inside, outside)
-        }
+        Ok(read) => told(read),
         Err(error) => refused(error),
     }
 }

@@ -48,6 +48,52 @@ pub struct Sized {
     pub size: usize,
 }
 
+impl Sized {
+    /// What a buffer was too short for.
+    pub(crate) fn too_short(size: usize) -> Sized
+        ensures status { result.status ≡ Status.TooShort }
+        ensures size { result.size ≡ size }
+    {
+        Sized {
+            status: Status::TooShort,
+            size,
+        }
+    }
+}
+
+/// A status, and the fields that are told with it.
+#[derive(Clone, Copy, Debug, PartialEq, Eq)]
+pub struct Answer<F> {
+    /// The status.
+    pub status: Status,
+    /// The fields: all zeros where there are none.
+    pub fields: F,
+}
+
+impl<F> Answer<F> {
+    /// These fields.
+    pub(crate) fn done(fields: F) -> Answer<F>
+        ensures status { result.status ≡ Status.Done }
+        ensures fields { result.fields ≡ fields }
+    {
+        Answer {
+            status: Status::Done,
+            fields,
+        }
+    }
+
+    /// No fields, for an error.
+    pub(crate) fn refused(error: ReadError, none: F) -> Answer<F>
+        ensures status { IsStatusOf error result.status }
+        ensures fields { result.fields ≡ none }
+    {
+        Answer {
+            status: status_of(error),
+            fields: none,
+        }
+    }
+}
+
 /// The status of a read that gave no value.
 pub fn status_of(error: ReadError) -> Status
     ensures { IsStatusOf error result }

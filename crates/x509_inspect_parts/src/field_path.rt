@@ -4,25 +4,16 @@ use crate::kind::Kind;
 use std::fmt::{self, Display, Write};
 use x509_report_parts::{Cursor, Element};
 
-/// What stands in an element, as far as its fields have names.
+/// What stands in an element, as far as its fields have names: one of the types, or a part of one.
 #[derive(Clone, Copy, Debug, PartialEq, Eq)]
 enum Node {
-    Certificate,
+    Type(Kind),
     TbsCertificate,
-    Request,
     RequestInfo,
-    PrivateKey,
-    PublicKey,
-    RsaPrivateKey,
-    RsaPublicKey,
-    EcPrivateKey,
     Validity,
-    Algorithm,
-    Name,
     NameSet,
     NameAttribute,
     ExtensionsField,
-    Extensions,
     Extension,
     Attributes,
     Attribute,
@@ -55,32 +46,16 @@ fn some(name: &'static str, node: Node) -> Field {
     }
 }
 
-/// What stands in the whole of an input.
-fn root(kind: Kind) -> Node {
-    match kind {
-        Kind::Certificate => Node::Certificate,
-        Kind::Request => Node::Request,
-        Kind::PrivateKey => Node::PrivateKey,
-        Kind::PublicKey => Node::PublicKey,
-        Kind::RsaPrivateKey => Node::RsaPrivateKey,
-        Kind::RsaPublicKey => Node::RsaPublicKey,
-        Kind::EcPrivateKey => Node::EcPrivateKey,
-        Kind::Name => Node::Name,
-        Kind::Extensions => Node::Extensions,
-        Kind::Algorithm | Kind::RawAlgorithm => Node::Algorithm,
-    }
-}
-
 /// The field of a certificate's signed part, behind so many that must be there (RFC 5280, 4.1).
 fn tbs_field(tag: u8, index: usize) -> Field {
     match (tag, index) {
         (0xa0, 0) => some("version", Node::Leaf),
         (_, 0) => one("serialNumber", Node::Leaf),
-        (_, 1) => one("signature", Node::Algorithm),
-        (_, 2) => one("issuer", Node::Name),
+        (_, 1) => one("signature", Node::Type(Kind::Algorithm)),
+        (_, 2) => one("issuer", Node::Type(Kind::Name)),
         (_, 3) => one("validity", Node::Validity),
-        (_, 4) => one("subject", Node::Name),
-        (_, 5) => one("subjectPublicKeyInfo", Node::PublicKey),
+        (_, 4) => one("subject", Node::Type(Kind::Name)),
+        (_, 5) => one("subjectPublicKeyInfo", Node::Type(Kind::PublicKey)),
         (0x81, _) => some("issuerUniqueID", Node::Leaf),
         (0x82, _) => some("subjectUniqueID", Node::Leaf),
         _ => some("extensions", Node::ExtensionsField),
@@ -91,7 +66,7 @@ fn tbs_field(tag: u8, index: usize) -> Field {
 fn signed_field(first: Field, signature: &'static str, index: usize) -> Field {
     match index {
         0 => first,
-        1 => one("signatureAlgorithm", Node::Algorithm),
+        1 => one("signatureAlgorithm", Node::Type(Kind::Algorithm)),
         _ => one(signature, Node::Leaf),
     }
 }
@@ -100,8 +75,8 @@ fn signed_field(first: Field, signature: &'static str, index: usize) -> Field {
 fn info_field(index: usize) -> Field {
     match index {
         0 => one("version", Node::Leaf),
-        1 => one("subject", Node::Name),
-        2 => one("subjectPKInfo", Node::PublicKey),
+        1 => one("subject", Node::Type(Kind::Name)),
+        2 => one("subjectPKInfo", Node::Type(Kind::PublicKey)),
         _ => one("attributes", Node::Attributes),
     }
 }
@@ -110,7 +85,7 @@ fn info_field(index: usize) -> Field {
 fn private_field(tag: u8, index: usize) -> Field {
     match (tag, index) {
         (_, 0) => one("version", Node::Leaf),
-        (_, 1) => one("privateKeyAlgorithm", Node::Algorithm),
+        (_, 1) => one("privateKeyAlgorithm", Node::Type(Kind::Algorithm)),
         (_, 2) => one("privateKey", Node::Leaf),
         (0xa1, _) => some("publicKey", Node::Leaf),
         _ => some("attributes", Node::Leaf),
@@ -161,7 +136,7 @@ fn first_or(index: usize, first: Field, second: Field) -> Field {
 fn field_of(node: Node, tag: u8, index: usize) -> Field {
     let leaf = Node::Leaf;
     match node {
-        Node::Certificate => {
+        Node::Type(Kind::Certificate) => {
             signed_field(
                 one("tbsCertificate", Node::TbsCertificate),
                 "signatureValue",
@@ -169,7 +144,7 @@ fn field_of(node: Node, tag: u8, index: usize) -> Field {
             )
         }
         Node::TbsCertificate => tbs_field(tag, index),
-        Node::Request => {
+        Node::Type(Kind::Request) => {
             signed_field(
                 one("certificationRequestInfo", Node::RequestInfo),
                 "signature",
@@ -177,9 +152,9 @@ fn field_of(node: Node, tag: u8, index: usize) -> Field {
             )
         }
         Node::RequestInfo => info_field(index),
-        Node::PrivateKey => private_field(tag, index),
-        Node::RsaPrivateKey => rsa_field(index),
-        Node::EcPrivateKey => ec_field(tag, index),
+        Node::Type(Kind::PrivateKey) => private_field(tag, index),
+        Node::Type(Kind::RsaPrivateKey) => rsa_field(index),
+        Node::Type(Kind::EcPrivateKey) => ec_field(tag, index),
         Node::Extension => extension_field(tag, index),
         _ => small_field(node, index, leaf),
     }
@@ -188,23 +163,31 @@ fn field_of(node: Node, tag: u8, index: usize) -> Field {
 /// The same, of structures of two fields and of lists.
 fn small_field(node: Node, index: usize, leaf: Node) -> Field {
     match node {
-        Node::PublicKey => {
+        Node::Type(Kind::PublicKey) => {
             first_or(
                 index,
-                one("algorithm", Node::Algorithm),
+                one("algorithm", Node::Type(Kind::Algorithm)),
                 one("subjectPublicKey", leaf),
             )
         }
-        Node::RsaPublicKey => first_or(index, one("modulus", leaf), one("publicExponent", leaf)),
+        Node::Type(Kind::RsaPublicKey) => first_or(
+            index,
+            one("modulus", leaf),
+            one("publicExponent", leaf),
+        ),
         Node::Validity => first_or(index, one("notBefore", leaf), one("notAfter", leaf)),
-        Node::Algorithm => first_or(index, one("algorithm", leaf), one("parameters", leaf)),
-        Node::Name => one("RelativeDistinguishedName", Node::NameSet),
+        Node::Type(Kind::Algorithm | Kind::RawAlgorithm) => first_or(
+            index,
+            one("algorithm", leaf),
+            one("parameters", leaf),
+        ),
+        Node::Type(Kind::Name) => one("RelativeDistinguishedName", Node::NameSet),
         Node::NameSet => one("AttributeTypeAndValue", Node::NameAttribute),
         Node::NameAttribute | Node::Attribute => {
             first_or(index, one("type", leaf), one("value", leaf))
         }
-        Node::ExtensionsField => one("Extensions", Node::Extensions),
-        Node::Extensions => one("Extension", Node::Extension),
+        Node::ExtensionsField => one("Extensions", Node::Type(Kind::Extensions)),
+        Node::Type(Kind::Extensions) => one("Extension", Node::Extension),
         _ => one("Attribute", Node::Attribute),
     }
 }
@@ -267,14 +250,14 @@ impl FieldPath<'_> {
     /// Whether the byte stands in no field that has a name.
     pub(crate) fn is_empty(&self) -> bool {
         let mut whole = Cursor::new(self.bytes);
-        found_in(root(self.kind), whole.next().inside, self.at).is_none()
+        found_in(Node::Type(self.kind), whole.next().inside, self.at).is_none()
     }
 }
 
 impl Display for FieldPath<'_> {
     fn fmt<W: Write>(&self, f: &mut fmt::Formatter<W>) -> fmt::Result {
         let mut whole = Cursor::new(self.bytes);
-        let mut node = root(self.kind);
+        let mut node = Node::Type(self.kind);
         let mut content = whole.next().inside;
         for depth in 0..DEPTH {
             if node == Node::Leaf {

@@ -170,10 +170,7 @@ fn tail<A: Allocator, S: Sink>(
 fn private_line<A: Allocator>(value: &PrivateKeyInfo<A>) -> KeyLine<'_> {
     let line = line_of(&value.private_key_algorithm);
     match &value.private_key {
-        PrivateKeyValue::Rsa(key) => KeyLine {
-            bits: Some(size(&key.0.modulus)),
-            ..line
-        },
+        PrivateKeyValue::Rsa(key) => line.with_modulus(&key.0.modulus),
         _ => line,
     }
 }

@@ -101,6 +101,16 @@ pub struct KeyLine<'a> {
     pub bits: Option<u64>,
 }
 
+impl KeyLine<'_> {
+    /// The same of a key whose size is that of its modulus.
+    pub fn with_modulus<A: Allocator>(self, modulus: &IntegerAsn1<A>) -> Self {
+        KeyLine {
+            bits: Some(size(modulus)),
+            ..self
+        }
+    }
+}
+
 /// The size in bits of the keys of a curve, where it is known (RFC 5480, 2.1.1.1; RFC 7748, RFC 8032).
 fn curve_bits(content: &[u8]) -> Option<u64> {
     match content {
@@ -170,10 +180,7 @@ pub fn ec_line(curve: Option<&[u8]>) -> KeyLine<'_> {
 pub fn public_line<A: Allocator>(value: &SubjectPublicKeyInfo<A>) -> KeyLine<'_> {
     let line = line_of(&value.algorithm);
     match &value.subject_public_key {
-        PublicKey::Rsa(key) => KeyLine {
-            bits: Some(size(&key.0.modulus)),
-            ..line
-        },
+        PublicKey::Rsa(key) => line.with_modulus(&key.0.modulus),
         _ => line,
     }
 }

@@ -1,12 +1,11 @@
-use Rattle.std.proofs.Common.{refl, ◌∙◌, ap}
-use Rattle.picky_asn1_x509.specs.declared.certificate.Certificate.{Certificate}
+use Rattle.std.proofs.Common.{refl}
 use Rattle.x509_flat.proofs.Counts.{puts_of}
 use Rattle.x509_flat.proofs.extensions.of_certificate.Goals as goal
 
 pub returns-in-Ok : goal.returns-in-Ok
 returns-in-Ok g c =
     let whole = c.in-Ok.ensures.read.1 in
-    let puts = puts_of _ _ _ _ _ _ _ _ _ (c.deref.ensures.value ∙ ap (λ (v : Certificate _). v.tbs_certificate.extensions) c.value.view_is) c.put_places-sized.ensures in
+    let puts = puts_of _ _ _ _ _ _ _ _ _ c.extensions.ensures c.put_places-sized.ensures in
     record {
       done = λ e. record {
         value = c.in-Ok.value;

@@ -1,11 +1,11 @@
-use Rattle.std.proofs.Common.{refl, ◌∙◌}
+use Rattle.std.proofs.Common.{refl}
 use Rattle.x509_flat.proofs.Counts.{puts_of}
 use Rattle.x509_flat.proofs.extensions.of_extensions.Goals as goal
 
 pub returns-in-Ok : goal.returns-in-Ok
 returns-in-Ok g c =
     let whole = c.in-Ok.ensures.read.1 in
-    let puts = puts_of _ _ _ _ _ _ _ _ _ (c.deref.ensures.value ∙ c.value.view_is) c.put_places-sized.ensures in
+    let puts = puts_of _ _ _ _ _ _ _ _ _ c.items_of.ensures c.put_places-sized.ensures in
     record {
       done = λ e. record {
         value = c.in-Ok.value;

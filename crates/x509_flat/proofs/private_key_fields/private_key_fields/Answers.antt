@@ -1,3 +1,4 @@
+use Rattle.std.proofs.Common.{◌∙◌}
 use Rattle.x509_flat.proofs.private_key_fields.private_key_fields.Goals as goal
 
 pub returns-in-Ok : goal.returns-in-Ok
@@ -8,7 +9,7 @@ returns-in-Ok g c = record {
     whole = c.in-Ok.ensures.read.1;
     places = c.of-places.result;
     stand = c.of-places.ensures c.in-Ok.ensures.read.0 c.in-Ok.ensures.read.1.spelled;
-    holds = c.of.ensures;
+    holds = c.done.ensures.fields ∙ c.of.ensures;
   };
   refused = λ e. absurd (cc);
   others = record { short = λ e. cc; unknown = λ e. cc; long = λ e. cc };
@@ -16,7 +17,7 @@ returns-in-Ok g c = record {
 
 pub returns-in-Err : goal.returns-in-Err
 returns-in-Err g c = record {
-  done = λ e. absurd (c.status_of.ensures.done e);
-  refused = λ e. c.in-Err.ensures.read (c.status_of.ensures.refused e);
-  others = c.status_of.ensures.others;
+  done = λ e. absurd (c.refused.ensures.status.done e);
+  refused = λ e. c.in-Err.ensures.read (c.refused.ensures.status.refused e);
+  others = c.refused.ensures.status.others;
 }
