@@ -27,7 +27,7 @@ BUDGETS = [
     (14, ["x509_keys"]),
     (22, ["picky_asn1_x509_parts"]),
     (18, ["picky_asn1_x509"]),
-    (18, ["x509_tool_parts", "x509_callers", "refusing"]),
+    (19, ["x509_tool_parts", "x509_callers", "refusing"]),
     (9, ["x509_fields"]),
     (2, ["x509_oids_algorithms", "x509_oids_objects"]),
     (6, ["x509_pem"]),

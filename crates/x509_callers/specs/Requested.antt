@@ -2,7 +2,7 @@
 use Rattle.std.specs.Prelude.{true, Bool, List, [], ◌∷◌}
 use Rattle.picky_asn1_x509.specs.Extensions.{key_usage_arcs, made}
 use Rattle.picky_asn1_x509.specs.AlgorithmIdentifier.{Algorithm}
-use Rattle.picky_asn1_x509.specs.RequestAttributes.{extension_request_arcs}
+use Rattle.picky_asn1_x509.specs.Attribute.{extension_request_arcs}
 use Rattle.picky_asn1_x509.specs.Types.{Attribute}
 use Rattle.picky_asn1_x509.specs.Types.attribute_values as values
 use Rattle.picky_asn1_x509.specs.Types.extension_value as value

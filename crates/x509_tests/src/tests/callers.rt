@@ -1,5 +1,6 @@
 //! The callers of `x509_callers` over a certificate and a request that OpenSSL 3.0 wrote.
 
+use bumpalo::Bump;
 use picky_asn1_x509::{
     AlgorithmIdentifier, BitString, CertificationRequestInfo, Deviation, GeneralName, KeyUsage,
     from_bytes,
@@ -7,6 +8,7 @@ use picky_asn1_x509::{
 use std::alloc::Global;
 use std::process::Abort;
 use x509_callers::checker::{is_self_issued, is_signed_in_der, read};
+use x509_callers::importer::import;
 use x509_callers::inspector::{
     Description, NameText, Report, alternative_names, common_name, located,
 };
@@ -57,6 +59,16 @@ fn a_request_is_no_certificate(rt: HostRuntime) {
     let refused = read(rt.alloc(), &bytes);
     assert!(rt; refused.is_err());
     drop(refused);
+}
+
+#[test]
+fn certificates_are_imported(rt: HostRuntime) {
+    let alloc = rt.alloc();
+    let mut arena = Bump::new(alloc);
+    let clean = import(&mut arena, &bytes_of(&rt, alloc, CERTIFICATE)).expect(&rt, "a certificate");
+    let marked = import(&mut arena, &bytes_of(&rt, alloc, WITHOUT_NULL)).expect(&rt, "another");
+    assert!(rt; clean.total() == 0 && marked.total() == 1);
+    assert!(rt; import(&mut arena, &bytes_of(&rt, alloc, REQUEST)).is_err());
 }
 
 #[test]
