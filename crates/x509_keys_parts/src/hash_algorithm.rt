@@ -1,8 +1,9 @@
 //! Hash functions, as RSASSA-PSS names them.
 
-ghost use Rattle.std.specs.Prelude.{◌≡◌, false, refl, IfOk, IfErr, None, Some};
+ghost use Rattle.std.specs.Prelude.{◌≡◌, false, refl, IfOk, IfErr, Err, None, Some};
 ghost use Rattle.x509_der.specs.ObjectIdentifier.{arcs_spelled, dotted};
-ghost use Rattle.x509_der.specs.View.{if_found};
+ghost use Rattle.x509_der.specs.Types.read_error.{OutOfMemory, Unsupported};
+ghost use Rattle.x509_der.specs.View.{if_found, meant};
 ghost use Rattle.x509_der.specs.laws.Meaning.{seen_lawful, seen_element, sequence_keeps};
 ghost use Rattle.x509_keys_parts.specs.HashAlgorithms.{hash_arcs, hash_function_name, hash_len, hash_number, hash_of, hash_name_base, hash_name_meaning, hash_name, null_kinds, hash_inner, hash_base, hash_fields, hash_meaning, hash_algorithm};
 ghost use Rattle.x509_keys_parts.specs.Unsupported.{Names};
@@ -219,7 +220,11 @@ impl<A: Allocator + Copy> View<ObjectIdentifierAsn1<A>, A> for HashName {
     fn meaning(
         _alloc: A,
         parts: ObjectIdentifierAsn1<A>,
-    ) -> Result<(Self, WholeDeviations), ReadError> {
+    ) -> Result<(Self, WholeDeviations), ReadError>
+        ensures meaning { hash_name_meaning.of parts ≡ meant result }
+        ensures refusal { result ≡ Err OutOfMemory → ⊥ }
+        ensures name { IfErr result (λ e. e ≡ Unsupported) }
+    {
         match known(&parts.0) {
             Some(hash) => Ok((HashName(hash), WholeDeviations::Nothing)),
             None => Err(ReadError::Unsupported),
