@@ -4,6 +4,7 @@
 #![tactic(auto)]
 
 pub mod checker;
+pub mod copies;
 pub mod importer;
 pub mod inspector;
 pub mod places;

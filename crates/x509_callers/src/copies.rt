@@ -1,0 +1,48 @@
+//! Copies of values that hold no memory: none of them fails.
+
+ghost use Rattle.std.specs.Prelude.{◌≡◌};
+
+use picky_asn1_x509::{BasicConstraints, GeneralizedTimeAsn1, NameAttr, UtcTimeAsn1, Validity};
+
+/// A copy of a validity, for a certificate that takes another's place.
+pub fn same_validity(value: &Validity) -> Validity
+    ensures { result ≡ value.now }
+{
+    let Ok(copy) = value.clone() else {
+        unreachable!()
+    };
+    copy
+}
+
+/// A copy of basic constraints.
+pub fn same_constraints(value: &BasicConstraints) -> BasicConstraints
+    ensures { result ≡ value.now }
+{
+    let Ok(copy) = value.clone() else {
+        unreachable!()
+    };
+    copy
+}
+
+/// A copy of a kind of attribute.
+pub fn same_kind(value: &NameAttr) -> NameAttr
+    ensures { result ≡ value.now }
+{
+    let Ok(copy) = value.clone() else {
+        unreachable!()
+    };
+    copy
+}
+
+/// Copies of both forms of a time.
+pub fn same_times(
+    utc: &UtcTimeAsn1,
+    general: &GeneralizedTimeAsn1,
+) -> (UtcTimeAsn1, GeneralizedTimeAsn1)
+    ensures { result ≡ (utc.now, general.now) }
+{
+    let (Ok(first), Ok(second)) = (utc.clone(), general.clone()) else {
+        unreachable!()
+    };
+    (first, second)
+}
