@@ -89,8 +89,6 @@ impl<Y: Years> ToDer for TimeAsn1<Y> {
 impl<Y: Years, A: Allocator + Copy> Content<A> for TimeAsn1<Y> {
     ghost content_shape = { plain Y.says Y.text Y.allowed (Unit {0}) };
 
-    ghost content_fits = { Unit {0} };
-
     ghost content_lawful = { λ h. plain_lawful Y.says Y.text Y.allowed (Unit {0}) Y.plain };
 
     ghost content_always = { tt };
