@@ -2,6 +2,7 @@
 # Measures the library: instructions of each call by callgrind, and its requests for memory.
 # run.sh                  measures this repository
 # run.sh CHECKOUT         also measures that checkout of an earlier state, and compares; one without certificates is measured without them
+# UNCLEARED=1 run.sh      takes the clearing of functions' own places out of the LLVM text first, to see what it costs
 # It needs rt, rattle, gcc, valgrind and python3, and with cargo it compares with hand-written Rust too (plain/). It builds in
 # $MEASURE_FOLDER (else /tmp/measure), and nothing else of the repository is written.
 set -euo pipefail
@@ -43,7 +44,8 @@ is_built() {
 # Builds the calls over libraries that stand in the checkout.
 build_over() {
   local from=$1 to=$2 crate words
-  words=(--crate-name measured --crate-type staticlib src/lib.rt --jobs 1 --toolchain "$kit/toolchain")
+  words=(--crate-name measured --crate-type staticlib src/lib.rt --jobs 1)
+  if [ -n "${UNCLEARED:-}" ]; then uncleared; words+=(--toolchain "$folder/uncleared"); else words+=(--toolchain "$kit/toolchain"); fi
   words+=(--antt-project "$kit/rattle/logic/antt-project.json" --logic-built "$kit/logic_built")
   for crate in std $of_kit; do words+=(--extern "$crate=$kit/rlibs/$crate.rlib"); done
   words+=(-L "dependency=$kit/rlibs")
@@ -52,6 +54,21 @@ build_over() {
   mkdir -p "$to/crates/measured/out"
   (cd "$to/crates/measured" && rattle build "${words[@]}" -o out/libmeasured.a) > "$to/measured.log" 2>&1 ||
     { tail "$to/measured.log" >&2; exit 1; }
+}
+
+# A toolchain whose clang compiles a module without those clearings: for measuring alone.
+uncleared() {
+  mkdir -p "$folder/uncleared/bin"
+  ln -sfn "$kit/toolchain/lib" "$folder/uncleared/lib"
+  ln -sf "$kit/toolchain/bin/llvm-ar" "$folder/uncleared/bin/llvm-ar"
+  cat > "$folder/uncleared/bin/clang" << END
+#!/bin/bash
+set -e
+"$kit/toolchain/bin/clang" -S -emit-llvm -Xclang -disable-llvm-passes -x ir module.bc -o whole.ll
+grep -v 'call void @llvm.memset.p0.i64(ptr %r[0-9]*, i8 0, i64 [0-9]*, i1 false)' whole.ll > module.ll
+exec "$kit/toolchain/bin/clang" "\${@/module.bc/module.ll}"
+END
+  chmod +x "$folder/uncleared/bin/clang"
 }
 
 # Copies the crates of a checkout, proves them, and builds the calls over them.
