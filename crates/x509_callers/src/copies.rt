@@ -41,7 +41,10 @@ pub fn same_times(
 ) -> (UtcTimeAsn1, GeneralizedTimeAsn1)
     ensures { result ≡ (utc.now, general.now) }
 {
-    let (Ok(first), Ok(second)) = (utc.clone(), general.clone()) else {
+    let Ok(first) = utc.clone() else {
+        unreachable!()
+    };
+    let Ok(second) = general.clone() else {
         unreachable!()
     };
     (first, second)
