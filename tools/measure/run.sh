@@ -60,7 +60,8 @@ build_over() {
 uncleared() {
   mkdir -p "$folder/uncleared/bin"
   ln -sfn "$kit/toolchain/lib" "$folder/uncleared/lib"
-  ln -sf "$kit/toolchain/bin/llvm-ar" "$folder/uncleared/bin/llvm-ar"
+  ln -sf "$kit"/toolchain/bin/* "$folder/uncleared/bin/"
+  rm "$folder/uncleared/bin/clang"
   cat > "$folder/uncleared/bin/clang" << END
 #!/bin/bash
 set -e
