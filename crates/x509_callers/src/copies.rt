@@ -5,30 +5,30 @@ ghost use Rattle.std.specs.Prelude.{◌≡◌};
 use picky_asn1_x509::{BasicConstraints, GeneralizedTimeAsn1, NameAttr, UtcTimeAsn1, Validity};
 
 /// A copy of a validity, for a certificate that takes another's place.
-pub fn same_validity(value: &Validity) -> Validity
-    ensures { result ≡ value.now }
+pub fn same_validity(validity: &Validity) -> Validity
+    ensures { result ≡ validity.now }
 {
-    let Ok(copy) = value.clone() else {
+    let Ok(copy) = validity.clone() else {
         unreachable!()
     };
     copy
 }
 
 /// A copy of basic constraints.
-pub fn same_constraints(value: &BasicConstraints) -> BasicConstraints
-    ensures { result ≡ value.now }
+pub fn same_constraints(constraints: &BasicConstraints) -> BasicConstraints
+    ensures { result ≡ constraints.now }
 {
-    let Ok(copy) = value.clone() else {
+    let Ok(copy) = constraints.clone() else {
         unreachable!()
     };
     copy
 }
 
 /// A copy of a kind of attribute.
-pub fn same_kind(value: &NameAttr) -> NameAttr
-    ensures { result ≡ value.now }
+pub fn same_kind(kind: &NameAttr) -> NameAttr
+    ensures { result ≡ kind.now }
 {
-    let Ok(copy) = value.clone() else {
+    let Ok(copy) = kind.clone() else {
         unreachable!()
     };
     copy
