@@ -15,6 +15,11 @@ const IDENTIFIERS: Table<'static> = Table {
         ("06014f", 1),
         ("060150", 1),
         ("060b2a81ffffffffffffffff7f", 1),
+        // past 22 bytes, which a clone takes memory for
+        (
+            "061f5581ffffffffffffffff7f81ffffffffffffffff7f81ffffffffffffffff7f",
+            1,
+        ),
     ],
     rows: &[],
     refused: &[
