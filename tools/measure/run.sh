@@ -75,6 +75,7 @@ END
 # Copies the crates of a checkout, proves them, and builds the calls over them.
 build_copy() {
   local from=$1 to=$2 crate part
+  [ -z "${UNCLEARED:-}" ] || { echo "UNCLEARED=1 takes the libraries that .ci/run leaves, and there are none" >&2; exit 1; }
   [ -d "$to/.git" ] || git init -q "$to"
   for crate in $list; do
     mkdir -p "$to/crates/$crate"
