@@ -1,12 +1,11 @@
 //! Lengths of salts, as they are written.
 
-ghost use Rattle.std.specs.Prelude.{◌≡◌, ◌+◌, ◌≤◌, ◌++◌, length, take};
-ghost use Rattle.x509_der.specs.Element.{element};
+ghost use Rattle.std.specs.Prelude.{◌≡◌, ◌+◌, ◌≤◌, ◌++◌, length, take, refl};
 ghost use Rattle.x509_der.specs.Integer.{natural_content};
 
 use std::marker::Model;
-use x509_der::parts::{ContentOf, INTEGER_TAG, ToContent, element_len, write_element};
-use x509_der::{ToDer, TooLong};
+use x509_der::TooLong;
+use x509_der::parts::{OwnTag, Primitive, ToContent, Universal};
 
 /// A number that is written as an INTEGER, without memory.
 #[derive(Drop)]
@@ -58,14 +57,10 @@ impl ToContent for SaltLength {
     }
 }
 
-impl ToDer for SaltLength {
-    ghost strict = { λ n. element 2 (natural_content n) };
+impl OwnTag for SaltLength {
+    type Form = Primitive;
 
-    fn encoded_len(&self) -> Result<usize, TooLong> {
-        element_len(INTEGER_TAG, &ContentOf(self))
-    }
+    type Tag = Universal<2>;
 
-    fn write_back(&self, out: &mut [u8]) -> usize {
-        write_element(INTEGER_TAG, &ContentOf(self), out)
-    }
+    ghost form = { refl };
 }
