@@ -12,12 +12,11 @@ ghost use Rattle.picky_asn1_x509.specs.facts.Certificates.{certificate_same, cer
 
 use crate::signed_read::SignedRead;
 pub use crate::tbs_certificate::TbsCertificate;
-use crate::three::{put_three, read_three};
+use crate::three::{read_three, three_len, write_three};
 use picky_asn1_x509_parts::{AuthorityKeyIdentifier, BasicConstraints, Extension, ExtensionView};
 use std::alloc::{Allocator, Global};
 use x509_der::parts::{
-    Field, Join, One, Output, Reader, Ref, SEQUENCE_TAG, Sequence, Structure, Tagged,
-    read_first_field,
+    Field, Join, One, Reader, Ref, SEQUENCE_TAG, Sequence, Structure, Tagged, read_first_field,
 };
 use x509_der::{BitStringAsn1, CloneEq, FromDer, ReadError, ToDer, TooLong};
 use x509_keys::AlgorithmIdentifier;
@@ -144,13 +143,20 @@ type Inner<A> = Join<TbsCertificate<A>, Signature<A>>;
 impl<A: Allocator> ToDer for Certificate<A> {
     ghost strict = { certificate_bytes };
 
-    fn put<O: Output>(&self, out: &mut [u8], at: usize) -> Result<usize, TooLong> {
-        put_three::<O, _, _, _>(
+    fn encoded_len(&self) -> Result<usize, TooLong> {
+        three_len(
+            &self.tbs_certificate,
+            &self.signature_algorithm,
+            &One(Ref(&self.signature_value)),
+        )
+    }
+
+    fn write_back(&self, out: &mut [u8]) -> usize {
+        write_three(
             &self.tbs_certificate,
             &self.signature_algorithm,
             &One(Ref(&self.signature_value)),
             out,
-            at,
         )
     }
 }

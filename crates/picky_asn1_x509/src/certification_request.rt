@@ -13,13 +13,13 @@ ghost use Rattle.picky_asn1_x509.specs.facts.Requests.{request_attributes_agree,
 
 use crate::certificate::Signature;
 use crate::signed_read::SignedRead;
-use crate::three::{put_four, put_three, read_three};
+use crate::three::{four_len, read_three, three_len, write_four, write_three};
 use picky_asn1_x509_parts::{Attribute, Attributes};
 use std::alloc::{AllocError, Allocator, Global};
 use std::marker::Model;
 use x509_der::parts::{
-    ContextConstructed, Field, Join, One, Output, Reader, Ref, SEQUENCE_TAG, Sequence, Structure,
-    Tag, Tagged, clone_three, known_items, read_first_field,
+    ContextConstructed, Field, Join, One, Reader, Ref, SEQUENCE_TAG, Sequence, Structure, Tag,
+    Tagged, clone_three, known_items, read_first_field,
 };
 use x509_der::{Asn1SequenceOf, BitStringAsn1, CloneEq, FromDer, ReadError, ToDer, TooLong};
 use x509_keys::{AlgorithmIdentifier, SubjectPublicKeyInfo};
@@ -83,8 +83,12 @@ type ListNest<L> = Tagged<ContextConstructed<0>, L>;
 impl<A: Allocator> ToDer for OpenSslAttributes<A> {
     ghost strict = { request_attributes_bytes };
 
-    fn put<O: Output>(&self, out: &mut [u8], at: usize) -> Result<usize, TooLong> {
-        ListNest::new(Ref(&self.0)).put::<O>(out, at)
+    fn encoded_len(&self) -> Result<usize, TooLong> {
+        ListNest::new(Ref(&self.0)).encoded_len()
+    }
+
+    fn write_back(&self, out: &mut [u8]) -> usize {
+        ListNest::new(Ref(&self.0)).write_back(out)
     }
 }
 
@@ -222,14 +226,22 @@ type InfoInner<A> = Join<u8, Join<Name<A>, InfoEnd<A>>>;
 impl<A: Allocator> ToDer for CertificationRequestInfo<A> {
     ghost strict = { info_bytes };
 
-    fn put<O: Output>(&self, out: &mut [u8], at: usize) -> Result<usize, TooLong> {
-        put_four::<O, _, _, _, _>(
+    fn encoded_len(&self) -> Result<usize, TooLong> {
+        four_len(
+            &self.version,
+            &self.subject,
+            &self.subject_public_key_info,
+            &One(Ref(&self.attributes)),
+        )
+    }
+
+    fn write_back(&self, out: &mut [u8]) -> usize {
+        write_four(
             &self.version,
             &self.subject,
             &self.subject_public_key_info,
             &One(Ref(&self.attributes)),
             out,
-            at,
         )
     }
 }
@@ -340,13 +352,20 @@ type RequestFields<A> = Tagged<Sequence, RequestInner<A>>;
 impl<A: Allocator> ToDer for CertificationRequest<A> {
     ghost strict = { request_bytes };
 
-    fn put<O: Output>(&self, out: &mut [u8], at: usize) -> Result<usize, TooLong> {
-        put_three::<O, _, _, _>(
+    fn encoded_len(&self) -> Result<usize, TooLong> {
+        three_len(
+            &self.certification_request_info,
+            &self.signature_algorithm,
+            &One(Ref(&self.signature)),
+        )
+    }
+
+    fn write_back(&self, out: &mut [u8]) -> usize {
+        write_three(
             &self.certification_request_info,
             &self.signature_algorithm,
             &One(Ref(&self.signature)),
             out,
-            at,
         )
     }
 }

@@ -9,8 +9,7 @@ use picky_asn1_x509_parts::Extensions;
 use std::alloc::{AllocError, Allocator};
 use std::marker::Model;
 use x509_der::parts::{
-    Content, Field, INTEGER_TAG, Join, One, Output, Reader, Ref, SEQUENCE_TAG, ToContent,
-    clone_three,
+    Content, Field, INTEGER_TAG, Join, One, Reader, Ref, SEQUENCE_TAG, ToContent, clone_three,
 };
 use x509_der::{BitString, IntegerAsn1, ReadError, ToDer, TooLong};
 use x509_keys::{AlgorithmIdentifier, SubjectPublicKeyInfo};
@@ -43,8 +42,12 @@ impl<A: Allocator> Model for RequiredFields<A> {
 impl<A: Allocator> ToDer for RequiredFields<A> {
     ghost strict = { required_bytes };
 
-    fn put<O: Output>(&self, out: &mut [u8], at: usize) -> Result<usize, TooLong> {
-        self.0.put_content::<O>(out, at)
+    fn encoded_len(&self) -> Result<usize, TooLong> {
+        self.0.content_len()
+    }
+
+    fn write_back(&self, out: &mut [u8]) -> usize {
+        self.0.write_content(out)
     }
 }
 
@@ -181,7 +184,11 @@ impl<'a, A: Allocator> Model for WrittenRequired<'a, A> {
 impl<'a, A: Allocator> ToDer for WrittenRequired<'a, A> {
     ghost strict = { required_bytes };
 
-    fn put<O: Output>(&self, out: &mut [u8], at: usize) -> Result<usize, TooLong> {
-        borrowed_required(self.0).put_content::<O>(out, at)
+    fn encoded_len(&self) -> Result<usize, TooLong> {
+        borrowed_required(self.0).content_len()
+    }
+
+    fn write_back(&self, out: &mut [u8]) -> usize {
+        borrowed_required(self.0).write_content(out)
     }
 }

@@ -6,16 +6,16 @@ ghost use Rattle.x509_der.specs.Optional.{optional, optional_strict};
 ghost use Rattle.x509_der.specs.Types.read_error.{OutOfMemory};
 ghost use Rattle.x509_der.specs.View.{if_found, kinds_in, meant};
 ghost use Rattle.x509_der.specs.laws.Meaning.{seen_lawful, seen_element};
-ghost use Rattle.picky_asn1_x509.specs.TbsCertificates.{version_field, issuer_id_field, subject_id_field, extensions_field, tbs_base, version_in, written_version, version_kinds, list_in, written_list, list_kinds, is_absent, is_nil, ids_fit, extensions_fit, is_fitting, refusal_where, tbs_means, tbs_meaning, tbs_refusal, tbs_certificate, id_bytes, end_bytes, tbs_back, tbs_bytes};
+ghost use Rattle.picky_asn1_x509.specs.TbsCertificates.{version_field, issuer_id_field, subject_id_field, extensions_field, tbs_base, version_in, written_version, version_kinds, list_in, written_list, list_kinds, is_absent, is_nil, ids_fit, extensions_fit, is_fitting, refusal_where, tbs_means, tbs_meaning, tbs_refusal, tbs_certificate, id_bytes, list_bytes, end_bytes, tbs_back, tbs_bytes};
 ghost use Rattle.picky_asn1_x509.specs.facts.TbsCertificates.{version_apart, issuer_id_apart, subject_id_apart, tbs_is, tbs_keeps, tbs_agrees};
 
 use crate::required_fields::{RequiredFields, WrittenRequired, clone_required, from_required};
-use crate::three::{put_three, read_three_meanings};
+use crate::three::{read_three_meanings, three_len, write_three};
 use picky_asn1_x509_parts::Extensions;
 use std::alloc::{AllocError, Allocator, Global};
 use x509_der::parts::{
     BorrowedBits, Content, ContextConstructed, ContextPrimitive, Field, Join, One, Optional,
-    Output, Reader, Ref, SEQUENCE_TAG, Sequence, Tag, Tagged, ToContent, View, WholeDeviations,
+    Reader, Ref, SEQUENCE_TAG, Sequence, Tag, Tagged, ToContent, View, WholeDeviations,
     clone_three,
 };
 use x509_der::{
@@ -172,11 +172,18 @@ fn borrowed_ends<A: Allocator>(value: &TbsCertificate<A>) -> WrittenEnds<'_, A>
 impl<A: Allocator> ToDer for TbsCertificate<A> {
     ghost strict = { tbs_bytes };
 
-    fn put<O: Output>(&self, out: &mut [u8], at: usize) -> Result<usize, TooLong> {
+    fn encoded_len(&self) -> Result<usize, TooLong> {
         let version = written_version(self.version);
         let required = WrittenRequired(self);
         let ends = borrowed_ends(self);
-        put_three::<O, _, _, _>(&version, &required, &ends, out, at)
+        three_len(&version, &required, &ends)
+    }
+
+    fn write_back(&self, out: &mut [u8]) -> usize {
+        let version = written_version(self.version);
+        let required = WrittenRequired(self);
+        let ends = borrowed_ends(self);
+        write_three(&version, &required, &ends, out)
     }
 }
 

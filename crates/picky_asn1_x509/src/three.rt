@@ -1,6 +1,6 @@
 //! A SEQUENCE of three or four parts, over any such, of which the last is a content: a proof about it doesn't have all that stands in them.
 
-ghost use Rattle.std.specs.Prelude.{◌++◌, ℕ, List};
+ghost use Rattle.std.specs.Prelude.{◌≡◌, ◌+◌, ◌≤◌, ◌++◌, ℕ, List, length, take};
 ghost use Rattle.x509_der.specs.Element.{element};
 ghost use Rattle.x509_der.specs.Join.{join, Apart};
 ghost use Rattle.x509_der.specs.Reading.{Ready, Reads};
@@ -8,55 +8,86 @@ ghost use Rattle.x509_der.specs.Structure.{structure};
 ghost use Rattle.x509_der.specs.Tagged.{tagged};
 ghost use Rattle.x509_der.specs.Tally.{Tally};
 ghost use Rattle.x509_der.specs.View.{seen};
+ghost use Rattle.x509_der.specs.Writing.{Measures};
 
 use std::alloc::Allocator;
 use x509_der::parts::{
-    Content, Field, Join, Output, Reader, Ref, SEQUENCE_TAG, Sequence, Structure, Tagged,
-    ToContent, View, put_element, read_sequence, read_viewed,
+    Content, Field, Join, Reader, Ref, SEQUENCE_TAG, Sequence, Structure, Tagged, ToContent, View,
+    element_len, read_sequence, read_viewed, write_element,
 };
 use x509_der::{ReadError, ToDer, TooLong};
 
-/// Puts the SEQUENCE of two fields and a content in front of a place, to be counted or written. Takes no memory.
+/// How many bytes the SEQUENCE of two fields and a content is. Takes no memory.
 ///
 /// # Errors
-/// `TooLong`, exactly where more is counted than the greatest `usize`.
-pub(crate) fn put_three<O: Output, F: ToDer, G: ToDer, H: ToContent>(
+/// `TooLong`, exactly where the length is above the greatest `usize`.
+pub(crate) fn three_len<F: ToDer, G: ToDer, H: ToContent>(
+    first: &F,
+    second: &G,
+    third: &H,
+) -> Result<usize, TooLong>
+    ensures { Measures (length (element 48
+        (F.strict first.now ++ (G.strict second.now ++ H.content third.now)))) result }
+{
+    element_len(
+        SEQUENCE_TAG,
+        &Join(Ref(first), Join(Ref(second), Ref(third))),
+    )
+}
+
+/// Writes the SEQUENCE of two fields and a content to the end of a slice, and answers where it begins.
+pub(crate) fn write_three<F: ToDer, G: ToDer, H: ToContent>(
     first: &F,
     second: &G,
     third: &H,
     out: &mut [u8],
-    at: usize,
-) -> Result<usize, TooLong>
-    requires { O.fits (element 48 (F.strict first.now ++ (G.strict second.now ++ H.content third.now))) out.old at }
-    ensures { O.puts (element 48 (F.strict first.now ++ (G.strict second.now ++ H.content third.now))) out.old at
-        out.new result }
+) -> usize
+    requires { length (element 48 (F.strict first.now ++ (G.strict second.now ++ H.content third.now)))
+        ≤ length out.old }
+    ensures start { result + length (element 48 (F.strict first.now ++ (G.strict second.now ++ H.content third.now)))
+        ≡ length out.old }
+    ensures bytes { out.new ≡ take result out.old
+        ++ element 48 (F.strict first.now ++ (G.strict second.now ++ H.content third.now)) }
 {
-    put_element::<O, _>(
+    write_element(
         SEQUENCE_TAG,
         &Join(Ref(first), Join(Ref(second), Ref(third))),
         out,
-        at,
     )
 }
 
-/// Puts the SEQUENCE of three fields and a content in front of a place, to be counted or written. Takes no memory.
+/// How many bytes the SEQUENCE of three fields and a content is. Takes no memory.
 ///
 /// # Errors
-/// `TooLong`, exactly where more is counted than the greatest `usize`.
-pub(crate) fn put_four<O: Output, F: ToDer, G: ToDer, H: ToDer, I: ToContent>(
+/// `TooLong`, exactly where the length is above the greatest `usize`.
+pub(crate) fn four_len<F: ToDer, G: ToDer, H: ToDer, I: ToContent>(
+    first: &F,
+    second: &G,
+    third: &H,
+    fourth: &I,
+) -> Result<usize, TooLong>
+    ensures { Measures (length (element 48 (F.strict first.now ++ (G.strict second.now
+        ++ (H.strict third.now ++ I.content fourth.now))))) result }
+{
+    three_len(first, second, &Join(Ref(third), Ref(fourth)))
+}
+
+/// Writes the SEQUENCE of three fields and a content to the end of a slice, and answers where it begins.
+pub(crate) fn write_four<F: ToDer, G: ToDer, H: ToDer, I: ToContent>(
     first: &F,
     second: &G,
     third: &H,
     fourth: &I,
     out: &mut [u8],
-    at: usize,
-) -> Result<usize, TooLong>
-    requires { O.fits (element 48 (F.strict first.now ++ (G.strict second.now
-        ++ (H.strict third.now ++ I.content fourth.now)))) out.old at }
-    ensures { O.puts (element 48 (F.strict first.now ++ (G.strict second.now
-        ++ (H.strict third.now ++ I.content fourth.now)))) out.old at out.new result }
+) -> usize
+    requires { length (element 48 (F.strict first.now ++ (G.strict second.now
+        ++ (H.strict third.now ++ I.content fourth.now)))) ≤ length out.old }
+    ensures start { result + length (element 48 (F.strict first.now ++ (G.strict second.now
+        ++ (H.strict third.now ++ I.content fourth.now)))) ≡ length out.old }
+    ensures bytes { out.new ≡ take result out.old ++ element 48 (F.strict first.now ++ (G.strict second.now
+        ++ (H.strict third.now ++ I.content fourth.now))) }
 {
-    put_three::<O, _, _, _>(first, second, &Join(Ref(third), Ref(fourth)), out, at)
+    write_three(first, second, &Join(Ref(third), Ref(fourth)), out)
 }
 
 /// Reads a value by way of the SEQUENCE of its two fields and a content.

@@ -11,8 +11,8 @@ use crate::extension::Extension;
 use crate::extensions::Extensions;
 use std::alloc::{AllocError, Allocator, Global};
 use x509_der::parts::{
-    AnyDefinedBy, DefinedBy, Field, One, Output, Reader, Ref, SEQUENCE_TAG, Sequence, Structure,
-    Tagged, read_fields,
+    AnyDefinedBy, DefinedBy, Field, One, Reader, Ref, SEQUENCE_TAG, Sequence, Structure, Tagged,
+    read_fields,
 };
 use x509_der::{
     Asn1RawDer, Asn1SequenceOf, Asn1SetOf, CloneEq, FromDer, ObjectIdentifier,
@@ -105,14 +105,25 @@ fn kind_of<A: Allocator>(identifier: &ObjectIdentifierAsn1<A>) -> AttributeKind
 impl<A: Allocator> ToDer for AttributeValues<A> {
     ghost strict = { value_bytes };
 
-    fn put<O: Output>(&self, out: &mut [u8], at: usize) -> Result<usize, TooLong> {
+    fn encoded_len(&self) -> Result<usize, TooLong> {
         match self {
-            AttributeValues::Extensions(lists) => lists.put::<O>(out, at),
-            AttributeValues::ContentType(types) => types.put::<O>(out, at),
-            AttributeValues::SpcStatementType(lists) => lists.put::<O>(out, at),
-            AttributeValues::MessageDigest(digests) => digests.put::<O>(out, at),
-            AttributeValues::SigningTime(times) => times.put::<O>(out, at),
-            AttributeValues::Custom(element) => element.put::<O>(out, at),
+            AttributeValues::Extensions(lists) => lists.encoded_len(),
+            AttributeValues::ContentType(types) => types.encoded_len(),
+            AttributeValues::SpcStatementType(lists) => lists.encoded_len(),
+            AttributeValues::MessageDigest(digests) => digests.encoded_len(),
+            AttributeValues::SigningTime(times) => times.encoded_len(),
+            AttributeValues::Custom(element) => element.encoded_len(),
+        }
+    }
+
+    fn write_back(&self, out: &mut [u8]) -> usize {
+        match self {
+            AttributeValues::Extensions(lists) => lists.write_back(out),
+            AttributeValues::ContentType(types) => types.write_back(out),
+            AttributeValues::SpcStatementType(lists) => lists.write_back(out),
+            AttributeValues::MessageDigest(digests) => digests.write_back(out),
+            AttributeValues::SigningTime(times) => times.write_back(out),
+            AttributeValues::Custom(element) => element.write_back(out),
         }
     }
 }
@@ -345,8 +356,12 @@ fn written<A: Allocator>(value: &Attribute<A>) -> Written<'_, A>
 impl<A: Allocator> ToDer for Attribute<A> {
     ghost strict = { attribute_bytes };
 
-    fn put<O: Output>(&self, out: &mut [u8], at: usize) -> Result<usize, TooLong> {
-        written(self).put::<O>(out, at)
+    fn encoded_len(&self) -> Result<usize, TooLong> {
+        written(self).encoded_len()
+    }
+
+    fn write_back(&self, out: &mut [u8]) -> usize {
+        written(self).write_back(out)
     }
 }
 

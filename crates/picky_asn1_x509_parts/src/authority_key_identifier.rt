@@ -14,8 +14,7 @@ use std::alloc::{Allocator, Global};
 use std::marker::Model;
 use x509_der::parts::{
     Choice, Content, ContextConstructed, ContextPrimitive, Field, Items, Join, One, Optional,
-    Output, Reader, Ref, SEQUENCE_TAG, Sequence, Tagged, View, WholeDeviations, known_there,
-    read_viewed,
+    Reader, Ref, SEQUENCE_TAG, Sequence, Tagged, View, WholeDeviations, known_there, read_viewed,
 };
 use x509_der::{
     CloneEq, Deviation, FromDer, IntegerAsn1, OctetStringAsn1, ReadError, SameEq, ToDer, TooLong,
@@ -234,8 +233,12 @@ fn written<A: Allocator>(value: &AuthorityKeyIdentifier<A>) -> Written<'_, A>
 impl<A: Allocator> ToDer for AuthorityKeyIdentifier<A> {
     ghost strict = { λ v. authority_bytes v };
 
-    fn put<O: Output>(&self, out: &mut [u8], at: usize) -> Result<usize, TooLong> {
-        written(self).put::<O>(out, at)
+    fn encoded_len(&self) -> Result<usize, TooLong> {
+        written(self).encoded_len()
+    }
+
+    fn write_back(&self, out: &mut [u8]) -> usize {
+        written(self).write_back(out)
     }
 }
 

@@ -8,7 +8,7 @@ ghost use Rattle.picky_asn1_x509_parts.specs.facts.BasicConstraints.{constraints
 use std::alloc::Allocator;
 use std::marker::Model;
 use x509_der::parts::{
-    Field, Join, One, Optional, Output, Reader, Ref, SEQUENCE_TAG, Sequence, Structure, Tagged,
+    Field, Join, One, Optional, Reader, Ref, SEQUENCE_TAG, Sequence, Structure, Tagged,
     known_there, read_fields,
 };
 use x509_der::{CloneEq, FromDer, ReadError, SameEq, ToDer, TooLong};
@@ -98,8 +98,12 @@ fn written(value: &BasicConstraints) -> Written<'_>
 impl ToDer for BasicConstraints {
     ghost strict = { λ v. constraints_base.strict (constraints_parts v) };
 
-    fn put<O: Output>(&self, out: &mut [u8], at: usize) -> Result<usize, TooLong> {
-        written(self).put::<O>(out, at)
+    fn encoded_len(&self) -> Result<usize, TooLong> {
+        written(self).encoded_len()
+    }
+
+    fn write_back(&self, out: &mut [u8]) -> usize {
+        written(self).write_back(out)
     }
 }
 

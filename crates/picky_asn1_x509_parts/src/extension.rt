@@ -1,6 +1,6 @@
 //! Extensions of certificates and requests.
 
-ghost use Rattle.std.specs.Prelude.{◌≡◌, ◌↔◌, true, false, Contains, Err, IfOk, IsOkAnd, IsTrue, MatchResult};
+ghost use Rattle.std.specs.Prelude.{◌≡◌, ◌↔◌, true, false, refl, Contains, Err, IfOk, IsOkAnd, IsTrue, MatchResult};
 ghost use Rattle.x509_der.specs.View.{if_found};
 ghost use Rattle.x509_der.specs.laws.Meaning.{sequence_keeps, seen_lawful, seen_element};
 ghost use Rattle.picky_asn1_x509_parts.specs.declared.extension_value.ExtensionValue.TheVariants as value;
@@ -16,8 +16,8 @@ use crate::key_usage::KeyUsage;
 use std::alloc::{AllocError, Allocator, Global};
 use std::marker::Model;
 use x509_der::parts::{
-    Content, DefinedBy, Field, Join, One, Optional, Output, Reader, Ref, SEQUENCE_TAG, Sequence,
-    Tagged, ToContent, View, WholeDeviations, clone_both, read_viewed,
+    Content, DefinedBy, Field, Join, One, Optional, Reader, Ref, SEQUENCE_TAG, Sequence, Tagged,
+    ToContent, View, WholeDeviations, clone_both, read_viewed,
 };
 use x509_der::{
     CloneEq, Deviation, FromDer, IntegerAsn1, ObjectIdentifier, ObjectIdentifierAsn1,
@@ -48,8 +48,12 @@ impl<A: Allocator> Model for MatchingFields<A> {
 impl<A: Allocator> ToContent for MatchingFields<A> {
     ghost content = { fields_bytes };
 
-    fn put_content<O: Output>(&self, out: &mut [u8], at: usize) -> Result<usize, TooLong> {
-        self.0.put::<O>(out, at)
+    fn content_len(&self) -> Result<usize, TooLong> {
+        self.0.encoded_len()
+    }
+
+    fn write_content(&self, out: &mut [u8]) -> usize {
+        self.0.write_back(out)
     }
 }
 
@@ -419,8 +423,12 @@ fn spelled_false(spelled: Option<bool>) -> Option<Deviation>
 impl<A: Allocator> ToDer for Extension<A> {
     ghost strict = { extension_bytes };
 
-    fn put<O: Output>(&self, out: &mut [u8], at: usize) -> Result<usize, TooLong> {
-        written(self).put::<O>(out, at)
+    fn encoded_len(&self) -> Result<usize, TooLong> {
+        written(self).encoded_len()
+    }
+
+    fn write_back(&self, out: &mut [u8]) -> usize {
+        written(self).write_back(out)
     }
 }
 

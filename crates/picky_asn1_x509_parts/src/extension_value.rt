@@ -15,7 +15,7 @@ use std::alloc::{Allocator, Global};
 use std::marker::Model;
 use x509_der::parts::{
     AnyDefinedBy, BOOLEAN_TAG, Content, Field, Join, OBJECT_IDENTIFIER_TAG, OCTET_STRING_TAG, One,
-    Optional, Output, Reader, ToContent,
+    Optional, Reader, ToContent,
 };
 use x509_der::{
     CloneEq, IntegerAsn1, ObjectIdentifierAsn1, OctetStringAsn1, OctetStringAsn1Container,
@@ -120,17 +120,31 @@ fn kind_of<A: Allocator>(identifier: &ObjectIdentifierAsn1<A>) -> ExtensionKind
 impl<A: Allocator> ToDer for ExtensionValue<A> {
     ghost strict = { value_bytes };
 
-    fn put<O: Output>(&self, out: &mut [u8], at: usize) -> Result<usize, TooLong> {
+    fn encoded_len(&self) -> Result<usize, TooLong> {
         match self {
-            ExtensionValue::AuthorityKeyIdentifier(key) => key.put::<O>(out, at),
-            ExtensionValue::SubjectKeyIdentifier(key) => key.put::<O>(out, at),
-            ExtensionValue::KeyUsage(usage) => usage.put::<O>(out, at),
-            ExtensionValue::SubjectAltName(names) => names.put::<O>(out, at),
-            ExtensionValue::IssuerAltName(names) => names.put::<O>(out, at),
-            ExtensionValue::BasicConstraints(constraints) => constraints.put::<O>(out, at),
-            ExtensionValue::ExtendedKeyUsage(usage) => usage.put::<O>(out, at),
-            ExtensionValue::Generic(octets) => octets.put::<O>(out, at),
-            ExtensionValue::CrlNumber(number) => number.put::<O>(out, at),
+            ExtensionValue::AuthorityKeyIdentifier(key) => key.encoded_len(),
+            ExtensionValue::SubjectKeyIdentifier(key) => key.encoded_len(),
+            ExtensionValue::KeyUsage(usage) => usage.encoded_len(),
+            ExtensionValue::SubjectAltName(names) => names.encoded_len(),
+            ExtensionValue::IssuerAltName(names) => names.encoded_len(),
+            ExtensionValue::BasicConstraints(constraints) => constraints.encoded_len(),
+            ExtensionValue::ExtendedKeyUsage(usage) => usage.encoded_len(),
+            ExtensionValue::Generic(octets) => octets.encoded_len(),
+            ExtensionValue::CrlNumber(number) => number.encoded_len(),
+        }
+    }
+
+    fn write_back(&self, out: &mut [u8]) -> usize {
+        match self {
+            ExtensionValue::AuthorityKeyIdentifier(key) => key.write_back(out),
+            ExtensionValue::SubjectKeyIdentifier(key) => key.write_back(out),
+            ExtensionValue::KeyUsage(usage) => usage.write_back(out),
+            ExtensionValue::SubjectAltName(names) => names.write_back(out),
+            ExtensionValue::IssuerAltName(names) => names.write_back(out),
+            ExtensionValue::BasicConstraints(constraints) => constraints.write_back(out),
+            ExtensionValue::ExtendedKeyUsage(usage) => usage.write_back(out),
+            ExtensionValue::Generic(octets) => octets.write_back(out),
+            ExtensionValue::CrlNumber(number) => number.write_back(out),
         }
     }
 }
@@ -203,8 +217,12 @@ impl<I, C> Model for KeyNest<I, C> {
 impl<I: ToDer, C: ToDer> ToDer for KeyNest<I, C> {
     ghost strict = { λ k. I.strict k.0 ++ optional_strict C.strict k.1 };
 
-    fn put<O: Output>(&self, out: &mut [u8], at: usize) -> Result<usize, TooLong> {
-        self.0.put_content::<O>(out, at)
+    fn encoded_len(&self) -> Result<usize, TooLong> {
+        self.0.content_len()
+    }
+
+    fn write_back(&self, out: &mut [u8]) -> usize {
+        self.0.write_content(out)
     }
 }
 

@@ -4,10 +4,11 @@ ghost use Rattle.std.specs.Prelude.{◌≡◌, refl};
 ghost use Rattle.x509_der.specs.BitString.{bit_content};
 
 use crate::bit_string::BitString;
+use crate::bits::write_bits;
 use std::alloc::Allocator;
 use std::marker::Model;
 use x509_der_parts::errors::TooLong;
-use x509_der_parts::parts::{Output, OwnTag, Primitive, ToContent, Universal};
+use x509_der_parts::parts::{OwnTag, Primitive, ToContent, Universal};
 
 /// A BIT STRING, lent. Contracts see its content: how many bits of the last byte are unused, and the bytes.
 #[derive(Drop)]
@@ -39,9 +40,12 @@ impl<'a> BorrowedBits<'a> {
 impl<'a> ToContent for BorrowedBits<'a> {
     ghost content = { λ b. b };
 
-    fn put_content<O: Output>(&self, out: &mut [u8], at: usize) -> Result<usize, TooLong> {
-        let at = O::bytes(self.bytes, out, at)?;
-        O::bytes(&[self.unused], out, at)
+    fn content_len(&self) -> Result<usize, TooLong> {
+        self.bytes.len().checked_add(1).ok_or(TooLong)
+    }
+
+    fn write_content(&self, out: &mut [u8]) -> usize {
+        write_bits(self.unused, self.bytes, out)
     }
 }
 

@@ -1,7 +1,6 @@
 //! A content that is one field.
 
 use crate::errors::{ReadError, TooLong};
-use crate::output::Output;
 use crate::reader::Reader;
 use crate::traits::{Content, Field, ToContent, ToDer};
 use std::alloc::Allocator;
@@ -21,8 +20,12 @@ impl<F> Model for One<F> {
 impl<F: ToDer> ToContent for One<F> {
     ghost content = { λ v. F.strict v };
 
-    fn put_content<O: Output>(&self, out: &mut [u8], at: usize) -> Result<usize, TooLong> {
-        self.0.put::<O>(out, at)
+    fn content_len(&self) -> Result<usize, TooLong> {
+        self.0.encoded_len()
+    }
+
+    fn write_content(&self, out: &mut [u8]) -> usize {
+        self.0.write_back(out)
     }
 }
 

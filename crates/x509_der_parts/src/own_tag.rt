@@ -1,23 +1,26 @@
 //! Types with a tag of their own: the element with the tag around the content.
 
-ghost use Rattle.std.specs.Prelude.{refl};
+ghost use Rattle.std.specs.Prelude.{◌≡◌, refl};
 ghost use Rattle.std.proofs.Common.{ap};
 ghost use Rattle.x509_der_parts.specs.Element.{element};
 ghost use Rattle.x509_der_parts.specs.Tagged.{tagged};
 ghost use Rattle.x509_der_parts.specs.laws.Tagged.{tagged_lawful, tagged_element};
 
 use crate::errors::{ReadError, TooLong};
-use crate::output::Output;
 use crate::reader::Reader;
-use crate::tagged::{Tagged, put_element, read_element};
+use crate::tagged::{Tagged, element_len, read_element, write_element};
 use crate::traits::{Content, Field, FromContent, FromDer, OneTag, OwnTag, Tag, TagOf, ToDer};
 use std::alloc::Allocator;
 
 impl<T: OwnTag> ToDer for T {
     ghost strict = { λ v. element T.Tag.BYTE (T.content v) };
 
-    fn put<O: Output>(&self, out: &mut [u8], at: usize) -> Result<usize, TooLong> {
-        put_element::<O, T>(T::Tag::BYTE, self, out, at)
+    fn encoded_len(&self) -> Result<usize, TooLong> {
+        element_len(T::Tag::BYTE, self)
+    }
+
+    fn write_back(&self, out: &mut [u8]) -> usize {
+        write_element(T::Tag::BYTE, self, out)
     }
 }
 

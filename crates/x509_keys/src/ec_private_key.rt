@@ -11,8 +11,8 @@ use crate::public_key::EncapsulatedEcPoint;
 use std::alloc::{Allocator, Global};
 use std::marker::Model;
 use x509_der::parts::{
-    Content, ContextConstructed, Field, Join, One, Optional, Output, Reader, Ref, SEQUENCE_TAG,
-    Sequence, Tagged, ToContent, View, WholeDeviations, known_there, put_element, read_viewed,
+    Content, ContextConstructed, Field, Join, One, Optional, Reader, Ref, SEQUENCE_TAG, Sequence,
+    Tagged, ToContent, View, WholeDeviations, element_len, known_there, read_viewed, write_element,
 };
 use x509_der::{CloneEq, FromDer, IntegerAsn1, OctetStringAsn1, ReadError, SameEq, ToDer, TooLong};
 use x509_keys_parts::EcParameters;
@@ -90,8 +90,12 @@ fn optional<A: Allocator>(
 impl<'a, A: Allocator> ToContent for OptionalOf<'a, A> {
     ghost content = { ec_key_optional.strict };
 
-    fn put_content<O: Output>(&self, out: &mut [u8], at: usize) -> Result<usize, TooLong> {
-        optional(self.0).put_content::<O>(out, at)
+    fn content_len(&self) -> Result<usize, TooLong> {
+        optional(self.0).content_len()
+    }
+
+    fn write_content(&self, out: &mut [u8]) -> usize {
+        optional(self.0).write_content(out)
     }
 }
 
@@ -124,8 +128,12 @@ fn written<A: Allocator>(key: &ECPrivateKey<A>) -> Written<'_, A>
 impl<A: Allocator> ToDer for ECPrivateKey<A> {
     ghost strict = { λ v. ec_key_base.strict (ec_key_parts v) };
 
-    fn put<O: Output>(&self, out: &mut [u8], at: usize) -> Result<usize, TooLong> {
-        put_element::<O, _>(SEQUENCE_TAG, &written(self), out, at)
+    fn encoded_len(&self) -> Result<usize, TooLong> {
+        element_len(SEQUENCE_TAG, &written(self))
+    }
+
+    fn write_back(&self, out: &mut [u8]) -> usize {
+        write_element(SEQUENCE_TAG, &written(self), out)
     }
 }
 

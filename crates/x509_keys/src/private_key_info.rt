@@ -20,7 +20,7 @@ use crate::skipping::{PassedOver, Skipping, read_skipping};
 use std::alloc::{AllocError, Allocator, Global};
 use x509_der::parts::{
     AnyDefinedBy, BorrowedBits, Content, ContextConstructed, DefinedBy, Field, Join, One, Optional,
-    Output, Reader, Ref, SEQUENCE_TAG, Sequence, Tag, Tagged, View, WholeDeviations, clone_three,
+    Reader, Ref, SEQUENCE_TAG, Sequence, Tag, Tagged, View, WholeDeviations, clone_three,
 };
 use x509_der::{
     BitString, BitStringAsn1, CloneEq, Deviation, FromDer, IntegerAsn1, ObjectIdentifier,
@@ -322,8 +322,12 @@ fn written<A: Allocator>(value: &PrivateKeyInfo<A>) -> Written<'_, A>
 impl<A: Allocator> ToDer for PrivateKeyInfo<A> {
     ghost strict = { info_bytes };
 
-    fn put<O: Output>(&self, out: &mut [u8], at: usize) -> Result<usize, TooLong> {
-        written(self).put::<O>(out, at)
+    fn encoded_len(&self) -> Result<usize, TooLong> {
+        written(self).encoded_len()
+    }
+
+    fn write_back(&self, out: &mut [u8]) -> usize {
+        written(self).write_back(out)
     }
 }
 

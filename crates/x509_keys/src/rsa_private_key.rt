@@ -8,8 +8,8 @@ ghost use Rattle.x509_keys.specs.facts.RsaPrivateKeys.{private_key_same};
 use std::alloc::{AllocError, Allocator, Global};
 use std::marker::Model;
 use x509_der::parts::{
-    Field, Join, One, Output, Reader, Ref, SEQUENCE_TAG, Sequence, Structure, Tagged, ToContent,
-    clone_three, put_element, read_sequence,
+    Field, Join, One, Reader, Ref, SEQUENCE_TAG, Sequence, Structure, Tagged, ToContent,
+    clone_three, element_len, read_sequence, write_element,
 };
 use x509_der::{CloneEq, FromDer, IntegerAsn1, ReadError, SameEq, ToDer, TooLong};
 
@@ -211,8 +211,12 @@ fn last<A: Allocator>(key: &RsaPrivateKey<A>) -> Last<Ref<'_, IntegerAsn1<A>>>
 impl<'a, A: Allocator> ToContent for LastOf<'a, A> {
     ghost content = { last_inner.strict };
 
-    fn put_content<O: Output>(&self, out: &mut [u8], at: usize) -> Result<usize, TooLong> {
-        last(self.0).put_content::<O>(out, at)
+    fn content_len(&self) -> Result<usize, TooLong> {
+        last(self.0).content_len()
+    }
+
+    fn write_content(&self, out: &mut [u8]) -> usize {
+        last(self.0).write_content(out)
     }
 }
 
@@ -231,8 +235,12 @@ fn written<A: Allocator>(key: &RsaPrivateKey<A>) -> Parts<Ref<'_, IntegerAsn1<A>
 impl<A: Allocator> ToDer for RsaPrivateKey<A> {
     ghost strict = { λ v. private_base.strict (private_parts v) };
 
-    fn put<O: Output>(&self, out: &mut [u8], at: usize) -> Result<usize, TooLong> {
-        put_element::<O, _>(SEQUENCE_TAG, &written(self), out, at)
+    fn encoded_len(&self) -> Result<usize, TooLong> {
+        element_len(SEQUENCE_TAG, &written(self))
+    }
+
+    fn write_back(&self, out: &mut [u8]) -> usize {
+        write_element(SEQUENCE_TAG, &written(self), out)
     }
 }
 

@@ -7,7 +7,7 @@ ghost use Rattle.x509_keys.specs.facts.RsaPublicKeys.{public_key_same};
 
 use std::alloc::{Allocator, Global};
 use x509_der::parts::{
-    Field, Join, One, Output, Reader, Ref, SEQUENCE_TAG, Sequence, Structure, Tagged, read_sequence,
+    Field, Join, One, Reader, Ref, SEQUENCE_TAG, Sequence, Structure, Tagged, read_sequence,
 };
 use x509_der::{
     BitStringAsn1Container, CloneEq, FromDer, IntegerAsn1, ReadError, SameEq, ToDer, TooLong,
@@ -54,8 +54,12 @@ type Inner<A> = Join<IntegerAsn1<A>, One<IntegerAsn1<A>>>;
 impl<A: Allocator> ToDer for RsaPublicKey<A> {
     ghost strict = { λ v. public_base.strict (public_parts v) };
 
-    fn put<O: Output>(&self, out: &mut [u8], at: usize) -> Result<usize, TooLong> {
-        Nest::new(Join(Ref(&self.modulus), One(Ref(&self.public_exponent)))).put::<O>(out, at)
+    fn encoded_len(&self) -> Result<usize, TooLong> {
+        Nest::new(Join(Ref(&self.modulus), One(Ref(&self.public_exponent)))).encoded_len()
+    }
+
+    fn write_back(&self, out: &mut [u8]) -> usize {
+        Nest::new(Join(Ref(&self.modulus), One(Ref(&self.public_exponent)))).write_back(out)
     }
 }
 

@@ -9,8 +9,8 @@ use crate::public_key::PublicKey;
 use crate::rsa_public_key::RsaPublicKey;
 use std::alloc::{AllocError, Allocator, Global};
 use x509_der::parts::{
-    AnyDefinedBy, DefinedBy, Field, One, Output, Reader, Ref, SEQUENCE_TAG, Sequence, Structure,
-    Tagged, read_sequence,
+    AnyDefinedBy, DefinedBy, Field, One, Reader, Ref, SEQUENCE_TAG, Sequence, Structure, Tagged,
+    read_sequence,
 };
 use x509_der::{
     BitString, BitStringAsn1, BitStringAsn1Container, CloneEq, FromDer, IntegerAsn1,
@@ -137,8 +137,12 @@ fn written<A: Allocator>(value: &SubjectPublicKeyInfo<A>) -> Written<'_, A>
 impl<A: Allocator> ToDer for SubjectPublicKeyInfo<A> {
     ghost strict = { subject_bytes };
 
-    fn put<O: Output>(&self, out: &mut [u8], at: usize) -> Result<usize, TooLong> {
-        written(self).put::<O>(out, at)
+    fn encoded_len(&self) -> Result<usize, TooLong> {
+        written(self).encoded_len()
+    }
+
+    fn write_back(&self, out: &mut [u8]) -> usize {
+        written(self).write_back(out)
     }
 }
 

@@ -7,7 +7,7 @@ ghost use Rattle.x509_keys_parts.specs.facts.AesParameters.{aes_same, octets_apa
 
 use crate::aes_auth_enc::AesAuthEncParams;
 use std::alloc::{Allocator, Global};
-use x509_der::parts::{Choice, Field, Output, Reader, Ref, Structure, read_fields};
+use x509_der::parts::{Choice, Field, Reader, Ref, Structure, read_fields};
 use x509_der::{CloneEq, FromDer, OctetStringAsn1, ReadError, SameEq, ToDer, TooLong};
 
 /// A mode of operation of AES, for which each key size has an algorithm of its own.
@@ -91,8 +91,12 @@ fn written<A: Allocator>(value: &AesParameters<A>) -> Written<'_, A>
 impl<A: Allocator> ToDer for AesParameters<A> {
     ghost strict = { λ v. aes_base.strict (aes_parts v) };
 
-    fn put<O: Output>(&self, out: &mut [u8], at: usize) -> Result<usize, TooLong> {
-        written(self).put::<O>(out, at)
+    fn encoded_len(&self) -> Result<usize, TooLong> {
+        written(self).encoded_len()
+    }
+
+    fn write_back(&self, out: &mut [u8]) -> usize {
+        written(self).write_back(out)
     }
 }
 

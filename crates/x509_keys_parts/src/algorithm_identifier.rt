@@ -13,8 +13,8 @@ use crate::rsassa_pss::{MaskGenAlgorithm, RsassaPssParams};
 use std::alloc::{Allocator, Global};
 use std::marker::Model;
 use x509_der::parts::{
-    AnyDefinedBy, Content, DefinedBy, Field, One, Output, Reader, Ref, SEQUENCE_TAG, Sequence,
-    Tagged, View, WholeDeviations, read_viewed,
+    AnyDefinedBy, Content, DefinedBy, Field, One, Reader, Ref, SEQUENCE_TAG, Sequence, Tagged,
+    View, WholeDeviations, read_viewed,
 };
 use x509_der::{
     CloneEq, Deviation, FromDer, ObjectIdentifier, ObjectIdentifierAsn1, ReadError, SameEq, ToDer,
@@ -132,8 +132,12 @@ type Fields<A> = Tagged<Sequence, Inner<A>>;
 impl<A: Allocator> ToDer for AlgorithmIdentifier<A> {
     ghost strict = { λ v. algorithm_bytes (written_fields v) };
 
-    fn put<O: Output>(&self, out: &mut [u8], at: usize) -> Result<usize, TooLong> {
-        Nest::new(One(DefinedBy(Ref(&self.algorithm), Ref(&self.parameters)))).put::<O>(out, at)
+    fn encoded_len(&self) -> Result<usize, TooLong> {
+        Nest::new(One(DefinedBy(Ref(&self.algorithm), Ref(&self.parameters)))).encoded_len()
+    }
+
+    fn write_back(&self, out: &mut [u8]) -> usize {
+        Nest::new(One(DefinedBy(Ref(&self.algorithm), Ref(&self.parameters)))).write_back(out)
     }
 }
 

@@ -15,7 +15,7 @@ use crate::hash_algorithm::HashAlgorithm;
 use crate::rsassa_pss::{MaskGenAlgorithm, RsassaPssParams};
 use std::alloc::{Allocator, Global};
 use x509_der::parts::{
-    Field, Join, One, Output, Reader, Ref, SEQUENCE_TAG, Sequence, Structure, Tagged, read_sequence,
+    Field, Join, One, Reader, Ref, SEQUENCE_TAG, Sequence, Structure, Tagged, read_sequence,
 };
 use x509_der::{CloneEq, FromDer, OctetStringAsn1, ReadError, SameEq, ToDer, TooLong};
 
@@ -58,8 +58,12 @@ type Inner<A> = Join<AlgorithmIdentifier<A>, One<OctetStringAsn1<A>>>;
 impl<A: Allocator> ToDer for DigestInfo<A> {
     ghost strict = { λ v. element 48 (digest_info_bytes (digest_info_parts v)) };
 
-    fn put<O: Output>(&self, out: &mut [u8], at: usize) -> Result<usize, TooLong> {
-        Nest::new(Join(Ref(&self.oid), One(Ref(&self.digest)))).put::<O>(out, at)
+    fn encoded_len(&self) -> Result<usize, TooLong> {
+        Nest::new(Join(Ref(&self.oid), One(Ref(&self.digest)))).encoded_len()
+    }
+
+    fn write_back(&self, out: &mut [u8]) -> usize {
+        Nest::new(Join(Ref(&self.oid), One(Ref(&self.digest)))).write_back(out)
     }
 }
 

@@ -13,8 +13,8 @@ use crate::errors::{AlgorithmError, unsupported};
 use std::alloc::{AllocError, Allocator};
 use std::marker::Model;
 use x509_der::parts::{
-    Content, Field, Join, OBJECT_IDENTIFIER_TAG, One, Optional, Output, Reader, SEQUENCE_TAG,
-    Sequence, Tagged, View, WholeDeviations, from_lawful, read_viewed,
+    Content, Field, Join, OBJECT_IDENTIFIER_TAG, One, Optional, Reader, SEQUENCE_TAG, Sequence,
+    Tagged, View, WholeDeviations, from_lawful, read_viewed, write_bytes,
 };
 use x509_der::{
     CloneEq, Deviation, FromDer, ObjectIdentifier, ObjectIdentifierAsn1, ReadError, SameEq, ToDer,
@@ -201,8 +201,12 @@ fn name_element(hash: HashAlgorithm) -> [u8; 11]
 impl ToDer for HashName {
     ghost strict = { hash_name.strict };
 
-    fn put<O: Output>(&self, out: &mut [u8], at: usize) -> Result<usize, TooLong> {
-        O::bytes(&name_element(self.0), out, at)
+    fn encoded_len(&self) -> Result<usize, TooLong> {
+        Ok(name_element(self.0).len())
+    }
+
+    fn write_back(&self, out: &mut [u8]) -> usize {
+        write_bytes(&name_element(self.0), out)
     }
 }
 
@@ -256,8 +260,12 @@ type Written = Tagged<Sequence, Join<HashName, One<()>>>;
 impl ToDer for HashAlgorithm {
     ghost strict = { λ v. hash_base.strict (hash_fields v) };
 
-    fn put<O: Output>(&self, out: &mut [u8], at: usize) -> Result<usize, TooLong> {
-        Written::new(Join(HashName(*self), One(()))).put::<O>(out, at)
+    fn encoded_len(&self) -> Result<usize, TooLong> {
+        Written::new(Join(HashName(*self), One(()))).encoded_len()
+    }
+
+    fn write_back(&self, out: &mut [u8]) -> usize {
+        Written::new(Join(HashName(*self), One(()))).write_back(out)
     }
 }
 

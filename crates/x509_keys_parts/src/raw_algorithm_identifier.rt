@@ -8,7 +8,7 @@ ghost use Rattle.x509_der.specs.View.{if_found};
 use std::alloc::{AllocError, Allocator, Global};
 use std::marker::Model;
 use x509_der::parts::{
-    Content, Field, Join, One, Optional, Output, Reader, Ref, SEQUENCE_TAG, Sequence, Tagged, View,
+    Content, Field, Join, One, Optional, Reader, Ref, SEQUENCE_TAG, Sequence, Tagged, View,
     WholeDeviations, known_bytes, known_there, read_viewed,
 };
 use x509_der::{
@@ -133,10 +133,22 @@ struct Parameters<'a, A: Allocator>(&'a Option<Asn1RawDer<A>>);
 impl<'a, A: Allocator> ToDer for Parameters<'a, A> {
     ghost strict = { λ p. written_parameters p.0.now };
 
-    fn put<O: Output>(&self, out: &mut [u8], at: usize) -> Result<usize, TooLong> {
+    fn encoded_len(&self) -> Result<usize, TooLong> {
         match self.0 {
-            Some(element) => element.put::<O>(out, at),
-            None => O::bytes(&[5, 0], out, at),
+            Some(element) => element.encoded_len(),
+            None => Ok(2),
+        }
+    }
+
+    fn write_back(&self, out: &mut [u8]) -> usize {
+        match self.0 {
+            Some(element) => element.write_back(out),
+            None => {
+                let start = out.len() - 2;
+                out[start] = 5;
+                out[start + 1] = 0;
+                start
+            }
         }
     }
 }
@@ -146,10 +158,12 @@ impl<A: Allocator> ToDer for RawAlgorithmIdentifier<A> {
 
     ghost strict = { λ v. base.strict (written_fields v) };
 
-    fn put<O: Output>(&self, out: &mut [u8], at: usize) -> Result<usize, TooLong> {
-        Written::new(Join(Ref(&self.algorithm), One(Parameters(&self.parameters)))).put::<O>(
-            out, at,
-        )
+    fn encoded_len(&self) -> Result<usize, TooLong> {
+        Written::new(Join(Ref(&self.algorithm), One(Parameters(&self.parameters)))).encoded_len()
+    }
+
+    fn write_back(&self, out: &mut [u8]) -> usize {
+        Written::new(Join(Ref(&self.algorithm), One(Parameters(&self.parameters)))).write_back(out)
     }
 }
 
@@ -173,8 +187,12 @@ impl<A: Allocator> Model for ReadParameters<A> {
 impl<A: Allocator> ToDer for ReadParameters<A> {
     ghost strict = { λ p. written_parameters p };
 
-    fn put<O: Output>(&self, out: &mut [u8], at: usize) -> Result<usize, TooLong> {
-        Parameters(&self.0).put::<O>(out, at)
+    fn encoded_len(&self) -> Result<usize, TooLong> {
+        Parameters(&self.0).encoded_len()
+    }
+
+    fn write_back(&self, out: &mut [u8]) -> usize {
+        Parameters(&self.0).write_back(out)
     }
 }
 

@@ -12,8 +12,8 @@ use crate::hash_algorithm::HashAlgorithm;
 use crate::salt_length::SaltLength;
 use std::alloc::{AllocError, Allocator, Global};
 use x509_der::parts::{
-    Content, ContextConstructed, Field, Join, One, Output, Reader, Ref, SEQUENCE_TAG, Sequence,
-    Structure, Tagged, View, WholeDeviations, read_fields, read_viewed,
+    Content, ContextConstructed, Field, Join, One, Reader, Ref, SEQUENCE_TAG, Sequence, Structure,
+    Tagged, View, WholeDeviations, read_fields, read_viewed,
 };
 use x509_der::{
     CloneEq, Deviation, FromDer, IntegerAsn1, ObjectIdentifierAsn1, ReadError, SameEq, ToDer,
@@ -69,9 +69,16 @@ type MaskGenNest<I> = Tagged<Sequence, Join<I, One<HashAlgorithm>>>;
 impl<A: Allocator> ToDer for MaskGenAlgorithm<A> {
     ghost strict = { λ v. mask_gen_base.strict (mask_gen_parts v) };
 
-    fn put<O: Output>(&self, out: &mut [u8], at: usize) -> Result<usize, TooLong> {
-        MaskGenNest::new(Join(Ref(&self.mask_gen_algorithm), One(self.hash_algorithm))).put::<O>(
-            out, at,
+    fn encoded_len(&self) -> Result<usize, TooLong> {
+        MaskGenNest::new(Join(
+            Ref(&self.mask_gen_algorithm),
+            One(self.hash_algorithm),
+        )).encoded_len()
+    }
+
+    fn write_back(&self, out: &mut [u8]) -> usize {
+        MaskGenNest::new(Join(Ref(&self.mask_gen_algorithm), One(self.hash_algorithm))).write_back(
+            out,
         )
     }
 }
@@ -193,8 +200,12 @@ fn written<A: Allocator>(value: &RsassaPssParams<A>) -> Written<'_, A>
 impl<A: Allocator> ToDer for RsassaPssParams<A> {
     ghost strict = { λ v. pss_base.strict (pss_fields v) };
 
-    fn put<O: Output>(&self, out: &mut [u8], at: usize) -> Result<usize, TooLong> {
-        written(self).put::<O>(out, at)
+    fn encoded_len(&self) -> Result<usize, TooLong> {
+        written(self).encoded_len()
+    }
+
+    fn write_back(&self, out: &mut [u8]) -> usize {
+        written(self).write_back(out)
     }
 }
 

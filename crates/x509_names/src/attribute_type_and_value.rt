@@ -14,8 +14,8 @@ ghost use Rattle.x509_names.specs.declared.name_attr.NameAttr.TheVariants as att
 use crate::name_attr::{NameAttr, attr_of, identifier_of};
 use std::alloc::{AllocError, Allocator, Global};
 use x509_der::parts::{
-    AnyDefinedBy, Choice, DefinedBy, Field, One, Output, Reader, Ref, SEQUENCE_TAG, Sequence,
-    Structure, Tagged, put_element, read_sequence,
+    AnyDefinedBy, Choice, DefinedBy, Field, One, Reader, Ref, SEQUENCE_TAG, Sequence, Structure,
+    Tagged, element_len, read_sequence, write_element,
 };
 use x509_der::{
     Asn1RawDer, CloneEq, FromDer, ObjectIdentifierAsn1, ReadError, SameEq, ToDer, TooLong,
@@ -158,8 +158,12 @@ fn held<A: Allocator>(value: &AttributeTypeAndValueParameters<A>) -> Held<'_, A>
 impl<A: Allocator> ToDer for AttributeTypeAndValueParameters<A> {
     ghost strict = { value_bytes };
 
-    fn put<O: Output>(&self, out: &mut [u8], at: usize) -> Result<usize, TooLong> {
-        held(self).put::<O>(out, at)
+    fn encoded_len(&self) -> Result<usize, TooLong> {
+        held(self).encoded_len()
+    }
+
+    fn write_back(&self, out: &mut [u8]) -> usize {
+        held(self).write_back(out)
     }
 }
 
@@ -439,8 +443,12 @@ fn written<A: Allocator>(value: &AttributeTypeAndValue<A>) -> Written<'_, A>
 impl<A: Allocator> ToDer for AttributeTypeAndValue<A> {
     ghost strict = { λ v. element 48 (attribute_bytes v) };
 
-    fn put<O: Output>(&self, out: &mut [u8], at: usize) -> Result<usize, TooLong> {
-        put_element::<O, _>(SEQUENCE_TAG, &written(self), out, at)
+    fn encoded_len(&self) -> Result<usize, TooLong> {
+        element_len(SEQUENCE_TAG, &written(self))
+    }
+
+    fn write_back(&self, out: &mut [u8]) -> usize {
+        write_element(SEQUENCE_TAG, &written(self), out)
     }
 }
 

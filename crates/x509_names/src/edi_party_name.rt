@@ -8,8 +8,8 @@ ghost use Rattle.x509_names.specs.facts.EdiPartyNames.{edi_same, assigner_apart}
 use crate::boxed::TakesMemory;
 use std::alloc::{Allocator, Global};
 use x509_der::parts::{
-    Constructed, Content, ContextConstructed, Field, FromContent, Join, One, Optional, Output,
-    OwnTag, Reader, Ref, Sequence, Structure, Tagged, ToContent, known_there, read_as_content,
+    Constructed, Content, ContextConstructed, Field, FromContent, Join, One, Optional, OwnTag,
+    Reader, Ref, Sequence, Structure, Tagged, ToContent, known_there, read_as_content,
 };
 use x509_der::{CloneEq, ReadError, SameEq, TooLong};
 use x509_names_parts::DirectoryString;
@@ -67,8 +67,12 @@ fn written<A: Allocator>(value: &EdiPartyName<A>) -> Written<'_, A>
 impl<A: Allocator> ToContent for EdiPartyName<A> {
     ghost content = { λ v. edi_inner.strict (edi_parts v) };
 
-    fn put_content<O: Output>(&self, out: &mut [u8], at: usize) -> Result<usize, TooLong> {
-        written(self).put_content::<O>(out, at)
+    fn content_len(&self) -> Result<usize, TooLong> {
+        written(self).content_len()
+    }
+
+    fn write_content(&self, out: &mut [u8]) -> usize {
+        written(self).write_content(out)
     }
 }
 

@@ -18,8 +18,8 @@ use crate::other_name::OtherName;
 use std::alloc::{AllocError, Allocator, Global};
 use x509_der::parts::Choice::{First, Second};
 use x509_der::parts::{
-    Choice, Content, ContextConstructed, ContextPrimitive, Field, One, Output, Reader, Ref, Tagged,
-    View, WholeDeviations, put_element, read_viewed,
+    Choice, Content, ContextConstructed, ContextPrimitive, Field, One, Reader, Ref, Tagged, View,
+    WholeDeviations, element_len, read_viewed, write_element,
 };
 use x509_der::{
     Asn1SequenceOf, CloneEq, Deviation, FromDer, ObjectIdentifierAsn1, OctetStringAsn1, ReadError,
@@ -218,21 +218,29 @@ const REGISTERED_ID: u8 = 0x88;
 impl<A: Allocator> ToDer for GeneralName<A> {
     ghost strict = { λ v. general_names.strict v };
 
-    fn put<O: Output>(&self, out: &mut [u8], at: usize) -> Result<usize, TooLong> {
+    fn encoded_len(&self) -> Result<usize, TooLong> {
         match self {
-            GeneralName::OtherName(name) => put_element::<O, _>(OTHER_NAME, name, out, at),
-            GeneralName::Rfc822Name(text) => put_element::<O, _>(RFC822_NAME, text, out, at),
-            GeneralName::DnsName(text) => put_element::<O, _>(DNS_NAME, text, out, at),
-            GeneralName::DirectoryName(name) => put_element::<O, _>(
-                DIRECTORY_NAME,
-                &One(Ref(name)),
-                out,
-                at,
-            ),
-            GeneralName::EdiPartyName(name) => put_element::<O, _>(EDI_PARTY_NAME, name, out, at),
-            GeneralName::Uri(text) => put_element::<O, _>(URI, text, out, at),
-            GeneralName::IpAddress(octets) => put_element::<O, _>(IP_ADDRESS, octets, out, at),
-            GeneralName::RegisteredId(id) => put_element::<O, _>(REGISTERED_ID, id, out, at),
+            GeneralName::OtherName(name) => element_len(OTHER_NAME, name),
+            GeneralName::Rfc822Name(text) => element_len(RFC822_NAME, text),
+            GeneralName::DnsName(text) => element_len(DNS_NAME, text),
+            GeneralName::DirectoryName(name) => element_len(DIRECTORY_NAME, &One(Ref(name))),
+            GeneralName::EdiPartyName(name) => element_len(EDI_PARTY_NAME, name),
+            GeneralName::Uri(text) => element_len(URI, text),
+            GeneralName::IpAddress(octets) => element_len(IP_ADDRESS, octets),
+            GeneralName::RegisteredId(id) => element_len(REGISTERED_ID, id),
+        }
+    }
+
+    fn write_back(&self, out: &mut [u8]) -> usize {
+        match self {
+            GeneralName::OtherName(name) => write_element(OTHER_NAME, name, out),
+            GeneralName::Rfc822Name(text) => write_element(RFC822_NAME, text, out),
+            GeneralName::DnsName(text) => write_element(DNS_NAME, text, out),
+            GeneralName::DirectoryName(name) => write_element(DIRECTORY_NAME, &One(Ref(name)), out),
+            GeneralName::EdiPartyName(name) => write_element(EDI_PARTY_NAME, name, out),
+            GeneralName::Uri(text) => write_element(URI, text, out),
+            GeneralName::IpAddress(octets) => write_element(IP_ADDRESS, octets, out),
+            GeneralName::RegisteredId(id) => write_element(REGISTERED_ID, id, out),
         }
     }
 }

@@ -12,9 +12,7 @@ use crate::attribute_type_and_value::{
 pub use crate::name_attr::NameAttr;
 use std::alloc::{AllocError, Allocator, Global};
 use std::marker::Model;
-use x509_der::parts::{
-    Constructed, Content, FromContent, Output, OwnTag, Reader, Sequence, ToContent,
-};
+use x509_der::parts::{Constructed, Content, FromContent, OwnTag, Reader, Sequence, ToContent};
 use x509_der::{Asn1SequenceOf, Asn1SetOf, CloneEq, ReadError, SameEq, TooLong};
 use x509_names_parts::DirectoryString;
 use x509_prim::Ia5StringAsn1;
@@ -170,8 +168,12 @@ impl<A: Allocator> SameEq for Name<A> {
 impl<A: Allocator> ToContent for Name<A> {
     ghost content = { name_bytes };
 
-    fn put_content<O: Output>(&self, out: &mut [u8], at: usize) -> Result<usize, TooLong> {
-        self.0.put_content::<O>(out, at)
+    fn content_len(&self) -> Result<usize, TooLong> {
+        self.0.content_len()
+    }
+
+    fn write_content(&self, out: &mut [u8]) -> usize {
+        self.0.write_content(out)
     }
 }
 

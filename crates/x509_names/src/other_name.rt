@@ -8,8 +8,8 @@ ghost use Rattle.x509_names.specs.facts.OtherNames.{other_same};
 use crate::boxed::TakesMemory;
 use std::alloc::{Allocator, Global};
 use x509_der::parts::{
-    Constructed, Content, ContextConstructed, Field, FromContent, Join, One, Output, OwnTag,
-    Reader, Ref, Sequence, Structure, Tagged, ToContent, read_as_content,
+    Constructed, Content, ContextConstructed, Field, FromContent, Join, One, OwnTag, Reader, Ref,
+    Sequence, Structure, Tagged, ToContent, read_as_content,
 };
 use x509_der::{Asn1RawDer, CloneEq, ObjectIdentifierAsn1, ReadError, SameEq, TooLong};
 
@@ -61,8 +61,12 @@ fn written<A: Allocator>(value: &OtherName<A>) -> Written<'_, A>
 impl<A: Allocator> ToContent for OtherName<A> {
     ghost content = { λ v. other_inner.strict (other_parts v) };
 
-    fn put_content<O: Output>(&self, out: &mut [u8], at: usize) -> Result<usize, TooLong> {
-        written(self).put_content::<O>(out, at)
+    fn content_len(&self) -> Result<usize, TooLong> {
+        written(self).content_len()
+    }
+
+    fn write_content(&self, out: &mut [u8]) -> usize {
+        written(self).write_content(out)
     }
 }
 

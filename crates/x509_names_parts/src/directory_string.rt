@@ -7,8 +7,8 @@ ghost use Rattle.x509_names_parts.specs.facts.DirectoryStrings.{directory_same, 
 
 use std::alloc::{Allocator, Global};
 use x509_der::parts::{
-    BMP_STRING_TAG, Choice, Field, Output, PRINTABLE_STRING_TAG, Reader, Ref, Structure,
-    UTF8_STRING_TAG, read_fields,
+    BMP_STRING_TAG, Choice, Field, PRINTABLE_STRING_TAG, Reader, Ref, Structure, UTF8_STRING_TAG,
+    read_fields,
 };
 use x509_der::{CloneEq, FromDer, ReadError, SameEq, ToDer, TooLong};
 use x509_prim::{BmpStringAsn1, PrintableStringAsn1, Utf8String};
@@ -71,8 +71,12 @@ fn written<A: Allocator>(value: &DirectoryString<A>) -> Written<'_, A>
 impl<A: Allocator> ToDer for DirectoryString<A> {
     ghost strict = { λ v. directory_base.strict (directory_parts v) };
 
-    fn put<O: Output>(&self, out: &mut [u8], at: usize) -> Result<usize, TooLong> {
-        written(self).put::<O>(out, at)
+    fn encoded_len(&self) -> Result<usize, TooLong> {
+        written(self).encoded_len()
+    }
+
+    fn write_back(&self, out: &mut [u8]) -> usize {
+        written(self).write_back(out)
     }
 }
 

@@ -7,7 +7,7 @@ ghost use Rattle.x509_names_parts.specs.facts.Time.{time_same, times_apart};
 
 use std::alloc::Allocator;
 use x509_der::parts::{
-    Choice, Field, GENERALIZED_TIME_TAG, Output, Reader, Ref, Structure, UTC_TIME_TAG, read_fields,
+    Choice, Field, GENERALIZED_TIME_TAG, Reader, Ref, Structure, UTC_TIME_TAG, read_fields,
 };
 use x509_der::{CloneEq, FromDer, ReadError, SameEq, ToDer, TooLong};
 use x509_prim::{GeneralizedTime, GeneralizedTimeAsn1, UTCTime, UtcTimeAsn1};
@@ -94,8 +94,12 @@ fn written(value: &Time) -> Choice<Ref<'_, UtcTimeAsn1>, Ref<'_, GeneralizedTime
 impl ToDer for Time {
     ghost strict = { λ v. time_base.strict (time_parts v) };
 
-    fn put<O: Output>(&self, out: &mut [u8], at: usize) -> Result<usize, TooLong> {
-        written(self).put::<O>(out, at)
+    fn encoded_len(&self) -> Result<usize, TooLong> {
+        written(self).encoded_len()
+    }
+
+    fn write_back(&self, out: &mut [u8]) -> usize {
+        written(self).write_back(out)
     }
 }
 

@@ -8,8 +8,8 @@ ghost use Rattle.x509_names_parts.specs.facts.Validities.{validity_same};
 use crate::time::Time;
 use std::alloc::Allocator;
 use x509_der::parts::{
-    Field, Join, One, Output, Reader, Ref, SEQUENCE_TAG, Sequence, Structure, Tagged, put_element,
-    read_sequence,
+    Field, Join, One, Reader, Ref, SEQUENCE_TAG, Sequence, Structure, Tagged, element_len,
+    read_sequence, write_element,
 };
 use x509_der::{CloneEq, FromDer, ReadError, SameEq, ToDer, TooLong};
 
@@ -51,8 +51,12 @@ fn borrowed(value: &Validity) -> Join<Ref<'_, Time>, One<Ref<'_, Time>>>
 impl ToDer for Validity {
     ghost strict = { λ v. validity_base.strict (validity_parts v) };
 
-    fn put<O: Output>(&self, out: &mut [u8], at: usize) -> Result<usize, TooLong> {
-        put_element::<O, _>(SEQUENCE_TAG, &borrowed(self), out, at)
+    fn encoded_len(&self) -> Result<usize, TooLong> {
+        element_len(SEQUENCE_TAG, &borrowed(self))
+    }
+
+    fn write_back(&self, out: &mut [u8]) -> usize {
+        write_element(SEQUENCE_TAG, &borrowed(self), out)
     }
 }
 

@@ -7,7 +7,7 @@ ghost use Rattle.x509_der.specs.laws.PrimitiveContent.{plain_lawful};
 use crate::date::{Date, Years};
 use std::alloc::Allocator;
 use std::marker::Model;
-use x509_der::parts::{Content, FromContent, Output, OwnTag, Primitive, Reader, ToContent};
+use x509_der::parts::{Content, FromContent, OwnTag, Primitive, Reader, ToContent};
 use x509_der::{CloneEq, ReadError, SameEq, TooLong};
 
 /// A second of the years `Y` as an element. Contracts see its six numbers.
@@ -59,8 +59,12 @@ impl<Y: Years> SameEq for TimeAsn1<Y> {
 impl<Y: Years> ToContent for TimeAsn1<Y> {
     ghost content = { Y.text };
 
-    fn put_content<O: Output>(&self, out: &mut [u8], at: usize) -> Result<usize, TooLong> {
-        Y::put_text::<O>(self.0.moment(), out, at)
+    fn content_len(&self) -> Result<usize, TooLong> {
+        Ok(Y::text_len(self.0.moment()))
+    }
+
+    fn write_content(&self, out: &mut [u8]) -> usize {
+        Y::write_text(self.0.moment(), out)
     }
 }
 

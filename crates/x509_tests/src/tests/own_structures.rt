@@ -16,8 +16,8 @@ use std::marker::Model;
 use std::process::Abort;
 use x509_der::laws::fields;
 use x509_der::parts::{
-    ContextConstructed, ContextPrimitive, Field, Join, One, Optional, Output, Reader, Ref,
-    SEQUENCE_TAG, Sequence, Structure, Tagged, known_there, read_fields,
+    ContextConstructed, ContextPrimitive, Field, Join, One, Optional, Reader, Ref, SEQUENCE_TAG,
+    Sequence, Structure, Tagged, known_there, read_fields,
 };
 use x509_der::{FromDer, OctetStringAsn1, ReadError, ToDer, TooLong};
 use x509_prim::{
@@ -78,8 +78,12 @@ fn written_options<A: Allocator>(value: &Options<A>) -> WrittenOptions<'_, A>
 impl<A: Allocator> ToDer for Options<A> {
     ghost strict = { λ v. options.strict v };
 
-    fn put<O: Output>(&self, out: &mut [u8], at: usize) -> Result<usize, TooLong> {
-        written_options(self).put::<O>(out, at)
+    fn encoded_len(&self) -> Result<usize, TooLong> {
+        written_options(self).encoded_len()
+    }
+
+    fn write_back(&self, out: &mut [u8]) -> usize {
+        written_options(self).write_back(out)
     }
 }
 
@@ -285,8 +289,12 @@ fn written_letter<A: Allocator>(value: &Letter<A>) -> WrittenLetter<'_, A>
 impl<A: Allocator> ToDer for Letter<A> {
     ghost strict = { λ v. letter.strict v };
 
-    fn put<O: Output>(&self, out: &mut [u8], at: usize) -> Result<usize, TooLong> {
-        written_letter(self).put::<O>(out, at)
+    fn encoded_len(&self) -> Result<usize, TooLong> {
+        written_letter(self).encoded_len()
+    }
+
+    fn write_back(&self, out: &mut [u8]) -> usize {
+        written_letter(self).write_back(out)
     }
 }
 

@@ -3,7 +3,7 @@ use Rattle.std.proofs.lemmas.List.{length-take-le}
 use Rattle.x509_der_parts.specs.facts.Writing.{before_last, last_before}
 use Rattle.x509_der.specs.ObjectIdentifier.{high_digits}
 use Rattle.x509_der.specs.facts.ObjectIdentifier.{septets_length, septets_are}
-use Rattle.x509_der.proofs.oid.numbers.Septets.write_back.Goals as goal
+use Rattle.x509_der.proofs.oid.numbers.SeptetsToDer.write_back.Goals as goal
 
 pub overflow_sub-last : goal.overflow_sub-last
 overflow_sub-last c = omega (arith, septets_length c.args.self.now, c.requires)
