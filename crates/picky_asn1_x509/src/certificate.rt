@@ -16,7 +16,7 @@ use crate::three::{read_three, three_len, write_three};
 use picky_asn1_x509_parts::{AuthorityKeyIdentifier, BasicConstraints, Extension, ExtensionView};
 use std::alloc::{Allocator, Global};
 use x509_der::parts::{
-    Field, Join, One, Reader, Ref, SEQUENCE_TAG, Sequence, Structure, Tagged, read_first_field,
+    Field, Join, Reader, SEQUENCE_TAG, Sequence, Structure, Tagged, read_first_field,
 };
 use x509_der::{BitStringAsn1, CloneEq, FromDer, ReadError, ToDer, TooLong};
 use x509_keys::AlgorithmIdentifier;
@@ -132,7 +132,7 @@ impl<A: Allocator + Copy> CloneEq for Certificate<A> {
 }
 
 /// The signature behind its algorithm, owned.
-pub(crate) type Signature<A> = Join<AlgorithmIdentifier<A>, One<BitStringAsn1<A>>>;
+pub(crate) type Signature<A> = Join<AlgorithmIdentifier<A>, BitStringAsn1<A>>;
 
 /// The SEQUENCE, owned.
 type Fields<A> = Tagged<Sequence, Inner<A>>;
@@ -147,7 +147,7 @@ impl<A: Allocator> ToDer for Certificate<A> {
         three_len(
             &self.tbs_certificate,
             &self.signature_algorithm,
-            &One(Ref(&self.signature_value)),
+            &self.signature_value,
         )
     }
 
@@ -155,7 +155,7 @@ impl<A: Allocator> ToDer for Certificate<A> {
         write_three(
             &self.tbs_certificate,
             &self.signature_algorithm,
-            &One(Ref(&self.signature_value)),
+            &self.signature_value,
             out,
         )
     }
@@ -165,7 +165,7 @@ impl<A: Allocator> Structure<Inner<A>> for Certificate<A> {
     ghost fields = { certificate_parts };
 
     fn from_fields(parts: Inner<A>) -> Self {
-        let Join(tbs_certificate, Join(signature_algorithm, One(signature_value))) = parts;
+        let Join(tbs_certificate, Join(signature_algorithm, signature_value)) = parts;
         Certificate {
             tbs_certificate,
             signature_algorithm,
@@ -198,7 +198,7 @@ impl<A: Allocator + Copy> Field<A> for Certificate<A> {
     }
 
     fn read(alloc: A, reader: &mut Reader<'_, A>) -> Result<Self, ReadError> {
-        read_three::<Self, TbsCertificate<A>, AlgorithmIdentifier<A>, One<BitStringAsn1<A>>, A>(
+        read_three::<Self, TbsCertificate<A>, AlgorithmIdentifier<A>, BitStringAsn1<A>, A>(
             alloc, reader,
         )
     }

@@ -18,7 +18,7 @@ use picky_asn1_x509_parts::{Attribute, Attributes};
 use std::alloc::{AllocError, Allocator, Global};
 use std::marker::Model;
 use x509_der::parts::{
-    ContextConstructed, Field, Join, One, Reader, Ref, SEQUENCE_TAG, Sequence, Structure, Tag,
+    ContentOf, ContextConstructed, Field, Join, Reader, SEQUENCE_TAG, Sequence, Structure, Tag,
     Tagged, clone_three, known_items, read_first_field,
 };
 use x509_der::{Asn1SequenceOf, BitStringAsn1, CloneEq, FromDer, ReadError, ToDer, TooLong};
@@ -78,17 +78,17 @@ impl<A: Allocator> OpenSslAttributes<A> {
 }
 
 /// The list under its tag, owned or borrowed.
-type ListNest<L> = Tagged<ContextConstructed<0>, L>;
+type ListNest<L> = Tagged<ContextConstructed<0>, ContentOf<L>>;
 
 impl<A: Allocator> ToDer for OpenSslAttributes<A> {
     ghost strict = { request_attributes_bytes };
 
     fn encoded_len(&self) -> Result<usize, TooLong> {
-        ListNest::new(Ref(&self.0)).encoded_len()
+        ListNest::new(ContentOf(&self.0)).encoded_len()
     }
 
     fn write_back(&self, out: &mut [u8]) -> usize {
-        ListNest::new(Ref(&self.0)).write_back(out)
+        ListNest::new(ContentOf(&self.0)).write_back(out)
     }
 }
 
@@ -104,7 +104,7 @@ fn read_list<T: FromDer<A>, A: Allocator + Copy>(
     ensures { Reads (tagged 160 (items T.shape)) reader.old reader.new result }
 {
     let list = ListNest::<Asn1SequenceOf<T, A>>::read(alloc, reader)?;
-    Ok(list.into_inner())
+    Ok(list.into_value())
 }
 
 impl<A: Allocator + Copy> Field<A> for OpenSslAttributes<A> {
@@ -218,7 +218,7 @@ impl<A: Allocator + Copy> CloneEq for CertificationRequestInfo<A> {
 type InfoFields<A> = Tagged<Sequence, InfoInner<A>>;
 
 /// The last two fields, owned.
-type InfoEnd<A> = Join<SubjectPublicKeyInfo<A>, One<OpenSslAttributes<A>>>;
+type InfoEnd<A> = Join<SubjectPublicKeyInfo<A>, OpenSslAttributes<A>>;
 
 /// The fields, owned.
 type InfoInner<A> = Join<u8, Join<Name<A>, InfoEnd<A>>>;
@@ -231,7 +231,7 @@ impl<A: Allocator> ToDer for CertificationRequestInfo<A> {
             &self.version,
             &self.subject,
             &self.subject_public_key_info,
-            &One(Ref(&self.attributes)),
+            &self.attributes,
         )
     }
 
@@ -240,7 +240,7 @@ impl<A: Allocator> ToDer for CertificationRequestInfo<A> {
             &self.version,
             &self.subject,
             &self.subject_public_key_info,
-            &One(Ref(&self.attributes)),
+            &self.attributes,
             out,
         )
     }
@@ -250,7 +250,7 @@ impl<A: Allocator> Structure<InfoInner<A>> for CertificationRequestInfo<A> {
     ghost fields = { info_parts };
 
     fn from_fields(parts: InfoInner<A>) -> Self {
-        let Join(version, Join(subject, Join(subject_public_key_info, One(attributes)))) = parts;
+        let Join(version, Join(subject, Join(subject_public_key_info, attributes))) = parts;
         CertificationRequestInfo {
             version,
             subject,
@@ -356,7 +356,7 @@ impl<A: Allocator> ToDer for CertificationRequest<A> {
         three_len(
             &self.certification_request_info,
             &self.signature_algorithm,
-            &One(Ref(&self.signature)),
+            &self.signature,
         )
     }
 
@@ -364,7 +364,7 @@ impl<A: Allocator> ToDer for CertificationRequest<A> {
         write_three(
             &self.certification_request_info,
             &self.signature_algorithm,
-            &One(Ref(&self.signature)),
+            &self.signature,
             out,
         )
     }
@@ -374,7 +374,7 @@ impl<A: Allocator> Structure<RequestInner<A>> for CertificationRequest<A> {
     ghost fields = { request_parts };
 
     fn from_fields(parts: RequestInner<A>) -> Self {
-        let Join(certification_request_info, Join(signature_algorithm, One(signature))) = parts;
+        let Join(certification_request_info, Join(signature_algorithm, signature)) = parts;
         CertificationRequest {
             certification_request_info,
             signature_algorithm,
@@ -411,7 +411,7 @@ impl<A: Allocator + Copy> Field<A> for CertificationRequest<A> {
             Self,
             CertificationRequestInfo<A>,
             AlgorithmIdentifier<A>,
-            One<BitStringAsn1<A>>,
+            BitStringAsn1<A>,
             A,
         >(alloc, reader)
     }

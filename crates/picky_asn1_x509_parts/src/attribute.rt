@@ -11,8 +11,7 @@ use crate::extension::Extension;
 use crate::extensions::Extensions;
 use std::alloc::{AllocError, Allocator, Global};
 use x509_der::parts::{
-    AnyDefinedBy, DefinedBy, Field, One, Reader, Ref, SEQUENCE_TAG, Sequence, Structure, Tagged,
-    read_fields,
+    AnyDefinedBy, DefinedBy, Field, Reader, SEQUENCE_TAG, Sequence, Structure, Tagged, read_fields,
 };
 use x509_der::{
     Asn1RawDer, Asn1SequenceOf, Asn1SetOf, CloneEq, FromDer, ObjectIdentifier,
@@ -338,30 +337,23 @@ impl<A: Allocator + Copy> Attribute<A> {
 }
 
 /// The fields in the SEQUENCE, owned.
-type Fields<A> = Tagged<Sequence, One<DefinedBy<ObjectIdentifierAsn1<A>, AttributeValues<A>>>>;
+type Fields<A> = Tagged<Sequence, DefinedBy<ObjectIdentifierAsn1<A>, AttributeValues<A>>>;
 
 /// The fields that are written, borrowed.
 type Written<'a, A> = Tagged<
     Sequence,
-    One<DefinedBy<Ref<'a, ObjectIdentifierAsn1<A>>, Ref<'a, AttributeValues<A>>>>,
+    DefinedBy<&'a ObjectIdentifierAsn1<A>, &'a AttributeValues<A>>,
 >;
-
-/// The fields of an attribute, to be written.
-fn written<A: Allocator>(value: &Attribute<A>) -> Written<'_, A>
-    ensures { result ≡ attribute_parts value.now }
-{
-    Tagged::new(One(DefinedBy(Ref(&value.ty), Ref(&value.value))))
-}
 
 impl<A: Allocator> ToDer for Attribute<A> {
     ghost strict = { attribute_bytes };
 
     fn encoded_len(&self) -> Result<usize, TooLong> {
-        written(self).encoded_len()
+        Written::new(DefinedBy(&self.ty, &self.value)).encoded_len()
     }
 
     fn write_back(&self, out: &mut [u8]) -> usize {
-        written(self).write_back(out)
+        Written::new(DefinedBy(&self.ty, &self.value)).write_back(out)
     }
 }
 
@@ -369,7 +361,7 @@ impl<A: Allocator> Structure<Fields<A>> for Attribute<A> {
     ghost fields = { attribute_parts };
 
     fn from_fields(parts: Fields<A>) -> Self {
-        let One(DefinedBy(ty, value)) = parts.into_inner();
+        let DefinedBy(ty, value) = parts.into_inner();
         Attribute { ty, value }
     }
 

@@ -1,6 +1,7 @@
 //! Bit strings that are lent, to be written without a copy.
 
-ghost use Rattle.std.specs.Prelude.{◌≡◌, refl};
+ghost use Rattle.std.specs.Prelude.{◌≡◌};
+ghost use Rattle.x509_der_parts.specs.Element.{element};
 ghost use Rattle.x509_der.specs.BitString.{bit_content};
 
 use crate::bit_string::BitString;
@@ -8,7 +9,8 @@ use crate::bits::write_bits;
 use std::alloc::Allocator;
 use std::marker::Model;
 use x509_der_parts::errors::TooLong;
-use x509_der_parts::parts::{OwnTag, Primitive, ToContent, Universal};
+use x509_der_parts::parts::{BIT_STRING_TAG, ContentOf, ToContent, element_len, write_element};
+use x509_der_parts::traits::ToDer;
 
 /// A BIT STRING, lent. Contracts see its content: how many bits of the last byte are unused, and the bytes.
 #[derive(Drop)]
@@ -49,10 +51,14 @@ impl<'a> ToContent for BorrowedBits<'a> {
     }
 }
 
-impl<'a> OwnTag for BorrowedBits<'a> {
-    type Form = Primitive;
+impl<'a> ToDer for BorrowedBits<'a> {
+    ghost strict = { λ b. element 3 b };
 
-    type Tag = Universal<3>;
+    fn encoded_len(&self) -> Result<usize, TooLong> {
+        element_len(BIT_STRING_TAG, &ContentOf(self))
+    }
 
-    ghost form = { refl };
+    fn write_back(&self, out: &mut [u8]) -> usize {
+        write_element(BIT_STRING_TAG, &ContentOf(self), out)
+    }
 }

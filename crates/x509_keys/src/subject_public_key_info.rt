@@ -9,7 +9,7 @@ use crate::public_key::PublicKey;
 use crate::rsa_public_key::RsaPublicKey;
 use std::alloc::{AllocError, Allocator, Global};
 use x509_der::parts::{
-    AnyDefinedBy, DefinedBy, Field, One, Reader, Ref, SEQUENCE_TAG, Sequence, Structure, Tagged,
+    AnyDefinedBy, DefinedBy, Field, Reader, SEQUENCE_TAG, Sequence, Structure, Tagged,
     read_sequence,
 };
 use x509_der::{
@@ -115,34 +115,23 @@ impl<A: Allocator> SameEq for SubjectPublicKeyInfo<A> {
 }
 
 /// The fields as they stand in the SEQUENCE, owned or borrowed.
-type Nest<K, V> = Tagged<Sequence, One<DefinedBy<K, V>>>;
+type Nest<K, V> = Tagged<Sequence, DefinedBy<K, V>>;
 
 /// The SEQUENCE, owned.
 type Fields<A> = Nest<AlgorithmIdentifier<A>, PublicKey<A>>;
 
 /// The fields, owned.
-type Inner<A> = One<DefinedBy<AlgorithmIdentifier<A>, PublicKey<A>>>;
-
-/// The SEQUENCE, borrowed.
-type Written<'a, A> = Nest<Ref<'a, AlgorithmIdentifier<A>>, Ref<'a, PublicKey<A>>>;
-
-/// The fields, to be written.
-fn written<A: Allocator>(value: &SubjectPublicKeyInfo<A>) -> Written<'_, A>
-    ensures { result ≡ subject_parts value.now }
-{
-    let key = DefinedBy(Ref(&value.algorithm), Ref(&value.subject_public_key));
-    Tagged::new(One(key))
-}
+type Inner<A> = DefinedBy<AlgorithmIdentifier<A>, PublicKey<A>>;
 
 impl<A: Allocator> ToDer for SubjectPublicKeyInfo<A> {
     ghost strict = { subject_bytes };
 
     fn encoded_len(&self) -> Result<usize, TooLong> {
-        written(self).encoded_len()
+        Nest::new(DefinedBy(&self.algorithm, &self.subject_public_key)).encoded_len()
     }
 
     fn write_back(&self, out: &mut [u8]) -> usize {
-        written(self).write_back(out)
+        Nest::new(DefinedBy(&self.algorithm, &self.subject_public_key)).write_back(out)
     }
 }
 
@@ -150,7 +139,7 @@ impl<A: Allocator> Structure<Inner<A>> for SubjectPublicKeyInfo<A> {
     ghost fields = { subject_parts };
 
     fn from_fields(parts: Inner<A>) -> Self {
-        let One(DefinedBy(algorithm, subject_public_key)) = parts;
+        let DefinedBy(algorithm, subject_public_key) = parts;
         SubjectPublicKeyInfo {
             algorithm,
             subject_public_key,

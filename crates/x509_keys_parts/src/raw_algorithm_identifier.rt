@@ -8,8 +8,8 @@ ghost use Rattle.x509_der.specs.View.{if_found};
 use std::alloc::{AllocError, Allocator, Global};
 use std::marker::Model;
 use x509_der::parts::{
-    Content, Field, Join, One, Optional, Reader, Ref, SEQUENCE_TAG, Sequence, Tagged, View,
-    WholeDeviations, known_bytes, known_there, read_viewed,
+    Field, Join, Optional, Reader, SEQUENCE_TAG, Sequence, Tagged, View, WholeDeviations,
+    known_bytes, known_there, read_viewed,
 };
 use x509_der::{
     Asn1RawDer, CloneEq, Deviation, FromDer, ObjectIdentifier, ObjectIdentifierAsn1, ReadError,
@@ -121,10 +121,7 @@ fn absence<A: Allocator>(parameters: &Option<ReadParameters<A>>) -> Option<Devia
 }
 
 /// The fields that are written, borrowed.
-type Written<'a, A> = Tagged<
-    Sequence,
-    Join<Ref<'a, ObjectIdentifierAsn1<A>>, One<Parameters<'a, A>>>,
->;
+type Written<'a, A> = Tagged<Sequence, Join<&'a ObjectIdentifierAsn1<A>, Parameters<'a, A>>>;
 
 /// Parameters as they are written: NULL where there are none.
 #[derive(Drop)]
@@ -159,11 +156,11 @@ impl<A: Allocator> ToDer for RawAlgorithmIdentifier<A> {
     ghost strict = { λ v. base.strict (written_fields v) };
 
     fn encoded_len(&self) -> Result<usize, TooLong> {
-        Written::new(Join(Ref(&self.algorithm), One(Parameters(&self.parameters)))).encoded_len()
+        Written::new(Join(&self.algorithm, Parameters(&self.parameters))).encoded_len()
     }
 
     fn write_back(&self, out: &mut [u8]) -> usize {
-        Written::new(Join(Ref(&self.algorithm), One(Parameters(&self.parameters)))).write_back(out)
+        Written::new(Join(&self.algorithm, Parameters(&self.parameters))).write_back(out)
     }
 }
 
@@ -256,7 +253,7 @@ fn if_there<A: Allocator>(parameters: Option<ReadParameters<A>>) -> Option<Asn1R
 }
 
 /// The fields in the SEQUENCE.
-type Inner<A> = Join<ObjectIdentifierAsn1<A>, One<Optional<ReadParameters<A>>>>;
+type Inner<A> = Join<ObjectIdentifierAsn1<A>, Optional<ReadParameters<A>>>;
 
 /// The fields, owned.
 type Fields<A> = Tagged<Sequence, Inner<A>>;
@@ -271,10 +268,10 @@ impl<A: Allocator + Copy> View<Fields<A>, A> for RawAlgorithmIdentifier<A> {
     ghost view = { raw_meaning };
 
     ghost keeps = { sequence_keeps raw_meaning inner
-        (⟦<Inner<A> as Content<A>>⟧.content_lawful (tt, (tt, tt), λ c h. refl)) raw_algorithm_means one_kind };
+        (⟦<Inner<A> as Field<A>>⟧.lawful (tt, (tt, tt), λ c h. refl)) raw_algorithm_means one_kind };
 
     fn meaning(_alloc: A, parts: Fields<A>) -> Result<(Self, WholeDeviations), ReadError> {
-        let Join(ObjectIdentifierAsn1(algorithm), One(Optional(parameters))) = parts.into_inner();
+        let Join(ObjectIdentifierAsn1(algorithm), Optional(parameters)) = parts.into_inner();
         let absent = absence(&parameters);
         let value = RawAlgorithmIdentifier {
             algorithm: ObjectIdentifierAsn1(algorithm),

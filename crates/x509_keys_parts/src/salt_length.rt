@@ -1,11 +1,12 @@
 //! Lengths of salts, as they are written.
 
-ghost use Rattle.std.specs.Prelude.{◌≡◌, ◌+◌, ◌≤◌, ◌++◌, length, take, refl};
+ghost use Rattle.std.specs.Prelude.{◌≡◌, ◌+◌, ◌≤◌, ◌++◌, length, take};
+ghost use Rattle.x509_der.specs.Element.{element};
 ghost use Rattle.x509_der.specs.Integer.{natural_content};
 
 use std::marker::Model;
-use x509_der::TooLong;
-use x509_der::parts::{OwnTag, Primitive, ToContent, Universal};
+use x509_der::parts::{ContentOf, INTEGER_TAG, ToContent, element_len, write_element};
+use x509_der::{ToDer, TooLong};
 
 /// A number that is written as an INTEGER, without memory.
 #[derive(Drop)]
@@ -57,10 +58,14 @@ impl ToContent for SaltLength {
     }
 }
 
-impl OwnTag for SaltLength {
-    type Form = Primitive;
+impl ToDer for SaltLength {
+    ghost strict = { λ n. element 2 (natural_content n) };
 
-    type Tag = Universal<2>;
+    fn encoded_len(&self) -> Result<usize, TooLong> {
+        element_len(INTEGER_TAG, &ContentOf(self))
+    }
 
-    ghost form = { refl };
+    fn write_back(&self, out: &mut [u8]) -> usize {
+        write_element(INTEGER_TAG, &ContentOf(self), out)
+    }
 }

@@ -128,5 +128,9 @@ impl<T: TakesMemory<A> + Drop, A: Allocator + Copy> Content<A> for Boxed<T, A> {
         Ok(boxed)
     }
 
+    ghost content_always = { T.content_always };
+
+    ghost open = { λ b. T.open b };
+
     ghost content_agrees = { λ v. T.content_agrees v };
 }
