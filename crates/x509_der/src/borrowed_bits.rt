@@ -7,7 +7,7 @@ use crate::bit_string::BitString;
 use std::alloc::Allocator;
 use std::marker::Model;
 use x509_der_parts::errors::TooLong;
-use x509_der_parts::parts::{Output, OwnTag, Primitive, ToContent, Universal};
+use x509_der_parts::parts::{Output, OwnTag, ToContent, Universal};
 
 /// A BIT STRING, lent. Contracts see its content: how many bits of the last byte are unused, and the bytes.
 #[derive(Drop)]
@@ -46,9 +46,5 @@ impl<'a> ToContent for BorrowedBits<'a> {
 }
 
 impl<'a> OwnTag for BorrowedBits<'a> {
-    type Form = Primitive;
-
     type Tag = Universal<3>;
-
-    ghost form = { refl };
 }

@@ -10,7 +10,7 @@ use crate::errors::{ReadError, TooLong};
 use crate::output::Output;
 use crate::reader::Reader;
 use crate::tagged::{Tagged, put_element, read_element};
-use crate::traits::{Content, Field, FromContent, FromDer, OneTag, OwnTag, Tag, TagOf, ToDer};
+use crate::traits::{Field, FromContent, FromDer, OneTag, OwnTag, Tag, TagOf, ToDer};
 use std::alloc::Allocator;
 
 impl<T: OwnTag> ToDer for T {
@@ -21,7 +21,7 @@ impl<T: OwnTag> ToDer for T {
     }
 }
 
-impl<A: Allocator + Copy, T: OwnTag + Content<A> + Drop> Field<A> for T {
+impl<A: Allocator + Copy, T: OwnTag + FromContent<A>> Field<A> for T {
     ghost shape = { tagged T.Tag.BYTE T.content_shape };
 
     ghost fits = { T.content_fits };
@@ -50,15 +50,17 @@ impl<A: Allocator + Copy, T: OwnTag + FromContent<A>> FromDer<A> for T {
 }
 
 impl<A: Allocator + Copy, T: OwnTag + FromContent<A>> OneTag<A> for T {
-    type Form = T::Form;
+    type Form = <T::Tag as Tag>::Form;
 
     ghost tag = { T.Tag.BYTE };
 
-    ghost form = { T.form };
+    ghost form = { T.Tag.form };
 
     ghost spelled_around = { λ v p y. (λ s. s, λ s. s) };
 
     ghost strict_around = { λ v. refl };
+
+    ghost content_always = { T.content_always };
 }
 
 /// A type under an implicit tag is read alone too, where it has one tag of the same form: no CHOICE (X.680, 31.2.7), and

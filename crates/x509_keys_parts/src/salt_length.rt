@@ -1,11 +1,10 @@
 //! Lengths of salts, as they are written.
 
-ghost use Rattle.std.specs.Prelude.{refl};
 ghost use Rattle.x509_der.specs.Integer.{natural_content};
 
 use std::marker::Model;
 use x509_der::TooLong;
-use x509_der::parts::{Output, OwnTag, Primitive, ToContent, Universal};
+use x509_der::parts::{Output, OwnTag, ToContent, Universal};
 
 /// A number that is written as an INTEGER, without memory.
 #[derive(Drop)]
@@ -40,9 +39,5 @@ impl ToContent for SaltLength {
 }
 
 impl OwnTag for SaltLength {
-    type Form = Primitive;
-
     type Tag = Universal<2>;
-
-    ghost form = { refl };
 }

@@ -8,7 +8,7 @@ ghost use Rattle.x509_names.specs.facts.EdiPartyNames.{edi_same, assigner_apart}
 use crate::boxed::TakesMemory;
 use std::alloc::{Allocator, Global};
 use x509_der::parts::{
-    Constructed, Content, ContextConstructed, Field, FromContent, Join, One, Optional, Output,
+    Content, ContextConstructed, Field, FromContent, Join, One, Optional, Output,
     OwnTag, Reader, Ref, Sequence, Structure, Tagged, ToContent, known_there, read_as_content,
 };
 use x509_der::{CloneEq, ReadError, SameEq, TooLong};
@@ -113,9 +113,5 @@ impl<A: Allocator + Copy> FromContent<A> for EdiPartyName<A> {
 }
 
 impl<A: Allocator> OwnTag for EdiPartyName<A> {
-    type Form = Constructed;
-
     type Tag = Sequence;
-
-    ghost form = { refl };
 }

@@ -1,6 +1,6 @@
 //! Names: what subjects, issuers and directory entries are called.
 
-ghost use Rattle.std.specs.Prelude.{◌≡◌, ◌++◌, ◌∷◌, [], refl, IfOk, OnOk, OnErr, MatchOption, Some, None};
+ghost use Rattle.std.specs.Prelude.{◌≡◌, ◌++◌, ◌∷◌, [], IfOk, OnOk, OnErr, MatchOption, Some, None};
 ghost use Rattle.x509_names.specs.Attributes.{text_attribute, email_attribute};
 ghost use Rattle.x509_names.specs.Names.{name_content, name_bytes};
 ghost use Rattle.x509_names.specs.CommonNames.{common_name_of, first_of_set, first_common_name};
@@ -13,7 +13,7 @@ pub use crate::name_attr::NameAttr;
 use std::alloc::{AllocError, Allocator, Global};
 use std::marker::Model;
 use x509_der::parts::{
-    Constructed, Content, FromContent, Output, OwnTag, Reader, Sequence, ToContent,
+    Content, FromContent, Output, OwnTag, Reader, Sequence, ToContent,
 };
 use x509_der::{Asn1SequenceOf, Asn1SetOf, CloneEq, ReadError, SameEq, TooLong};
 use x509_names_parts::DirectoryString;
@@ -199,9 +199,5 @@ impl<A: Allocator + Copy> FromContent<A> for Name<A> {
 }
 
 impl<A: Allocator> OwnTag for Name<A> {
-    type Form = Constructed;
-
     type Tag = Sequence;
-
-    ghost form = { refl };
 }

@@ -8,7 +8,7 @@ ghost use Rattle.x509_names.specs.facts.OtherNames.{other_same};
 use crate::boxed::TakesMemory;
 use std::alloc::{Allocator, Global};
 use x509_der::parts::{
-    Constructed, Content, ContextConstructed, Field, FromContent, Join, One, Output, OwnTag,
+    Content, ContextConstructed, Field, FromContent, Join, One, Output, OwnTag,
     Reader, Ref, Sequence, Structure, Tagged, ToContent, read_as_content,
 };
 use x509_der::{Asn1RawDer, CloneEq, ObjectIdentifierAsn1, ReadError, SameEq, TooLong};
@@ -107,9 +107,5 @@ impl<A: Allocator + Copy> FromContent<A> for OtherName<A> {
 }
 
 impl<A: Allocator> OwnTag for OtherName<A> {
-    type Form = Constructed;
-
     type Tag = Sequence;
-
-    ghost form = { refl };
 }

@@ -7,7 +7,7 @@ ghost use Rattle.x509_der.specs.laws.PrimitiveContent.{plain_lawful};
 use crate::date::{Date, Years};
 use std::alloc::Allocator;
 use std::marker::Model;
-use x509_der::parts::{Content, FromContent, Output, OwnTag, Primitive, Reader, ToContent};
+use x509_der::parts::{Content, FromContent, Output, OwnTag, Reader, ToContent};
 use x509_der::{CloneEq, ReadError, SameEq, TooLong};
 
 /// A second of the years `Y` as an element. Contracts see its six numbers.
@@ -90,9 +90,5 @@ impl<Y: Years, A: Allocator + Copy> FromContent<A> for TimeAsn1<Y> {
 }
 
 impl<Y: Years> OwnTag for TimeAsn1<Y> {
-    type Form = Primitive;
-
     type Tag = Y;
-
-    ghost form = { Y.primitive };
 }

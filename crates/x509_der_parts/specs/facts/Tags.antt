@@ -34,3 +34,6 @@ universal_tag n = let r = n % 31 in let h : r < 31 = mod_below n 31 (lit< tt) in
 
 pub universal_byte : (n : ℕ) → n % 31 < 256
 universal_byte n = omega (arith, mod_below n 31 (lit< tt))
+
+pub universal_form : (n : ℕ) → form_bit (n % 31) ≡ 0
+universal_form n = let r = n % 31 in let h : r < 31 = mod_below n 31 (lit< tt) in omega (arith, h)
