@@ -8,8 +8,8 @@ ghost use Rattle.x509_names.specs.facts.EdiPartyNames.{edi_same, assigner_apart}
 use crate::boxed::TakesMemory;
 use std::alloc::{Allocator, Global};
 use x509_der::parts::{
-    Content, ContextConstructed, Field, FromContent, Join, One, Optional, Output,
-    OwnTag, Reader, Ref, Sequence, Structure, Tagged, ToContent, known_there, read_as_content,
+    Content, ContextConstructed, Field, FromContent, Join, One, Optional, Output, OwnTag, Reader,
+    Ref, Sequence, Structure, Tagged, ToContent, known_there, read_as_content,
 };
 use x509_der::{CloneEq, ReadError, SameEq, TooLong};
 use x509_names_parts::DirectoryString;

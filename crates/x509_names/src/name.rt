@@ -12,9 +12,7 @@ use crate::attribute_type_and_value::{
 pub use crate::name_attr::NameAttr;
 use std::alloc::{AllocError, Allocator, Global};
 use std::marker::Model;
-use x509_der::parts::{
-    Content, FromContent, Output, OwnTag, Reader, Sequence, ToContent,
-};
+use x509_der::parts::{Content, FromContent, Output, OwnTag, Reader, Sequence, ToContent};
 use x509_der::{Asn1SequenceOf, Asn1SetOf, CloneEq, ReadError, SameEq, TooLong};
 use x509_names_parts::DirectoryString;
 use x509_prim::Ia5StringAsn1;

@@ -8,8 +8,8 @@ ghost use Rattle.x509_names.specs.facts.OtherNames.{other_same};
 use crate::boxed::TakesMemory;
 use std::alloc::{Allocator, Global};
 use x509_der::parts::{
-    Content, ContextConstructed, Field, FromContent, Join, One, Output, OwnTag,
-    Reader, Ref, Sequence, Structure, Tagged, ToContent, read_as_content,
+    Content, ContextConstructed, Field, FromContent, Join, One, Output, OwnTag, Reader, Ref,
+    Sequence, Structure, Tagged, ToContent, read_as_content,
 };
 use x509_der::{Asn1RawDer, CloneEq, ObjectIdentifierAsn1, ReadError, SameEq, TooLong};
 
