@@ -13,9 +13,8 @@ use crate::key_identifier::KeyIdentifier;
 use std::alloc::{Allocator, Global};
 use std::marker::Model;
 use x509_der::parts::{
-    Choice, Content, ContextConstructed, ContextPrimitive, Field, Items, Join, One, Optional,
-    Output, Reader, Ref, SEQUENCE_TAG, Sequence, Tagged, View, WholeDeviations, known_there,
-    read_viewed,
+    Choice, ContentOf, ContextConstructed, ContextPrimitive, Field, Items, Join, Optional, Reader,
+    SEQUENCE_TAG, Sequence, Tagged, View, WholeDeviations, known_there, read_viewed,
 };
 use x509_der::{
     CloneEq, Deviation, FromDer, IntegerAsn1, OctetStringAsn1, ReadError, SameEq, ToDer, TooLong,
@@ -109,13 +108,15 @@ impl<A: Allocator> AuthorityKeyIdentifier<A> {
     {
         match field {
             Choice::First(key) => {
-                put(&mut self.key_identifier, key.into_inner());
+                let ContentOf(octets) = key.into_inner();
+                put(&mut self.key_identifier, octets);
             }
             Choice::Second(Choice::First(issuer)) => {
-                put(&mut self.authority_cert_issuer, issuer.into_value());
+                put(&mut self.authority_cert_issuer, issuer.into_inner());
             }
             Choice::Second(Choice::Second(serial)) => {
-                put(&mut self.authority_cert_serial_number, serial.into_inner());
+                let ContentOf(integer) = serial.into_inner();
+                put(&mut self.authority_cert_serial_number, integer);
             }
         }
     }
@@ -144,10 +145,10 @@ impl<A: Allocator> SameEq for AuthorityKeyIdentifier<A> {
 
 /// One field, by its tag.
 type Part<A> = Choice<
-    Tagged<ContextPrimitive<0>, KeyIdentifier<A>>,
+    Tagged<ContextPrimitive<0>, ContentOf<KeyIdentifier<A>>>,
     Choice<
-        Tagged<ContextConstructed<1>, One<GeneralName<A>>>,
-        Tagged<ContextPrimitive<2>, IntegerAsn1<A>>,
+        Tagged<ContextConstructed<1>, GeneralName<A>>,
+        Tagged<ContextPrimitive<2>, ContentOf<IntegerAsn1<A>>>,
     >,
 >;
 
@@ -161,10 +162,10 @@ type Fields<A> = Tagged<Sequence, Inner<A>>;
 type Written<'a, A> = Tagged<
     Sequence,
     Join<
-        Optional<Tagged<ContextPrimitive<0>, Ref<'a, KeyIdentifier<A>>>>,
+        Optional<Tagged<ContextPrimitive<0>, ContentOf<&'a KeyIdentifier<A>>>>,
         Join<
-            Optional<Tagged<ContextConstructed<1>, One<Ref<'a, GeneralName<A>>>>>,
-            One<Optional<Tagged<ContextPrimitive<2>, Ref<'a, IntegerAsn1<A>>>>>,
+            Optional<Tagged<ContextConstructed<1>, &'a GeneralName<A>>>,
+            Optional<Tagged<ContextPrimitive<2>, ContentOf<&'a IntegerAsn1<A>>>>,
         >,
     >,
 >;
@@ -220,13 +221,13 @@ fn last_of_each<A: Allocator>(fields: Vec<Part<A>, A>) -> AuthorityKeyIdentifier
 
 /// The fields of an authority key identifier, to be written.
 fn written<A: Allocator>(value: &AuthorityKeyIdentifier<A>) -> Written<'_, A>
-    ensures { result ≡ (value.now.key_identifier, (value.now.issuer, value.now.serial_number)) }
+    ensures { ⟦<Written<'static, A> as ToDer>⟧.strict result ≡ authority_bytes value.now }
 {
     Tagged::new(Join(
         Optional::borrowed_content(&value.key_identifier),
         Join(
             Optional::borrowed_element(&value.authority_cert_issuer),
-            One(Optional::borrowed_content(&value.authority_cert_serial_number)),
+            Optional::borrowed_content(&value.authority_cert_serial_number),
         ),
     ))
 }
@@ -234,8 +235,12 @@ fn written<A: Allocator>(value: &AuthorityKeyIdentifier<A>) -> Written<'_, A>
 impl<A: Allocator> ToDer for AuthorityKeyIdentifier<A> {
     ghost strict = { λ v. authority_bytes v };
 
-    fn put<O: Output>(&self, out: &mut [u8], at: usize) -> Result<usize, TooLong> {
-        written(self).put::<O>(out, at)
+    fn encoded_len(&self) -> Result<usize, TooLong> {
+        written(self).encoded_len()
+    }
+
+    fn write_back(&self, out: &mut [u8]) -> usize {
+        written(self).write_back(out)
     }
 }
 
@@ -245,7 +250,7 @@ impl<A: Allocator + Copy> View<Fields<A>, A> for AuthorityKeyIdentifier<A> {
     ghost view = { authority_meaning };
 
     ghost keeps = { sequence_keeps authority_meaning (items part)
-        (⟦<Inner<A> as Content<A>>⟧.content_lawful (
+        (⟦<Inner<A> as Field<A>>⟧.lawful (
           (
             (tt, ((tt, tt), ((tt, tt), issuer_apart))),
             ((tt, (tt, tt)), parts_apart),

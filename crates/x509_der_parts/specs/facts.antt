@@ -13,4 +13,3 @@ pub mod SameEq
 pub mod Tags
 pub mod Tally
 pub mod Writing
-pub mod Output
