@@ -72,7 +72,8 @@ def impl_name(header):
     parameters = {it.strip().removeprefix("const ").partition(":")[0].strip() for it in split_at(given, ",")}
     words = split_at(split_at(rest, " where")[0], " for ")
     if len(words) > 1:
-        return word_of(words[-1], parameters) + word_of(words[0], parameters), True
+        # An impl for every type of a bound has a word for them all.
+        return (word_of(words[-1], parameters) or "Any") + word_of(words[0], parameters), True
     path, angle, rest = words[0].strip().partition("<")
     arguments = [it.strip() for it in split_at(bracketed(angle + rest)[0], ",") if it.strip() and not it.strip().startswith("'")]
     if all(it in parameters for it in arguments):

@@ -15,7 +15,7 @@ static const char *const call_names[CALLS] = {"read", "len", "vec", "slice", "co
 typedef size_t Called(uint8_t call, const uint8_t *bytes, size_t len, uint8_t *out, size_t room);
 Called measured_null, measured_boolean, measured_small, measured_integer, measured_identifier, measured_octets, measured_raw,
     measured_algorithm, measured_nulls, measured_smalls, measured_integers, measured_identifiers, measured_algorithms, measured_sets,
-    measured_nest_2, measured_nest_4, measured_nest_8, measured_nest_16;
+    measured_nest_2, measured_nest_4;
 size_t measured_size(uint8_t which);
 
 /* What one call asks of malloc. */
@@ -225,9 +225,9 @@ static void of_sizes(size_t bytes, const char *size) {
 }
 
 static void nests(void) {
-  static Called *const called[] = {measured_smalls, measured_nest_2, measured_nest_4, measured_nest_8, measured_nest_16};
-  static const size_t depths[] = {1, 2, 4, 8, 16};
-  for (size_t i = 0; i < 5; i++) {
+  static Called *const called[] = {measured_smalls, measured_nest_2, measured_nest_4};
+  static const size_t depths[] = {1, 2, 4};
+  for (size_t i = 0; i < 3; i++) {
     char name[64];
     snprintf(name, sizeof name, "nest-%zu", depths[i]);
     nest(depths[i], 100);
@@ -245,8 +245,8 @@ static void thousands(void) {
 /* Lists whose values take most against their input: just past a power of two. */
 static void worst(void) {
   static const size_t counts[] = {1000, 1024, 1025, 65536, 65537};
-  nest(16, 0);
-  measure("empty-chain", measured_nest_16);
+  nest(4, 0);
+  measure("empty-chain", measured_nest_4);
   for (size_t i = 0; i < 5; i++) {
     char name[64];
     snprintf(name, sizeof name, "shortest-algorithms-%zu", counts[i]);

@@ -17,7 +17,7 @@ use std::alloc::Global;
 use x509_der::from_bytes;
 
 /// What is read.
-type Under = x509_der::parts::Tagged<x509_der::parts::{tag}, x509_der::parts::ContentOf<{type}>>;
+type Under = x509_der::parts::Tagged<x509_der::parts::{tag}, {type}>;
 
 fn main(rt: HostRuntime) {{
     match from_bytes::<Under, Global>(rt.alloc(), b"{bytes}") {{
@@ -60,19 +60,19 @@ class ImplicitTags(unittest.TestCase):
 
     def test_of_a_choice(self):
         said = self.tried("ContextPrimitive<1>", "x509_der::parts::Choice<u8, bool>", "\\x81\\x01\\x05")
-        self.assertIn("the trait bound `Choice<u8, bool>: OneTag<Global>` is not satisfied", said)
+        self.assertIn("`Tagged<ContextPrimitive<1>, Choice<u8, bool>>: FromDer<Global>` is not satisfied", said)
 
     def test_of_any_element(self):
         said = self.tried("ContextPrimitive<1>", "x509_der::Asn1RawDer<Global>", "\\x81\\x01\\x05")
-        self.assertIn("OneTag<Global>` is not satisfied", said)
+        self.assertIn("`Tagged<ContextPrimitive<1>, Asn1RawDer>: FromDer<Global>` is not satisfied", said)
 
     def test_of_a_list_under_a_primitive_tag(self):
         said = self.tried("ContextPrimitive<1>", LIST, "\\x81\\x03\\x02\\x01\\x05")
-        self.assertIn("the trait bound `ContextPrimitive<1>: TagOf<<Asn1SequenceOf<u8> as OneTag<Global>>::Form>` is not satisfied", said)
+        self.assertIn("`Tagged<ContextPrimitive<1>, Asn1SequenceOf<u8>>: FromDer<Global>` is not satisfied", said)
 
     def test_of_a_number_under_a_constructed_tag(self):
         said = self.tried("ContextConstructed<1>", "u8", "\\xA1\\x01\\x05")
-        self.assertIn("the trait bound `ContextConstructed<1>: TagOf<", said)
+        self.assertIn("`Tagged<ContextConstructed<1>, u8>: FromDer<Global>` is not satisfied", said)
 
 
 if __name__ == "__main__":

@@ -4,7 +4,6 @@ pub use Rattle.x509_der.specs.BitString
 pub use Rattle.x509_der.specs.Boolean
 pub use Rattle.x509_der.specs.Calls
 pub use Rattle.x509_der.specs.Choice
-pub use Rattle.x509_der.specs.ContentOf
 pub use Rattle.x509_der.specs.DefinedBy
 pub use Rattle.x509_der.specs.Deviations
 pub use Rattle.x509_der.specs.Element

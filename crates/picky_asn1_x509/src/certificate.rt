@@ -12,11 +12,12 @@ ghost use Rattle.picky_asn1_x509.specs.facts.Certificates.{certificate_same, cer
 
 use crate::signed_read::SignedRead;
 pub use crate::tbs_certificate::TbsCertificate;
-use crate::three::{read_three, three_len, write_three};
+use crate::three::{put_three, read_three};
 use picky_asn1_x509_parts::{AuthorityKeyIdentifier, BasicConstraints, Extension, ExtensionView};
 use std::alloc::{Allocator, Global};
 use x509_der::parts::{
-    Field, Join, Reader, SEQUENCE_TAG, Sequence, Structure, Tagged, read_first_field,
+    Field, Join, One, Output, Reader, Ref, SEQUENCE_TAG, Sequence, Structure, Tagged,
+    read_first_field,
 };
 use x509_der::{BitStringAsn1, CloneEq, FromDer, ReadError, ToDer, TooLong};
 use x509_keys::AlgorithmIdentifier;
@@ -132,7 +133,7 @@ impl<A: Allocator + Copy> CloneEq for Certificate<A> {
 }
 
 /// The signature behind its algorithm, owned.
-pub(crate) type Signature<A> = Join<AlgorithmIdentifier<A>, BitStringAsn1<A>>;
+pub(crate) type Signature<A> = Join<AlgorithmIdentifier<A>, One<BitStringAsn1<A>>>;
 
 /// The SEQUENCE, owned.
 type Fields<A> = Tagged<Sequence, Inner<A>>;
@@ -143,20 +144,13 @@ type Inner<A> = Join<TbsCertificate<A>, Signature<A>>;
 impl<A: Allocator> ToDer for Certificate<A> {
     ghost strict = { certificate_bytes };
 
-    fn encoded_len(&self) -> Result<usize, TooLong> {
-        three_len(
+    fn put<O: Output>(&self, out: &mut [u8], at: usize) -> Result<usize, TooLong> {
+        put_three::<O, _, _, _>(
             &self.tbs_certificate,
             &self.signature_algorithm,
-            &self.signature_value,
-        )
-    }
-
-    fn write_back(&self, out: &mut [u8]) -> usize {
-        write_three(
-            &self.tbs_certificate,
-            &self.signature_algorithm,
-            &self.signature_value,
+            &One(Ref(&self.signature_value)),
             out,
+            at,
         )
     }
 }
@@ -165,7 +159,7 @@ impl<A: Allocator> Structure<Inner<A>> for Certificate<A> {
     ghost fields = { certificate_parts };
 
     fn from_fields(parts: Inner<A>) -> Self {
-        let Join(tbs_certificate, Join(signature_algorithm, signature_value)) = parts;
+        let Join(tbs_certificate, Join(signature_algorithm, One(signature_value))) = parts;
         Certificate {
             tbs_certificate,
             signature_algorithm,
@@ -198,7 +192,7 @@ impl<A: Allocator + Copy> Field<A> for Certificate<A> {
     }
 
     fn read(alloc: A, reader: &mut Reader<'_, A>) -> Result<Self, ReadError> {
-        read_three::<Self, TbsCertificate<A>, AlgorithmIdentifier<A>, BitStringAsn1<A>, A>(
+        read_three::<Self, TbsCertificate<A>, AlgorithmIdentifier<A>, One<BitStringAsn1<A>>, A>(
             alloc, reader,
         )
     }

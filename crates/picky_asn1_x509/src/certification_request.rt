@@ -13,13 +13,13 @@ ghost use Rattle.picky_asn1_x509.specs.facts.Requests.{request_attributes_agree,
 
 use crate::certificate::Signature;
 use crate::signed_read::SignedRead;
-use crate::three::{four_len, read_three, three_len, write_four, write_three};
+use crate::three::{put_four, put_three, read_three};
 use picky_asn1_x509_parts::{Attribute, Attributes};
 use std::alloc::{AllocError, Allocator, Global};
 use std::marker::Model;
 use x509_der::parts::{
-    ContentOf, ContextConstructed, Field, Join, Reader, SEQUENCE_TAG, Sequence, Structure, Tag,
-    Tagged, clone_three, known_items, read_first_field,
+    ContextConstructed, Field, Join, One, Output, Reader, Ref, SEQUENCE_TAG, Sequence, Structure,
+    Tag, Tagged, clone_three, known_items, read_first_field,
 };
 use x509_der::{Asn1SequenceOf, BitStringAsn1, CloneEq, FromDer, ReadError, ToDer, TooLong};
 use x509_keys::{AlgorithmIdentifier, SubjectPublicKeyInfo};
@@ -78,17 +78,13 @@ impl<A: Allocator> OpenSslAttributes<A> {
 }
 
 /// The list under its tag, owned or borrowed.
-type ListNest<L> = Tagged<ContextConstructed<0>, ContentOf<L>>;
+type ListNest<L> = Tagged<ContextConstructed<0>, L>;
 
 impl<A: Allocator> ToDer for OpenSslAttributes<A> {
     ghost strict = { request_attributes_bytes };
 
-    fn encoded_len(&self) -> Result<usize, TooLong> {
-        ListNest::new(ContentOf(&self.0)).encoded_len()
-    }
-
-    fn write_back(&self, out: &mut [u8]) -> usize {
-        ListNest::new(ContentOf(&self.0)).write_back(out)
+    fn put<O: Output>(&self, out: &mut [u8], at: usize) -> Result<usize, TooLong> {
+        ListNest::new(Ref(&self.0)).put::<O>(out, at)
     }
 }
 
@@ -104,7 +100,7 @@ fn read_list<T: FromDer<A>, A: Allocator + Copy>(
     ensures { Reads (tagged 160 (items T.shape)) reader.old reader.new result }
 {
     let list = ListNest::<Asn1SequenceOf<T, A>>::read(alloc, reader)?;
-    Ok(list.into_value())
+    Ok(list.into_inner())
 }
 
 impl<A: Allocator + Copy> Field<A> for OpenSslAttributes<A> {
@@ -218,7 +214,7 @@ impl<A: Allocator + Copy> CloneEq for CertificationRequestInfo<A> {
 type InfoFields<A> = Tagged<Sequence, InfoInner<A>>;
 
 /// The last two fields, owned.
-type InfoEnd<A> = Join<SubjectPublicKeyInfo<A>, OpenSslAttributes<A>>;
+type InfoEnd<A> = Join<SubjectPublicKeyInfo<A>, One<OpenSslAttributes<A>>>;
 
 /// The fields, owned.
 type InfoInner<A> = Join<u8, Join<Name<A>, InfoEnd<A>>>;
@@ -226,22 +222,14 @@ type InfoInner<A> = Join<u8, Join<Name<A>, InfoEnd<A>>>;
 impl<A: Allocator> ToDer for CertificationRequestInfo<A> {
     ghost strict = { info_bytes };
 
-    fn encoded_len(&self) -> Result<usize, TooLong> {
-        four_len(
+    fn put<O: Output>(&self, out: &mut [u8], at: usize) -> Result<usize, TooLong> {
+        put_four::<O, _, _, _, _>(
             &self.version,
             &self.subject,
             &self.subject_public_key_info,
-            &self.attributes,
-        )
-    }
-
-    fn write_back(&self, out: &mut [u8]) -> usize {
-        write_four(
-            &self.version,
-            &self.subject,
-            &self.subject_public_key_info,
-            &self.attributes,
+            &One(Ref(&self.attributes)),
             out,
+            at,
         )
     }
 }
@@ -250,7 +238,7 @@ impl<A: Allocator> Structure<InfoInner<A>> for CertificationRequestInfo<A> {
     ghost fields = { info_parts };
 
     fn from_fields(parts: InfoInner<A>) -> Self {
-        let Join(version, Join(subject, Join(subject_public_key_info, attributes))) = parts;
+        let Join(version, Join(subject, Join(subject_public_key_info, One(attributes)))) = parts;
         CertificationRequestInfo {
             version,
             subject,
@@ -352,20 +340,13 @@ type RequestFields<A> = Tagged<Sequence, RequestInner<A>>;
 impl<A: Allocator> ToDer for CertificationRequest<A> {
     ghost strict = { request_bytes };
 
-    fn encoded_len(&self) -> Result<usize, TooLong> {
-        three_len(
+    fn put<O: Output>(&self, out: &mut [u8], at: usize) -> Result<usize, TooLong> {
+        put_three::<O, _, _, _>(
             &self.certification_request_info,
             &self.signature_algorithm,
-            &self.signature,
-        )
-    }
-
-    fn write_back(&self, out: &mut [u8]) -> usize {
-        write_three(
-            &self.certification_request_info,
-            &self.signature_algorithm,
-            &self.signature,
+            &One(Ref(&self.signature)),
             out,
+            at,
         )
     }
 }
@@ -374,7 +355,7 @@ impl<A: Allocator> Structure<RequestInner<A>> for CertificationRequest<A> {
     ghost fields = { request_parts };
 
     fn from_fields(parts: RequestInner<A>) -> Self {
-        let Join(certification_request_info, Join(signature_algorithm, signature)) = parts;
+        let Join(certification_request_info, Join(signature_algorithm, One(signature))) = parts;
         CertificationRequest {
             certification_request_info,
             signature_algorithm,
@@ -411,7 +392,7 @@ impl<A: Allocator + Copy> Field<A> for CertificationRequest<A> {
             Self,
             CertificationRequestInfo<A>,
             AlgorithmIdentifier<A>,
-            BitStringAsn1<A>,
+            One<BitStringAsn1<A>>,
             A,
         >(alloc, reader)
     }

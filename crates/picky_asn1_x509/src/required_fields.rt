@@ -8,13 +8,16 @@ use crate::tbs_certificate::TbsCertificate;
 use picky_asn1_x509_parts::Extensions;
 use std::alloc::{AllocError, Allocator};
 use std::marker::Model;
-use x509_der::parts::{Field, INTEGER_TAG, Join, Reader, SEQUENCE_TAG, clone_three};
+use x509_der::parts::{
+    Content, Field, INTEGER_TAG, Join, One, Output, Reader, Ref, SEQUENCE_TAG, ToContent,
+    clone_three,
+};
 use x509_der::{BitString, IntegerAsn1, ReadError, ToDer, TooLong};
 use x509_keys::{AlgorithmIdentifier, SubjectPublicKeyInfo};
 use x509_names::{Name, Validity, Version};
 
 /// The fields that every certificate has, one behind another, owned or borrowed.
-type RequiredNest<I, S, N, V, K> = Join<I, Join<S, Join<N, Join<V, Join<N, K>>>>>;
+type RequiredNest<I, S, N, V, K> = Join<I, Join<S, Join<N, Join<V, Join<N, One<K>>>>>>;
 
 /// The fields that every certificate has, owned.
 type RequiredParts<A> = RequiredNest<
@@ -40,19 +43,15 @@ impl<A: Allocator> Model for RequiredFields<A> {
 impl<A: Allocator> ToDer for RequiredFields<A> {
     ghost strict = { required_bytes };
 
-    fn encoded_len(&self) -> Result<usize, TooLong> {
-        self.0.encoded_len()
-    }
-
-    fn write_back(&self, out: &mut [u8]) -> usize {
-        self.0.write_back(out)
+    fn put<O: Output>(&self, out: &mut [u8], at: usize) -> Result<usize, TooLong> {
+        self.0.put_content::<O>(out, at)
     }
 }
 
 impl<A: Allocator + Copy> Field<A> for RequiredFields<A> {
     ghost shape = { required_fields };
 
-    ghost lawful = { λ h. ⟦<RequiredParts<A> as Field<A>>⟧.lawful (
+    ghost lawful = { λ h. ⟦<RequiredParts<A> as Content<A>>⟧.content_lawful (
       tt,
       (
         tt,
@@ -83,7 +82,7 @@ impl<A: Allocator + Copy> Field<A> for RequiredFields<A> {
 
     fn known(&self) {
         let RequiredFields(Join(serial_number, Join(signature, Join(issuer, rest)))) = self;
-        let Join(validity, Join(subject, subject_public_key_info)) = rest;
+        let Join(validity, Join(subject, One(subject_public_key_info))) = rest;
         serial_number.known();
         signature.known();
         issuer.known();
@@ -93,18 +92,9 @@ impl<A: Allocator + Copy> Field<A> for RequiredFields<A> {
     }
 
     fn read(alloc: A, reader: &mut Reader<'_, A>) -> Result<Self, ReadError> {
-        Ok(RequiredFields(RequiredParts::read(alloc, reader)?))
+        Ok(RequiredFields(RequiredParts::read_content(alloc, reader)?))
     }
 }
-
-/// The fields that every certificate has, borrowed.
-pub(crate) type WrittenRequired<'a, A> = RequiredNest<
-    &'a IntegerAsn1<A>,
-    &'a AlgorithmIdentifier<A>,
-    &'a Name<A>,
-    &'a Validity,
-    &'a SubjectPublicKeyInfo<A>,
->;
 
 /// The value of these fields.
 pub(crate) fn from_required<A: Allocator>(
@@ -117,7 +107,7 @@ pub(crate) fn from_required<A: Allocator>(
     ensures { result ≡ tbs_with version required issuer_unique_id subject_unique_id extensions }
 {
     let RequiredFields(Join(serial_number, Join(signature, Join(issuer, rest)))) = required;
-    let Join(validity, Join(subject, subject_public_key_info)) = rest;
+    let Join(validity, Join(subject, One(subject_public_key_info))) = rest;
     TbsCertificate {
         version,
         serial_number,
@@ -151,15 +141,47 @@ pub(crate) fn clone_required<A: Allocator + Copy>(
         &value.subject,
         &value.subject_public_key_info,
     )?;
-    let rest = Join(validity, Join(subject, key));
+    let rest = Join(validity, Join(subject, One(key)));
     Ok(RequiredFields(Join(serial_number, Join(signature, Join(issuer, rest)))))
 }
 
-/// The fields that every certificate has, to be written.
-pub(crate) fn borrowed_required<A: Allocator>(value: &TbsCertificate<A>) -> WrittenRequired<'_, A>
-    ensures { ⟦<WrittenRequired<'static, A> as ToDer>⟧.strict result ≡ required_bytes (required_of value.now) }
+/// The fields that every certificate has, borrowed.
+type BorrowedParts<'a, A> = RequiredNest<
+    Ref<'a, IntegerAsn1<A>>,
+    Ref<'a, AlgorithmIdentifier<A>>,
+    Ref<'a, Name<A>>,
+    Ref<'a, Validity>,
+    Ref<'a, SubjectPublicKeyInfo<A>>,
+>;
+
+/// The fields that every certificate has, borrowed.
+fn borrowed_required<A: Allocator>(value: &TbsCertificate<A>) -> BorrowedParts<'_, A>
+    ensures { result ≡ required_of value.now }
 {
-    let subject = Join(&value.subject, &value.subject_public_key_info);
-    let rest = Join(&value.issuer, Join(&value.validity, subject));
-    Join(&value.serial_number, Join(&value.signature, rest))
+    let subject = Join(
+        Ref(&value.subject),
+        One(Ref(&value.subject_public_key_info)),
+    );
+    let rest = Join(Ref(&value.issuer), Join(Ref(&value.validity), subject));
+    Join(Ref(&value.serial_number), Join(Ref(&value.signature), rest))
+}
+
+/// These of a certificate as one field, to be written.
+#[derive(Drop)]
+pub(crate) struct WrittenRequired<'a, A: Allocator>(pub(crate) &'a TbsCertificate<A>);
+
+impl<'a, A: Allocator> Model for WrittenRequired<'a, A> {
+    ghost use Rattle.picky_asn1_x509.specs.TbsCertificates.{RequiredFields, required_of};
+
+    ghost Value = { RequiredFields A };
+
+    ghost view = { λ w. required_of w.0.now };
+}
+
+impl<'a, A: Allocator> ToDer for WrittenRequired<'a, A> {
+    ghost strict = { required_bytes };
+
+    fn put<O: Output>(&self, out: &mut [u8], at: usize) -> Result<usize, TooLong> {
+        borrowed_required(self.0).put_content::<O>(out, at)
+    }
 }

@@ -6,16 +6,17 @@ ghost use Rattle.x509_der.specs.Optional.{optional, optional_strict};
 ghost use Rattle.x509_der.specs.Types.read_error.{OutOfMemory};
 ghost use Rattle.x509_der.specs.View.{if_found, kinds_in, meant};
 ghost use Rattle.x509_der.specs.laws.Meaning.{seen_lawful, seen_element};
-ghost use Rattle.picky_asn1_x509.specs.TbsCertificates.{version_field, issuer_id_field, subject_id_field, extensions_field, tbs_base, version_in, written_version, version_kinds, list_in, written_list, list_kinds, is_absent, is_nil, ids_fit, extensions_fit, is_fitting, refusal_where, tbs_means, tbs_meaning, tbs_refusal, tbs_certificate, id_bytes, list_bytes, end_bytes, tbs_back, tbs_bytes};
+ghost use Rattle.picky_asn1_x509.specs.TbsCertificates.{version_field, issuer_id_field, subject_id_field, extensions_field, tbs_base, version_in, written_version, version_kinds, list_in, written_list, list_kinds, is_absent, is_nil, ids_fit, extensions_fit, is_fitting, refusal_where, tbs_means, tbs_meaning, tbs_refusal, tbs_certificate, id_bytes, end_bytes, tbs_back, tbs_bytes};
 ghost use Rattle.picky_asn1_x509.specs.facts.TbsCertificates.{version_apart, issuer_id_apart, subject_id_apart, tbs_is, tbs_keeps, tbs_agrees};
 
-use crate::required_fields::{RequiredFields, borrowed_required, clone_required, from_required};
-use crate::three::{read_three_meanings, three_len, write_three};
+use crate::required_fields::{RequiredFields, WrittenRequired, clone_required, from_required};
+use crate::three::{put_three, read_three_meanings};
 use picky_asn1_x509_parts::Extensions;
 use std::alloc::{AllocError, Allocator, Global};
 use x509_der::parts::{
-    BorrowedBits, ContentOf, ContextConstructed, ContextPrimitive, Field, Join, Optional, Reader,
-    SEQUENCE_TAG, Sequence, Tag, Tagged, View, WholeDeviations, clone_three,
+    BorrowedBits, Content, ContextConstructed, ContextPrimitive, Field, Join, One, Optional,
+    Output, Reader, Ref, SEQUENCE_TAG, Sequence, Tag, Tagged, ToContent, View, WholeDeviations,
+    clone_three,
 };
 use x509_der::{
     BitString, BitStringAsn1, CloneEq, Deviation, FromDer, IntegerAsn1, ReadError, ToDer, TooLong,
@@ -89,16 +90,19 @@ impl<A: Allocator + Copy> CloneEq for TbsCertificate<A> {
 }
 
 /// The fields behind them, owned or borrowed.
-type EndNest<I, S, E> = Join<
-    Optional<Tagged<ContextPrimitive<1>, I>>,
-    Join<Optional<Tagged<ContextPrimitive<2>, S>>, Optional<Tagged<ContextConstructed<3>, E>>>,
+type EndNest<B, E> = Join<
+    Optional<Tagged<ContextPrimitive<1>, B>>,
+    Join<
+        Optional<Tagged<ContextPrimitive<2>, B>>,
+        One<Optional<Tagged<ContextConstructed<3>, One<E>>>>,
+    >,
 >;
 
 /// The fields behind them, owned.
-type Ends<A> = EndNest<ContentOf<BitStringAsn1<A>>, ContentOf<BitStringAsn1<A>>, Extensions<A>>;
+type Ends<A> = EndNest<BitStringAsn1<A>, Extensions<A>>;
 
 /// The version, where it is encoded.
-type SpelledVersion = Optional<Tagged<ContextConstructed<0>, Version>>;
+type SpelledVersion = Optional<Tagged<ContextConstructed<0>, One<Version>>>;
 
 /// The fields behind the version, owned.
 type AfterVersion<A> = Join<RequiredFields<A>, Ends<A>>;
@@ -110,32 +114,27 @@ type Inner<A> = Join<SpelledVersion, AfterVersion<A>>;
 type Fields<A> = Tagged<Sequence, Inner<A>>;
 
 /// The fields behind those that every certificate has, borrowed.
-type WrittenEnds<'a, A> = EndNest<
-    ContentOf<BorrowedBits<'a>>,
-    ContentOf<BorrowedBits<'a>>,
-    &'a Extensions<A>,
->;
+type WrittenEnds<'a, A> = EndNest<BorrowedBits<'a>, Ref<'a, Extensions<A>>>;
 
 /// A version, to be written: none where it is version 1.
-fn borrowed_version(version: &Version) -> Optional<Tagged<ContextConstructed<0>, &Version>>
-    ensures { optional_strict (λ v. version_field.strict v.now) result ≡ (optional version_field).strict
-        (written_version version.now) }
+fn written_version(version: Version) -> SpelledVersion
+    ensures { result ≡ written_version version }
 {
     match version {
         Version::V1 => Optional(None),
-        Version::V2 | Version::V3 => Optional(Some(Tagged::new(version))),
+        Version::V2 | Version::V3 => Optional(Some(Tagged::new(One(version)))),
     }
 }
 
 /// A unique identifier under its tag, to be written, where it is there.
 fn borrowed_bits<N: Tag, A: Allocator>(
     bits: &Option<BitString<A>>,
-) -> Optional<Tagged<N, ContentOf<BorrowedBits<'_>>>>
+) -> Optional<Tagged<N, BorrowedBits<'_>>>
     ensures { optional_strict (λ b. element N.BYTE b) result ≡ id_bytes N.BYTE bits.now }
 {
     match bits {
         None => Optional(None),
-        Some(bits) => Optional(Some(Tagged::new(ContentOf(BorrowedBits::of(bits))))),
+        Some(bits) => Optional(Some(Tagged::new(BorrowedBits::of(bits)))),
     }
 }
 
@@ -149,42 +148,35 @@ fn is_empty<A: Allocator>(extensions: &Extensions<A>) -> bool
 /// Extensions under their tag, to be written: none where the list is empty.
 fn borrowed_extensions<A: Allocator>(
     extensions: &Extensions<A>,
-) -> Optional<Tagged<ContextConstructed<3>, &Extensions<A>>>
-    ensures { optional_strict (λ es. element 163 (⟦<Extensions<A> as ToDer>⟧.strict es.now)) result ≡ list_bytes
-        (written_list extensions.now) }
+) -> Optional<Tagged<ContextConstructed<3>, One<Ref<'_, Extensions<A>>>>>
+    ensures { result ≡ written_list extensions.now }
 {
     if is_empty(extensions) {
         Optional(None)
     } else {
-        Optional(Some(Tagged::new(extensions)))
+        Optional(Some(Tagged::new(One(Ref(extensions)))))
     }
 }
 
 /// The fields behind them, to be written.
 fn borrowed_ends<A: Allocator>(value: &TbsCertificate<A>) -> WrittenEnds<'_, A>
-    ensures { ⟦<WrittenEnds<'static, A> as ToDer>⟧.strict result ≡ end_bytes (tbs_back value.now).1.1 }
+    ensures { ⟦<EndNest<BorrowedBits<'static>, Extensions<A>> as ToContent>⟧.content result
+        ≡ end_bytes (tbs_back value.now).1.1 }
 {
     let issuer = borrowed_bits(&value.issuer_unique_id);
     let subject = borrowed_bits(&value.subject_unique_id);
     let extensions = borrowed_extensions(&value.extensions);
-    Join(issuer, Join(subject, extensions))
+    Join(issuer, Join(subject, One(extensions)))
 }
 
 impl<A: Allocator> ToDer for TbsCertificate<A> {
     ghost strict = { tbs_bytes };
 
-    fn encoded_len(&self) -> Result<usize, TooLong> {
-        let version = borrowed_version(&self.version);
-        let required = borrowed_required(self);
+    fn put<O: Output>(&self, out: &mut [u8], at: usize) -> Result<usize, TooLong> {
+        let version = written_version(self.version);
+        let required = WrittenRequired(self);
         let ends = borrowed_ends(self);
-        three_len(&version, &required, &ends)
-    }
-
-    fn write_back(&self, out: &mut [u8]) -> usize {
-        let version = borrowed_version(&self.version);
-        let required = borrowed_required(self);
-        let ends = borrowed_ends(self);
-        write_three(&version, &required, &ends, out)
+        put_three::<O, _, _, _>(&version, &required, &ends, out, at)
     }
 }
 
@@ -213,7 +205,7 @@ fn spelled_version(field: &SpelledVersion) -> Option<Version>
     ensures { result ≡ field.now }
 {
     match &field.0 {
-        Some(version) => Some(*version.inner()),
+        Some(version) => Some(version.inner().0),
         None => None,
     }
 }
@@ -321,8 +313,8 @@ impl<A: Allocator + Copy> View<Fields<A>, A> for TbsCertificate<A> {
 
     ghost view = { tbs_meaning };
 
-    ghost keeps = { tbs_keeps (⟦<Version as Field<A>>⟧.lawful tt) (⟦<Tagged<ContextConstructed<0>, Version> as Field<A>>⟧.lawful tt)
-        (⟦<AfterVersion<A> as Field<A>>⟧.lawful (
+    ghost keeps = { tbs_keeps (⟦<Version as Field<A>>⟧.lawful tt) (⟦<Tagged<ContextConstructed<0>, One<Version>> as Field<A>>⟧.lawful tt)
+        (⟦<AfterVersion<A> as Content<A>>⟧.content_lawful (
           tt,
           (
             (tt, tt),
@@ -331,7 +323,7 @@ impl<A: Allocator + Copy> View<Fields<A>, A> for TbsCertificate<A> {
           ),
           λ c h. refl,
         ))
-        (⟦<Inner<A> as Field<A>>⟧.lawful (
+        (⟦<Inner<A> as Content<A>>⟧.content_lawful (
           (tt, tt),
           (
             tt,
@@ -350,14 +342,14 @@ impl<A: Allocator + Copy> View<Fields<A>, A> for TbsCertificate<A> {
         ensures refusal { result ≡ Err OutOfMemory → ⊥ }
         ensures name { IfErr result (λ e. e ≡ tbs_refusal parts) }
     {
-        let Join(version, Join(required, Join(issuer, Join(subject, extensions)))) =
+        let Join(version, Join(required, Join(issuer, Join(subject, One(extensions))))) =
             parts.into_inner();
-        let version = version.into_field();
-        let extensions = extensions.into_field();
+        let version = version.into_value();
+        let extensions = extensions.into_value();
         let found = found_in(version, &extensions);
         let extensions = extensions_of(alloc, extensions);
-        let issuer = bits_in(issuer.into_value());
-        let subject = bits_in(subject.into_value());
+        let issuer = bits_in(issuer.into_inner());
+        let subject = bits_in(subject.into_inner());
         let value = from_required(version_of(version), required, issuer, subject, extensions);
         if fits(&value) {
             Ok((value, found))

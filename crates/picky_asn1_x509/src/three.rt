@@ -1,6 +1,6 @@
-//! A SEQUENCE of three or four fields, over any such: a proof about it doesn't have all that stands in them.
+//! A SEQUENCE of three or four parts, over any such, of which the last is a content: a proof about it doesn't have all that stands in them.
 
-ghost use Rattle.std.specs.Prelude.{◌≡◌, ◌+◌, ◌≤◌, ◌++◌, ℕ, List, length, take};
+ghost use Rattle.std.specs.Prelude.{◌++◌, ℕ, List};
 ghost use Rattle.x509_der.specs.Element.{element};
 ghost use Rattle.x509_der.specs.Join.{join, Apart};
 ghost use Rattle.x509_der.specs.Reading.{Ready, Reads};
@@ -8,82 +8,58 @@ ghost use Rattle.x509_der.specs.Structure.{structure};
 ghost use Rattle.x509_der.specs.Tagged.{tagged};
 ghost use Rattle.x509_der.specs.Tally.{Tally};
 ghost use Rattle.x509_der.specs.View.{seen};
-ghost use Rattle.x509_der.specs.Writing.{Measures};
 
 use std::alloc::Allocator;
 use x509_der::parts::{
-    Field, Join, Reader, SEQUENCE_TAG, Sequence, Structure, Tagged, View, element_len,
-    read_sequence, read_viewed, write_element,
+    Content, Field, Join, Output, Reader, Ref, SEQUENCE_TAG, Sequence, Structure, Tagged,
+    ToContent, View, put_element, read_sequence, read_viewed,
 };
 use x509_der::{ReadError, ToDer, TooLong};
 
-/// How many bytes the SEQUENCE of three fields is. Takes no memory.
+/// Puts the SEQUENCE of two fields and a content in front of a place, to be counted or written. Takes no memory.
 ///
 /// # Errors
-/// `TooLong`, exactly where the length is above the greatest `usize`.
-pub(crate) fn three_len<F: ToDer, G: ToDer, H: ToDer>(
-    first: &F,
-    second: &G,
-    third: &H,
-) -> Result<usize, TooLong>
-    ensures { Measures (length (element 48
-        (F.strict first.now ++ (G.strict second.now ++ H.strict third.now)))) result }
-{
-    element_len(SEQUENCE_TAG, &Join(first, Join(second, third)))
-}
-
-/// Writes the SEQUENCE of three fields to the end of a slice, and answers where it begins.
-pub(crate) fn write_three<F: ToDer, G: ToDer, H: ToDer>(
+/// `TooLong`, exactly where more is counted than the greatest `usize`.
+pub(crate) fn put_three<O: Output, F: ToDer, G: ToDer, H: ToContent>(
     first: &F,
     second: &G,
     third: &H,
     out: &mut [u8],
-) -> usize
-    requires { length (element 48 (F.strict first.now ++ (G.strict second.now ++ H.strict third.now)))
-        ≤ length out.old }
-    ensures start { result + length (element 48 (F.strict first.now ++ (G.strict second.now ++ H.strict third.now)))
-        ≡ length out.old }
-    ensures bytes { out.new ≡ take result out.old
-        ++ element 48 (F.strict first.now ++ (G.strict second.now ++ H.strict third.now)) }
+    at: usize,
+) -> Result<usize, TooLong>
+    requires { O.fits (element 48 (F.strict first.now ++ (G.strict second.now ++ H.content third.now))) out.old at }
+    ensures { O.puts (element 48 (F.strict first.now ++ (G.strict second.now ++ H.content third.now))) out.old at
+        out.new result }
 {
-    write_element(SEQUENCE_TAG, &Join(first, Join(second, third)), out)
+    put_element::<O, _>(
+        SEQUENCE_TAG,
+        &Join(Ref(first), Join(Ref(second), Ref(third))),
+        out,
+        at,
+    )
 }
 
-/// How many bytes the SEQUENCE of four fields is. Takes no memory.
+/// Puts the SEQUENCE of three fields and a content in front of a place, to be counted or written. Takes no memory.
 ///
 /// # Errors
-/// `TooLong`, exactly where the length is above the greatest `usize`.
-pub(crate) fn four_len<F: ToDer, G: ToDer, H: ToDer, I: ToDer>(
-    first: &F,
-    second: &G,
-    third: &H,
-    fourth: &I,
-) -> Result<usize, TooLong>
-    ensures { Measures (length (element 48 (F.strict first.now ++ (G.strict second.now
-        ++ (H.strict third.now ++ I.strict fourth.now))))) result }
-{
-    three_len(first, second, &Join(third, fourth))
-}
-
-/// Writes the SEQUENCE of four fields to the end of a slice, and answers where it begins.
-pub(crate) fn write_four<F: ToDer, G: ToDer, H: ToDer, I: ToDer>(
+/// `TooLong`, exactly where more is counted than the greatest `usize`.
+pub(crate) fn put_four<O: Output, F: ToDer, G: ToDer, H: ToDer, I: ToContent>(
     first: &F,
     second: &G,
     third: &H,
     fourth: &I,
     out: &mut [u8],
-) -> usize
-    requires { length (element 48 (F.strict first.now ++ (G.strict second.now
-        ++ (H.strict third.now ++ I.strict fourth.now)))) ≤ length out.old }
-    ensures start { result + length (element 48 (F.strict first.now ++ (G.strict second.now
-        ++ (H.strict third.now ++ I.strict fourth.now)))) ≡ length out.old }
-    ensures bytes { out.new ≡ take result out.old ++ element 48 (F.strict first.now ++ (G.strict second.now
-        ++ (H.strict third.now ++ I.strict fourth.now))) }
+    at: usize,
+) -> Result<usize, TooLong>
+    requires { O.fits (element 48 (F.strict first.now ++ (G.strict second.now
+        ++ (H.strict third.now ++ I.content fourth.now)))) out.old at }
+    ensures { O.puts (element 48 (F.strict first.now ++ (G.strict second.now
+        ++ (H.strict third.now ++ I.content fourth.now)))) out.old at out.new result }
 {
-    write_three(first, second, &Join(third, fourth), out)
+    put_three::<O, _, _, _>(first, second, &Join(Ref(third), Ref(fourth)), out, at)
 }
 
-/// Reads a value by way of the SEQUENCE of its three fields.
+/// Reads a value by way of the SEQUENCE of its two fields and a content.
 ///
 /// # Errors
 /// As the fields; also where another element stands there, or its content has bytes behind them.
@@ -91,19 +67,19 @@ pub(crate) fn read_three<
     T: Structure<Join<F, Join<G, H>>> + Drop,
     F: Field<A> + Drop,
     G: Field<A> + Drop,
-    H: Field<A>,
+    H: Content<A>,
     A: Allocator + Copy,
 >(alloc: A, reader: &mut Reader<'_, A>) -> Result<T, ReadError>
     requires ready { Ready reader.old }
-    requires fits { F.fits × (G.fits × H.fits × Apart G.shape H.shape)
-        × Apart F.shape (join (λ (j : G × H). j.0) (λ j. j.1) G.shape H.shape) }
+    requires fits { F.fits × (G.fits × H.content_fits × Apart G.shape H.content_shape)
+        × Apart F.shape (join (λ (j : G × H). j.0) (λ j. j.1) G.shape H.content_shape) }
     ensures { Reads (structure T.fields (tagged 48 (join (λ j. j.0) (λ j. j.1) F.shape
-        (join (λ j. j.0) (λ j. j.1) G.shape H.shape)))) reader.old reader.new result }
+        (join (λ j. j.0) (λ j. j.1) G.shape H.content_shape)))) reader.old reader.new result }
 {
     read_sequence::<T, Join<F, Join<G, H>>, A>(alloc, reader)
 }
 
-/// Reads a value by way of what the three fields of a SEQUENCE mean.
+/// Reads a value by way of what the two fields and the content in a SEQUENCE mean.
 ///
 /// # Errors
 /// As the fields; also where another element stands there, or its content has bytes behind them, and by the name that
@@ -112,16 +88,16 @@ pub(crate) fn read_three_meanings<
     T: View<Tagged<Sequence, Join<F, Join<G, H>>>, A>,
     F: Field<A> + Drop,
     G: Field<A> + Drop,
-    H: Field<A> + Drop,
+    H: Content<A> + Drop,
     A: Allocator + Copy,
 >(alloc: A, reader: &mut Reader<'_, A>) -> Result<T, ReadError>
     requires ready { Ready reader.old }
-    requires fits { F.fits × (G.fits × H.fits × Apart G.shape H.shape)
-        × Apart F.shape (join (λ (j : G × H). j.0) (λ j. j.1) G.shape H.shape) }
+    requires fits { F.fits × (G.fits × H.content_fits × Apart G.shape H.content_shape)
+        × Apart F.shape (join (λ (j : G × H). j.0) (λ j. j.1) G.shape H.content_shape) }
     requires base { (b : F × (G × H)) (p : List ℕ) (y : Tally) → (tagged 48 (join (λ j. j.0) (λ j. j.1) F.shape
-        (join (λ j. j.0) (λ j. j.1) G.shape H.shape))).spelled b p y → T.base.spelled b p y }
+        (join (λ j. j.0) (λ j. j.1) G.shape H.content_shape))).spelled b p y → T.base.spelled b p y }
     ensures { Reads (seen T.view (tagged 48 (join (λ j. j.0) (λ j. j.1) F.shape
-        (join (λ j. j.0) (λ j. j.1) G.shape H.shape)))) reader.old reader.new result }
+        (join (λ j. j.0) (λ j. j.1) G.shape H.content_shape)))) reader.old reader.new result }
 {
     read_viewed::<T, Tagged<Sequence, Join<F, Join<G, H>>>, A>(alloc, reader)
 }

@@ -11,7 +11,8 @@ use crate::extension::Extension;
 use crate::extensions::Extensions;
 use std::alloc::{AllocError, Allocator, Global};
 use x509_der::parts::{
-    AnyDefinedBy, DefinedBy, Field, Reader, SEQUENCE_TAG, Sequence, Structure, Tagged, read_fields,
+    AnyDefinedBy, DefinedBy, Field, One, Output, Reader, Ref, SEQUENCE_TAG, Sequence, Structure,
+    Tagged, read_fields,
 };
 use x509_der::{
     Asn1RawDer, Asn1SequenceOf, Asn1SetOf, CloneEq, FromDer, ObjectIdentifier,
@@ -104,25 +105,14 @@ fn kind_of<A: Allocator>(identifier: &ObjectIdentifierAsn1<A>) -> AttributeKind
 impl<A: Allocator> ToDer for AttributeValues<A> {
     ghost strict = { value_bytes };
 
-    fn encoded_len(&self) -> Result<usize, TooLong> {
+    fn put<O: Output>(&self, out: &mut [u8], at: usize) -> Result<usize, TooLong> {
         match self {
-            AttributeValues::Extensions(lists) => lists.encoded_len(),
-            AttributeValues::ContentType(types) => types.encoded_len(),
-            AttributeValues::SpcStatementType(lists) => lists.encoded_len(),
-            AttributeValues::MessageDigest(digests) => digests.encoded_len(),
-            AttributeValues::SigningTime(times) => times.encoded_len(),
-            AttributeValues::Custom(element) => element.encoded_len(),
-        }
-    }
-
-    fn write_back(&self, out: &mut [u8]) -> usize {
-        match self {
-            AttributeValues::Extensions(lists) => lists.write_back(out),
-            AttributeValues::ContentType(types) => types.write_back(out),
-            AttributeValues::SpcStatementType(lists) => lists.write_back(out),
-            AttributeValues::MessageDigest(digests) => digests.write_back(out),
-            AttributeValues::SigningTime(times) => times.write_back(out),
-            AttributeValues::Custom(element) => element.write_back(out),
+            AttributeValues::Extensions(lists) => lists.put::<O>(out, at),
+            AttributeValues::ContentType(types) => types.put::<O>(out, at),
+            AttributeValues::SpcStatementType(lists) => lists.put::<O>(out, at),
+            AttributeValues::MessageDigest(digests) => digests.put::<O>(out, at),
+            AttributeValues::SigningTime(times) => times.put::<O>(out, at),
+            AttributeValues::Custom(element) => element.put::<O>(out, at),
         }
     }
 }
@@ -337,23 +327,26 @@ impl<A: Allocator + Copy> Attribute<A> {
 }
 
 /// The fields in the SEQUENCE, owned.
-type Fields<A> = Tagged<Sequence, DefinedBy<ObjectIdentifierAsn1<A>, AttributeValues<A>>>;
+type Fields<A> = Tagged<Sequence, One<DefinedBy<ObjectIdentifierAsn1<A>, AttributeValues<A>>>>;
 
 /// The fields that are written, borrowed.
 type Written<'a, A> = Tagged<
     Sequence,
-    DefinedBy<&'a ObjectIdentifierAsn1<A>, &'a AttributeValues<A>>,
+    One<DefinedBy<Ref<'a, ObjectIdentifierAsn1<A>>, Ref<'a, AttributeValues<A>>>>,
 >;
+
+/// The fields of an attribute, to be written.
+fn written<A: Allocator>(value: &Attribute<A>) -> Written<'_, A>
+    ensures { result ≡ attribute_parts value.now }
+{
+    Tagged::new(One(DefinedBy(Ref(&value.ty), Ref(&value.value))))
+}
 
 impl<A: Allocator> ToDer for Attribute<A> {
     ghost strict = { attribute_bytes };
 
-    fn encoded_len(&self) -> Result<usize, TooLong> {
-        Written::new(DefinedBy(&self.ty, &self.value)).encoded_len()
-    }
-
-    fn write_back(&self, out: &mut [u8]) -> usize {
-        Written::new(DefinedBy(&self.ty, &self.value)).write_back(out)
+    fn put<O: Output>(&self, out: &mut [u8], at: usize) -> Result<usize, TooLong> {
+        written(self).put::<O>(out, at)
     }
 }
 
@@ -361,7 +354,7 @@ impl<A: Allocator> Structure<Fields<A>> for Attribute<A> {
     ghost fields = { attribute_parts };
 
     fn from_fields(parts: Fields<A>) -> Self {
-        let DefinedBy(ty, value) = parts.into_inner();
+        let One(DefinedBy(ty, value)) = parts.into_inner();
         Attribute { ty, value }
     }
 

@@ -13,8 +13,9 @@ use crate::key_identifier::KeyIdentifier;
 use std::alloc::{Allocator, Global};
 use std::marker::Model;
 use x509_der::parts::{
-    Choice, ContentOf, ContextConstructed, ContextPrimitive, Field, Items, Join, Optional, Reader,
-    SEQUENCE_TAG, Sequence, Tagged, View, WholeDeviations, known_there, read_viewed,
+    Choice, Content, ContextConstructed, ContextPrimitive, Field, Items, Join, One, Optional,
+    Output, Reader, Ref, SEQUENCE_TAG, Sequence, Tagged, View, WholeDeviations, known_there,
+    read_viewed,
 };
 use x509_der::{
     CloneEq, Deviation, FromDer, IntegerAsn1, OctetStringAsn1, ReadError, SameEq, ToDer, TooLong,
@@ -108,15 +109,13 @@ impl<A: Allocator> AuthorityKeyIdentifier<A> {
     {
         match field {
             Choice::First(key) => {
-                let ContentOf(octets) = key.into_inner();
-                put(&mut self.key_identifier, octets);
+                put(&mut self.key_identifier, key.into_inner());
             }
             Choice::Second(Choice::First(issuer)) => {
-                put(&mut self.authority_cert_issuer, issuer.into_inner());
+                put(&mut self.authority_cert_issuer, issuer.into_value());
             }
             Choice::Second(Choice::Second(serial)) => {
-                let ContentOf(integer) = serial.into_inner();
-                put(&mut self.authority_cert_serial_number, integer);
+                put(&mut self.authority_cert_serial_number, serial.into_inner());
             }
         }
     }
@@ -145,10 +144,10 @@ impl<A: Allocator> SameEq for AuthorityKeyIdentifier<A> {
 
 /// One field, by its tag.
 type Part<A> = Choice<
-    Tagged<ContextPrimitive<0>, ContentOf<KeyIdentifier<A>>>,
+    Tagged<ContextPrimitive<0>, KeyIdentifier<A>>,
     Choice<
-        Tagged<ContextConstructed<1>, GeneralName<A>>,
-        Tagged<ContextPrimitive<2>, ContentOf<IntegerAsn1<A>>>,
+        Tagged<ContextConstructed<1>, One<GeneralName<A>>>,
+        Tagged<ContextPrimitive<2>, IntegerAsn1<A>>,
     >,
 >;
 
@@ -162,10 +161,10 @@ type Fields<A> = Tagged<Sequence, Inner<A>>;
 type Written<'a, A> = Tagged<
     Sequence,
     Join<
-        Optional<Tagged<ContextPrimitive<0>, ContentOf<&'a KeyIdentifier<A>>>>,
+        Optional<Tagged<ContextPrimitive<0>, Ref<'a, KeyIdentifier<A>>>>,
         Join<
-            Optional<Tagged<ContextConstructed<1>, &'a GeneralName<A>>>,
-            Optional<Tagged<ContextPrimitive<2>, ContentOf<&'a IntegerAsn1<A>>>>,
+            Optional<Tagged<ContextConstructed<1>, One<Ref<'a, GeneralName<A>>>>>,
+            One<Optional<Tagged<ContextPrimitive<2>, Ref<'a, IntegerAsn1<A>>>>>,
         >,
     >,
 >;
@@ -221,13 +220,13 @@ fn last_of_each<A: Allocator>(fields: Vec<Part<A>, A>) -> AuthorityKeyIdentifier
 
 /// The fields of an authority key identifier, to be written.
 fn written<A: Allocator>(value: &AuthorityKeyIdentifier<A>) -> Written<'_, A>
-    ensures { ⟦<Written<'static, A> as ToDer>⟧.strict result ≡ authority_bytes value.now }
+    ensures { result ≡ (value.now.key_identifier, (value.now.issuer, value.now.serial_number)) }
 {
     Tagged::new(Join(
         Optional::borrowed_content(&value.key_identifier),
         Join(
             Optional::borrowed_element(&value.authority_cert_issuer),
-            Optional::borrowed_content(&value.authority_cert_serial_number),
+            One(Optional::borrowed_content(&value.authority_cert_serial_number)),
         ),
     ))
 }
@@ -235,12 +234,8 @@ fn written<A: Allocator>(value: &AuthorityKeyIdentifier<A>) -> Written<'_, A>
 impl<A: Allocator> ToDer for AuthorityKeyIdentifier<A> {
     ghost strict = { λ v. authority_bytes v };
 
-    fn encoded_len(&self) -> Result<usize, TooLong> {
-        written(self).encoded_len()
-    }
-
-    fn write_back(&self, out: &mut [u8]) -> usize {
-        written(self).write_back(out)
+    fn put<O: Output>(&self, out: &mut [u8], at: usize) -> Result<usize, TooLong> {
+        written(self).put::<O>(out, at)
     }
 }
 
@@ -250,7 +245,7 @@ impl<A: Allocator + Copy> View<Fields<A>, A> for AuthorityKeyIdentifier<A> {
     ghost view = { authority_meaning };
 
     ghost keeps = { sequence_keeps authority_meaning (items part)
-        (⟦<Inner<A> as Field<A>>⟧.lawful (
+        (⟦<Inner<A> as Content<A>>⟧.content_lawful (
           (
             (tt, ((tt, tt), ((tt, tt), issuer_apart))),
             ((tt, (tt, tt)), parts_apart),

@@ -8,8 +8,8 @@ ghost use Rattle.picky_asn1_x509_parts.specs.facts.BasicConstraints.{constraints
 use std::alloc::Allocator;
 use std::marker::Model;
 use x509_der::parts::{
-    Field, Join, Optional, Reader, SEQUENCE_TAG, Sequence, Structure, Tagged, known_there,
-    read_fields,
+    Field, Join, One, Optional, Output, Reader, Ref, SEQUENCE_TAG, Sequence, Structure, Tagged,
+    known_there, read_fields,
 };
 use x509_der::{CloneEq, FromDer, ReadError, SameEq, ToDer, TooLong};
 
@@ -77,34 +77,29 @@ impl SameEq for BasicConstraints {
 }
 
 /// The fields as they stand in the SEQUENCE, owned or borrowed.
-type Nest<C, P> = Tagged<Sequence, Join<Optional<C>, Optional<P>>>;
+type Nest<C, P> = Tagged<Sequence, Join<Optional<C>, One<Optional<P>>>>;
 
 /// The fields, owned.
 type Fields = Nest<bool, u8>;
 
 /// The fields that are written, borrowed.
-type Written<'a> = Nest<&'a bool, &'a u8>;
+type Written<'a> = Nest<Ref<'a, bool>, Ref<'a, u8>>;
 
 /// The fields of constraints, to be written.
 fn written(value: &BasicConstraints) -> Written<'_>
-    ensures { ⟦<Written<'static> as ToDer>⟧.strict result ≡ constraints_base.strict
-        (constraints_parts value.now) }
+    ensures { result ≡ constraints_parts value.now }
 {
     Tagged::new(Join(
         Optional::borrowed(&value.ca),
-        Optional::borrowed(&value.path_len_constraint),
+        One(Optional::borrowed(&value.path_len_constraint)),
     ))
 }
 
 impl ToDer for BasicConstraints {
     ghost strict = { λ v. constraints_base.strict (constraints_parts v) };
 
-    fn encoded_len(&self) -> Result<usize, TooLong> {
-        written(self).encoded_len()
-    }
-
-    fn write_back(&self, out: &mut [u8]) -> usize {
-        written(self).write_back(out)
+    fn put<O: Output>(&self, out: &mut [u8], at: usize) -> Result<usize, TooLong> {
+        written(self).put::<O>(out, at)
     }
 }
 
@@ -112,7 +107,7 @@ impl Structure<Fields> for BasicConstraints {
     ghost fields = { constraints_parts };
 
     fn from_fields(parts: Fields) -> Self {
-        let Join(ca, pathlen) = parts.into_inner();
+        let Join(ca, One(pathlen)) = parts.into_inner();
         BasicConstraints {
             ca: ca.0,
             path_len_constraint: pathlen.0,

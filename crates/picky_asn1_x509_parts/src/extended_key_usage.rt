@@ -10,7 +10,7 @@ ghost use Rattle.picky_asn1_x509_parts.specs.ExtendedKeyUsage.{key_purpose, exte
 use std::alloc::{Allocator, Global};
 use std::marker::Model;
 use std::slice;
-use x509_der::parts::{Field, Reader, SEQUENCE_TAG};
+use x509_der::parts::{Field, Output, Reader, SEQUENCE_TAG};
 use x509_der::{
     Asn1SequenceOf, CloneEq, FromDer, ObjectIdentifier, ObjectIdentifierAsn1, ReadError, SameEq,
     ToDer, TooLong,
@@ -111,12 +111,8 @@ impl<A: Allocator> SameEq for ExtendedKeyUsage<A> {
 impl<A: Allocator> ToDer for ExtendedKeyUsage<A> {
     ghost strict = { λ v. element 48 (flat_map key_purpose.strict v) };
 
-    fn encoded_len(&self) -> Result<usize, TooLong> {
-        self.0.encoded_len()
-    }
-
-    fn write_back(&self, out: &mut [u8]) -> usize {
-        self.0.write_back(out)
+    fn put<O: Output>(&self, out: &mut [u8], at: usize) -> Result<usize, TooLong> {
+        self.0.put::<O>(out, at)
     }
 }
 

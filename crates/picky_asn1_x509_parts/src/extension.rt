@@ -1,23 +1,23 @@
 //! Extensions of certificates and requests.
 
-ghost use Rattle.std.specs.Prelude.{◌≡◌, ◌↔◌, true, false, refl, Contains, Err, IfOk, IsOkAnd, IsTrue, MatchResult};
+ghost use Rattle.std.specs.Prelude.{◌≡◌, ◌↔◌, true, false, Contains, Err, IfOk, IsOkAnd, IsTrue, MatchResult};
 ghost use Rattle.x509_der.specs.View.{if_found};
 ghost use Rattle.x509_der.specs.laws.Meaning.{sequence_keeps, seen_lawful, seen_element};
 ghost use Rattle.picky_asn1_x509_parts.specs.declared.extension_value.ExtensionValue.TheVariants as value;
-ghost use Rattle.picky_asn1_x509_parts.specs.Extensions.{authority_key_arcs, subject_key_arcs, key_usage_arcs, subject_name_arcs, issuer_name_arcs, constraints_arcs, extended_usage_arcs, crl_number_arcs, any_usage_arcs, kind_of as kind_by, kind_in, critical_of, critical_kinds, inner, fields_bytes, extension_base, extension_meaning, extension_bytes, extension, made, viewed, with_critical};
+ghost use Rattle.picky_asn1_x509_parts.specs.Extensions.{authority_key_arcs, subject_key_arcs, key_usage_arcs, subject_name_arcs, issuer_name_arcs, constraints_arcs, extended_usage_arcs, crl_number_arcs, any_usage_arcs, kind_of as kind_by, kind_in, critical_of, critical_kinds, inner, fields_bytes, extension_back, extension_base, extension_meaning, extension_bytes, extension, made, viewed, with_critical};
 
 use crate::authority_key_identifier::AuthorityKeyIdentifier;
 use crate::basic_constraints::BasicConstraints;
 use crate::extended_key_usage::ExtendedKeyUsage;
-use crate::extension_value::{ExtensionValue, Key, known_value};
+use crate::extension_value::{ExtensionValue, Key, KeyNest, known_value};
 pub use crate::extension_view::ExtensionView;
 use crate::key_identifier::KeyIdentifier;
 use crate::key_usage::KeyUsage;
 use std::alloc::{AllocError, Allocator, Global};
 use std::marker::Model;
 use x509_der::parts::{
-    DefinedBy, Field, Join, Optional, Reader, SEQUENCE_TAG, Sequence, Tagged, View,
-    WholeDeviations, clone_both, read_viewed,
+    Content, DefinedBy, Field, Join, One, Optional, Output, Reader, Ref, SEQUENCE_TAG, Sequence,
+    Tagged, ToContent, View, WholeDeviations, clone_both, read_viewed,
 };
 use x509_der::{
     CloneEq, Deviation, FromDer, IntegerAsn1, ObjectIdentifier, ObjectIdentifierAsn1,
@@ -45,40 +45,28 @@ impl<A: Allocator> Model for MatchingFields<A> {
     ghost inverse = { λ f. record { 0 = f } };
 }
 
-impl<A: Allocator> ToDer for MatchingFields<A> {
-    ghost strict = { fields_bytes };
+impl<A: Allocator> ToContent for MatchingFields<A> {
+    ghost content = { fields_bytes };
 
-    fn encoded_len(&self) -> Result<usize, TooLong> {
-        self.0.encoded_len()
-    }
-
-    fn write_back(&self, out: &mut [u8]) -> usize {
-        self.0.write_back(out)
+    fn put_content<O: Output>(&self, out: &mut [u8], at: usize) -> Result<usize, TooLong> {
+        self.0.put::<O>(out, at)
     }
 }
 
-impl<A: Allocator + Copy> Field<A> for MatchingFields<A> {
+impl<A: Allocator + Copy> Content<A> for MatchingFields<A> {
     ghost use Rattle.picky_asn1_x509_parts.specs.facts.ExtensionFacts.{key_apart, inner_agrees};
 
-    ghost shape = { inner };
+    ghost content_shape = { inner };
 
-    ghost lawful = { λ h. ⟦<Inner<A> as Field<A>>⟧.lawful ((tt, (tt, tt), λ c h. refl), key_apart) };
+    ghost content_lawful = { λ h. ⟦<Inner<A> as Field<A>>⟧.lawful (tt, key_apart) };
 
-    ghost alone = { ⊥ };
+    ghost content_agrees = { inner_agrees };
 
-    ghost elements = { λ h. absurd h };
-
-    ghost agrees = { inner_agrees };
-
-    fn starts(byte: u8) -> bool {
-        <Inner<A> as Field<A>>::starts(byte)
-    }
-
-    fn known(&self) {
+    fn known_content(&self) {
         self.0.known();
     }
 
-    fn read(alloc: A, reader: &mut Reader<'_, A>) -> Result<Self, ReadError> {
+    fn read_content(alloc: A, reader: &mut Reader<'_, A>) -> Result<Self, ReadError> {
         let fields = Inner::<A>::read(alloc, reader)?;
         Ok(MatchingFields(fields))
     }
@@ -390,19 +378,25 @@ type Fields<A> = Tagged<Sequence, MatchingFields<A>>;
 /// The fields that are written, borrowed.
 type Written<'a, A> = Tagged<
     Sequence,
-    DefinedBy<Join<&'a ObjectIdentifierAsn1<A>, Optional<&'a bool>>, &'a ExtensionValue<A>>,
+    One<
+        DefinedBy<
+            KeyNest<Ref<'a, ObjectIdentifierAsn1<A>>, Ref<'a, bool>>,
+            Ref<'a, ExtensionValue<A>>,
+        >,
+    >,
 >;
 
 /// The fields of an extension, to be written.
 fn written<A: Allocator>(value: &Extension<A>) -> Written<'_, A>
-    ensures { ⟦<Written<'static, A> as ToDer>⟧.strict result ≡ extension_bytes value.now }
+    ensures { result ≡ extension_back value.now }
 {
     let critical = if value.critical {
-        Optional(Some(&value.critical))
+        Optional(Some(Ref(&value.critical)))
     } else {
         Optional(None)
     };
-    Tagged::new(DefinedBy(Join(&value.extn_id, critical), &value.extn_value))
+    let key = KeyNest(Join(Ref(&value.extn_id), One(critical)));
+    Tagged::new(One(DefinedBy(key, Ref(&value.extn_value))))
 }
 
 /// Whether an extension is critical: not, where it isn't encoded.
@@ -425,12 +419,8 @@ fn spelled_false(spelled: Option<bool>) -> Option<Deviation>
 impl<A: Allocator> ToDer for Extension<A> {
     ghost strict = { extension_bytes };
 
-    fn encoded_len(&self) -> Result<usize, TooLong> {
-        written(self).encoded_len()
-    }
-
-    fn write_back(&self, out: &mut [u8]) -> usize {
-        written(self).write_back(out)
+    fn put<O: Output>(&self, out: &mut [u8], at: usize) -> Result<usize, TooLong> {
+        written(self).put::<O>(out, at)
     }
 }
 
@@ -442,11 +432,11 @@ impl<A: Allocator + Copy> View<Fields<A>, A> for Extension<A> {
     ghost view = { extension_meaning };
 
     ghost keeps = { sequence_keeps extension_meaning inner
-        (⟦<MatchingFields<A> as Field<A>>⟧.lawful tt) extension_is extension_one };
+        (⟦<MatchingFields<A> as Content<A>>⟧.content_lawful tt) extension_is extension_one };
 
     fn meaning(_alloc: A, parts: Fields<A>) -> Result<(Self, WholeDeviations), ReadError> {
-        let MatchingFields(DefinedBy(Join(extn_id, Optional(spelled)), extn_value)) =
-            parts.into_inner();
+        let MatchingFields(DefinedBy(KeyNest(key), extn_value)) = parts.into_inner();
+        let Join(extn_id, One(Optional(spelled))) = key;
         let found = WholeDeviations::of(spelled_false(spelled));
         let critical = critical_in(spelled);
         Ok((

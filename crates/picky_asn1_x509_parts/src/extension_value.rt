@@ -1,7 +1,8 @@
 //! Values of extensions, by the kind that the object identifier says.
 
-ghost use Rattle.std.specs.Prelude.{◌≡◌, true, false, refl};
+ghost use Rattle.std.specs.Prelude.{◌≡◌, ◌++◌, Option, true, false, refl};
 ghost use Rattle.std.proofs.Common.{eqb};
+ghost use Rattle.x509_der.specs.Optional.{optional_strict};
 ghost use Rattle.x509_der.specs.Reading.{Ready, Reads};
 ghost use Rattle.picky_asn1_x509_parts.specs.Extensions.{kind_of as kind_by, value_bytes, IsValue, by_kind};
 
@@ -11,7 +12,11 @@ use crate::extended_key_usage::ExtendedKeyUsage;
 use crate::key_identifier::SubjectKeyIdentifier;
 use crate::key_usage::KeyUsage;
 use std::alloc::{Allocator, Global};
-use x509_der::parts::{AnyDefinedBy, Field, Join, OCTET_STRING_TAG, Optional, Reader};
+use std::marker::Model;
+use x509_der::parts::{
+    AnyDefinedBy, BOOLEAN_TAG, Content, Field, Join, OBJECT_IDENTIFIER_TAG, OCTET_STRING_TAG, One,
+    Optional, Output, Reader, ToContent,
+};
 use x509_der::{
     CloneEq, IntegerAsn1, ObjectIdentifierAsn1, OctetStringAsn1, OctetStringAsn1Container,
     ReadError, SameEq, ToDer, TooLong,
@@ -115,31 +120,17 @@ fn kind_of<A: Allocator>(identifier: &ObjectIdentifierAsn1<A>) -> ExtensionKind
 impl<A: Allocator> ToDer for ExtensionValue<A> {
     ghost strict = { value_bytes };
 
-    fn encoded_len(&self) -> Result<usize, TooLong> {
+    fn put<O: Output>(&self, out: &mut [u8], at: usize) -> Result<usize, TooLong> {
         match self {
-            ExtensionValue::AuthorityKeyIdentifier(key) => key.encoded_len(),
-            ExtensionValue::SubjectKeyIdentifier(key) => key.encoded_len(),
-            ExtensionValue::KeyUsage(usage) => usage.encoded_len(),
-            ExtensionValue::SubjectAltName(names) => names.encoded_len(),
-            ExtensionValue::IssuerAltName(names) => names.encoded_len(),
-            ExtensionValue::BasicConstraints(constraints) => constraints.encoded_len(),
-            ExtensionValue::ExtendedKeyUsage(usage) => usage.encoded_len(),
-            ExtensionValue::Generic(octets) => octets.encoded_len(),
-            ExtensionValue::CrlNumber(number) => number.encoded_len(),
-        }
-    }
-
-    fn write_back(&self, out: &mut [u8]) -> usize {
-        match self {
-            ExtensionValue::AuthorityKeyIdentifier(key) => key.write_back(out),
-            ExtensionValue::SubjectKeyIdentifier(key) => key.write_back(out),
-            ExtensionValue::KeyUsage(usage) => usage.write_back(out),
-            ExtensionValue::SubjectAltName(names) => names.write_back(out),
-            ExtensionValue::IssuerAltName(names) => names.write_back(out),
-            ExtensionValue::BasicConstraints(constraints) => constraints.write_back(out),
-            ExtensionValue::ExtendedKeyUsage(usage) => usage.write_back(out),
-            ExtensionValue::Generic(octets) => octets.write_back(out),
-            ExtensionValue::CrlNumber(number) => number.write_back(out),
+            ExtensionValue::AuthorityKeyIdentifier(key) => key.put::<O>(out, at),
+            ExtensionValue::SubjectKeyIdentifier(key) => key.put::<O>(out, at),
+            ExtensionValue::KeyUsage(usage) => usage.put::<O>(out, at),
+            ExtensionValue::SubjectAltName(names) => names.put::<O>(out, at),
+            ExtensionValue::IssuerAltName(names) => names.put::<O>(out, at),
+            ExtensionValue::BasicConstraints(constraints) => constraints.put::<O>(out, at),
+            ExtensionValue::ExtendedKeyUsage(usage) => usage.put::<O>(out, at),
+            ExtensionValue::Generic(octets) => octets.put::<O>(out, at),
+            ExtensionValue::CrlNumber(number) => number.put::<O>(out, at),
         }
     }
 }
@@ -198,8 +189,56 @@ fn read_as<A: Allocator + Copy>(
     }
 }
 
-/// What stands in front of a value: the object identifier, and whether the extension is critical where that is encoded.
-pub(crate) type Key<A> = Join<ObjectIdentifierAsn1<A>, Optional<bool>>;
+/// What stands in front of a value, owned or borrowed: the object identifier, and whether the extension is critical where
+/// that is encoded. Contracts see the two.
+#[derive(Drop)]
+pub(crate) struct KeyNest<I, C>(pub(crate) Join<I, One<Optional<C>>>);
+
+impl<I, C> Model for KeyNest<I, C> {
+    ghost Value = { I × Option C };
+
+    ghost view = { λ k. k.0 };
+}
+
+impl<I: ToDer, C: ToDer> ToDer for KeyNest<I, C> {
+    ghost strict = { λ k. I.strict k.0 ++ optional_strict C.strict k.1 };
+
+    fn put<O: Output>(&self, out: &mut [u8], at: usize) -> Result<usize, TooLong> {
+        self.0.put_content::<O>(out, at)
+    }
+}
+
+/// The same, owned.
+pub(crate) type Key<A> = KeyNest<ObjectIdentifierAsn1<A>, bool>;
+
+/// The fields of it.
+type KeyFields<A> = Join<ObjectIdentifierAsn1<A>, One<Optional<bool>>>;
+
+impl<A: Allocator + Copy> Field<A> for Key<A> {
+    ghost use Rattle.picky_asn1_x509_parts.specs.Extensions.{key};
+
+    ghost shape = { key };
+
+    ghost lawful = { λ h. ⟦<KeyFields<A> as Content<A>>⟧.content_lawful (tt, (tt, tt), λ c h. refl) };
+
+    ghost alone = { ⊥ };
+
+    ghost elements = { λ h. absurd h };
+
+    ghost agrees = { λ k. refl };
+
+    fn starts(byte: u8) -> bool {
+        byte == OBJECT_IDENTIFIER_TAG || byte == BOOLEAN_TAG
+    }
+
+    fn known(&self) {
+        self.0.known_content();
+    }
+
+    fn read(alloc: A, reader: &mut Reader<'_, A>) -> Result<Self, ReadError> {
+        Ok(KeyNest(Join::read_content(alloc, reader)?))
+    }
+}
 
 impl<A: Allocator + Copy> AnyDefinedBy<Key<A>, A> for ExtensionValue<A> {
     ghost use Rattle.picky_asn1_x509_parts.specs.facts.ExtensionFacts.{HoldLaws, value_family, value_agrees};
@@ -230,6 +269,6 @@ impl<A: Allocator + Copy> AnyDefinedBy<Key<A>, A> for ExtensionValue<A> {
     }
 
     fn read_behind(alloc: A, key: &Key<A>, reader: &mut Reader<'_, A>) -> Result<Self, ReadError> {
-        read_as(alloc, kind_of(&key.0), reader)
+        read_as(alloc, kind_of(&key.0.0), reader)
     }
 }

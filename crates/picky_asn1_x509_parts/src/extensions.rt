@@ -7,7 +7,7 @@ ghost use Rattle.picky_asn1_x509_parts.specs.FirstExtensions.{has_identifier, fi
 use crate::extension::Extension;
 use std::alloc::{Allocator, Global};
 use std::marker::Model;
-use x509_der::parts::{Field, Reader, SEQUENCE_TAG};
+use x509_der::parts::{Field, Output, Reader, SEQUENCE_TAG};
 use x509_der::{Asn1SequenceOf, CloneEq, FromDer, ReadError, SameEq, ToDer, TooLong};
 
 /// Extensions, in a list whose order is kept. It may be empty, and an extension may repeat. Contracts see the list.
@@ -86,12 +86,8 @@ impl<A: Allocator + Copy> CloneEq for Extensions<A> {
 impl<A: Allocator> ToDer for Extensions<A> {
     ghost strict = { extensions_bytes };
 
-    fn encoded_len(&self) -> Result<usize, TooLong> {
-        self.0.encoded_len()
-    }
-
-    fn write_back(&self, out: &mut [u8]) -> usize {
-        self.0.write_back(out)
+    fn put<O: Output>(&self, out: &mut [u8], at: usize) -> Result<usize, TooLong> {
+        self.0.put::<O>(out, at)
     }
 }
 

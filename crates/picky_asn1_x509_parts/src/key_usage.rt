@@ -7,7 +7,7 @@ ghost use Rattle.picky_asn1_x509_parts.specs.KeyUsages.{key_usage, put, SetsBit}
 
 use std::alloc::{AllocError, Allocator, Global};
 use std::marker::Model;
-use x509_der::parts::{BIT_STRING_TAG, Field, Reader};
+use x509_der::parts::{BIT_STRING_TAG, Field, Output, Reader};
 use x509_der::{BitString, BitStringAsn1, CloneEq, FromDer, ReadError, SameEq, ToDer, TooLong};
 
 /// What a key may be used for: a list of bits, of which the first nine have names. Contracts see the list. Bits past
@@ -273,12 +273,8 @@ impl<A: Allocator> SameEq for KeyUsage<A> {
 impl<A: Allocator> ToDer for KeyUsage<A> {
     ghost strict = { λ v. element 3 (bit_content v) };
 
-    fn encoded_len(&self) -> Result<usize, TooLong> {
-        self.0.encoded_len()
-    }
-
-    fn write_back(&self, out: &mut [u8]) -> usize {
-        self.0.write_back(out)
+    fn put<O: Output>(&self, out: &mut [u8], at: usize) -> Result<usize, TooLong> {
+        self.0.put::<O>(out, at)
     }
 }
 

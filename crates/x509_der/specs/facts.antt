@@ -12,6 +12,8 @@ pub use Rattle.x509_der_parts.specs.facts.MarkOrder
 pub use Rattle.x509_der_parts.specs.facts.SameEq
 pub use Rattle.x509_der_parts.specs.facts.Tally
 pub use Rattle.x509_der_parts.specs.facts.Writing
+pub use Rattle.x509_der_parts.specs.facts.Output
+pub mod Numbers
 pub mod Alternatives
 pub mod ArcLists
 pub mod Lasts

@@ -1,6 +1,5 @@
 -- That shapes keep their laws.
 pub use Rattle.x509_der_parts.specs.laws.StrictSpelling
-pub use Rattle.x509_der_parts.specs.laws.ContentOf
 pub use Rattle.x509_der_parts.specs.laws.Tagged
 pub use Rattle.x509_der_parts.specs.laws.Choice
 pub use Rattle.x509_der_parts.specs.laws.PrimitiveContent

@@ -1,16 +1,13 @@
 //! Bit strings that are lent, to be written without a copy.
 
-ghost use Rattle.std.specs.Prelude.{◌≡◌};
-ghost use Rattle.x509_der_parts.specs.Element.{element};
+ghost use Rattle.std.specs.Prelude.{◌≡◌, refl};
 ghost use Rattle.x509_der.specs.BitString.{bit_content};
 
 use crate::bit_string::BitString;
-use crate::bits::write_bits;
 use std::alloc::Allocator;
 use std::marker::Model;
 use x509_der_parts::errors::TooLong;
-use x509_der_parts::parts::{BIT_STRING_TAG, ContentOf, ToContent, element_len, write_element};
-use x509_der_parts::traits::ToDer;
+use x509_der_parts::parts::{Output, OwnTag, ToContent, Universal};
 
 /// A BIT STRING, lent. Contracts see its content: how many bits of the last byte are unused, and the bytes.
 #[derive(Drop)]
@@ -42,23 +39,12 @@ impl<'a> BorrowedBits<'a> {
 impl<'a> ToContent for BorrowedBits<'a> {
     ghost content = { λ b. b };
 
-    fn content_len(&self) -> Result<usize, TooLong> {
-        self.bytes.len().checked_add(1).ok_or(TooLong)
-    }
-
-    fn write_content(&self, out: &mut [u8]) -> usize {
-        write_bits(self.unused, self.bytes, out)
+    fn put_content<O: Output>(&self, out: &mut [u8], at: usize) -> Result<usize, TooLong> {
+        let at = O::bytes(self.bytes, out, at)?;
+        O::bytes(&[self.unused], out, at)
     }
 }
 
-impl<'a> ToDer for BorrowedBits<'a> {
-    ghost strict = { λ b. element 3 b };
-
-    fn encoded_len(&self) -> Result<usize, TooLong> {
-        element_len(BIT_STRING_TAG, &ContentOf(self))
-    }
-
-    fn write_back(&self, out: &mut [u8]) -> usize {
-        write_element(BIT_STRING_TAG, &ContentOf(self), out)
-    }
+impl<'a> OwnTag for BorrowedBits<'a> {
+    type Tag = Universal<3>;
 }

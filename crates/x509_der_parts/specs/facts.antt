@@ -13,3 +13,4 @@ pub mod SameEq
 pub mod Tags
 pub mod Tally
 pub mod Writing
+pub mod Output

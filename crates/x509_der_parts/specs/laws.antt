@@ -1,6 +1,5 @@
 -- That shapes keep their laws.
 pub mod StrictSpelling
-pub mod ContentOf
 pub mod Tagged
 pub mod Choice
 pub mod PrimitiveContent

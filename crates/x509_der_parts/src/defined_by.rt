@@ -7,9 +7,9 @@ ghost use Rattle.x509_der_parts.specs.laws.DefinedBy.{defined_by_lawful};
 ghost use Rattle.x509_der_parts.specs.Reading.{MayGoBack};
 
 use crate::errors::{ReadError, TooLong};
+use crate::output::Output;
 use crate::reader::{Reader, Spot};
 use crate::traits::{AnyDefinedBy, Field, ToDer};
-use crate::write::write_before;
 use std::alloc::Allocator;
 use std::marker::Model;
 
@@ -40,15 +40,9 @@ impl<K, V> Model for DefinedBy<K, V> {
 impl<K: ToDer, V: ToDer> ToDer for DefinedBy<K, V> {
     ghost strict = { λ c. K.strict c.0 ++ V.strict c.1 };
 
-    fn encoded_len(&self) -> Result<usize, TooLong> {
-        let key = self.0.encoded_len()?;
-        let value = self.1.encoded_len()?;
-        key.checked_add(value).ok_or(TooLong)
-    }
-
-    fn write_back(&self, out: &mut [u8]) -> usize {
-        let value = self.1.write_back(out);
-        write_before(&self.0, out, value)
+    fn put<O: Output>(&self, out: &mut [u8], at: usize) -> Result<usize, TooLong> {
+        let at = self.1.put::<O>(out, at)?;
+        self.0.put::<O>(out, at)
     }
 }
 

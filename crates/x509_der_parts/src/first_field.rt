@@ -13,7 +13,7 @@ use crate::join::Join;
 use crate::reader::{Reader, whole_reader};
 use crate::structure::Structure;
 use crate::tags::SEQUENCE_TAG;
-use crate::traits::Field;
+use crate::traits::{Content, Field};
 use std::alloc::Allocator;
 
 /// A value that was read from a SEQUENCE, with the bytes of its first field.
@@ -35,20 +35,20 @@ pub struct FirstField<'a, T> {
 ///
 /// # Errors
 /// As the fields.
-fn read_both<F: Field<A> + Drop, G: Field<A>, A: Allocator + Copy>(
+fn read_both<F: Field<A> + Drop, G: Content<A>, A: Allocator + Copy>(
     alloc: A,
     reader: &mut Reader<'_, A>,
 ) -> Result<(Join<F, G>, usize, Deviations), ReadError>
     requires ready { Ready reader.old }
     requires first { F.fits }
-    requires second { G.fits }
-    requires apart { Apart F.shape G.shape }
-    ensures { TakesBoth F.shape G.shape reader.old reader.new result }
+    requires second { G.content_fits }
+    requires apart { Apart F.shape G.content_shape }
+    ensures { TakesBoth F.shape G.content_shape reader.old reader.new result }
 {
     let first = F::read(alloc, reader)?;
     let end = reader.spot().start;
     let inside = reader.deviations();
-    let second = G::read(alloc, reader)?;
+    let second = G::read_content(alloc, reader)?;
     Ok((Join(first, second), end, inside))
 }
 
@@ -63,17 +63,17 @@ pub fn read_first_field<
     'a,
     T: Structure<Join<F, G>> + Drop,
     F: Field<A> + Drop,
-    G: Field<A>,
+    G: Content<A>,
     A: Allocator + Copy,
 >(alloc: A, bytes: &'a [u8]) -> Result<FirstField<'a, T>, ReadError>
     requires first { F.fits }
-    requires second { G.fits }
-    requires apart { Apart F.shape G.shape }
-    ensures ok { IfOk result (λ r. FirstPart T.fields F.shape G.shape bytes.now r.value r.slice.now r.inside
+    requires second { G.content_fits }
+    requires apart { Apart F.shape G.content_shape }
+    ensures ok { IfOk result (λ r. FirstPart T.fields F.shape G.content_shape bytes.now r.value r.slice.now r.inside
         r.outside) }
     ensures start { IfOk result (λ r. StartsContent bytes.now r.start) }
-    ensures err { IfErr result (NoWhole (in_sequence T.fields F.shape G.shape) bytes.now) }
-    ensures frugal { F.shape.frugal → G.shape.frugal → IfErr result (λ e. e ≡ OutOfMemory → ⊥) }
+    ensures err { IfErr result (NoWhole (in_sequence T.fields F.shape G.content_shape) bytes.now) }
+    ensures frugal { F.shape.frugal → G.content_shape.frugal → IfErr result (λ e. e ≡ OutOfMemory → ⊥) }
 {
     let mut reader = whole_reader::<A>(bytes);
     let behind = reader.enter(SEQUENCE_TAG)?;

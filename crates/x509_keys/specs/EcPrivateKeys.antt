@@ -14,12 +14,19 @@ use Rattle.x509_keys_parts.specs.EcParameters.{ec_parameters}
 use Rattle.x509_keys.specs.RsaPublicKeys.{number}
 use Rattle.x509_keys.specs.ReadIf.{read_if}
 
+-- the fields that may be absent
+abbrev pub OptionalFields : Type 0 → Type 0
+OptionalFields A = Option (EcParameters A) × Option (List Bool)
+
+abbrev pub optional_parts : {A : Type 0} → ECPrivateKey A → OptionalFields A
+optional_parts v = (v.parameters, v.public_key)
+
 -- the fields as they stand in the SEQUENCE
 abbrev pub EcFields : Type 0 → Type 0
-EcFields A = List ℕ × (List ℕ × (Option (EcParameters A) × Option (List Bool)))
+EcFields A = List ℕ × (List ℕ × OptionalFields A)
 
 abbrev pub ec_key_parts : {A : Type 0} → ECPrivateKey A → EcFields A
-ec_key_parts v = (v.version, (v.private_key, (v.parameters, v.public_key)))
+ec_key_parts v = (v.version, (v.private_key, optional_parts v))
 
 abbrev pub ec_key_of : {A : Type 0} → EcFields A → ECPrivateKey A
 ec_key_of f = record { version = f.0; private_key = f.1.0; parameters = f.1.1.0; public_key = f.1.1.1 }
@@ -35,8 +42,11 @@ ec_curve = tagged 160 ec_parameters
 abbrev pub ec_point : Shape (List Bool)
 ec_point = tagged 161 (tagged 3 bit_strings)
 
+abbrev pub ec_key_optional : {A : Type 0} → Shape (OptionalFields A)
+ec_key_optional = join (λ j. j.0) (λ j. j.1) (optional ec_curve) (optional ec_point)
+
 abbrev pub ec_key_inner : {A : Type 0} → Shape (EcFields A)
-ec_key_inner = join (λ j. j.0) (λ j. j.1) number (join (λ j. j.0) (λ j. j.1) (tagged 4 octets) (join (λ j. j.0) (λ j. j.1) (optional ec_curve) (optional ec_point)))
+ec_key_inner = join (λ j. j.0) (λ j. j.1) number (join (λ j. j.0) (λ j. j.1) (tagged 4 octets) ec_key_optional)
 
 -- ECPrivateKey ::= SEQUENCE { version INTEGER, privateKey OCTET STRING, parameters [0] ECParameters OPTIONAL, publicKey [1] BIT STRING OPTIONAL } (RFC 5915, 3)
 abbrev pub ec_key_base : {A : Type 0} → Shape (EcFields A)

@@ -4,14 +4,15 @@ ghost use Rattle.std.specs.Prelude.{◌≡◌, Err, IfErr, refl};
 ghost use Rattle.x509_der.specs.Types.read_error.{BadVersion, OutOfMemory};
 ghost use Rattle.x509_der.specs.View.{meant};
 ghost use Rattle.x509_der.specs.laws.Meaning.{sequence_keeps, seen_lawful, seen_element};
-ghost use Rattle.x509_keys.specs.EcPrivateKeys.{ec_key_parts, ec_key_inner, ec_key_base, is_one, ec_key_meaning, ec_private_key};
+ghost use Rattle.x509_keys.specs.EcPrivateKeys.{OptionalFields, optional_parts, ec_key_optional, ec_key_parts, ec_key_inner, ec_key_base, is_one, ec_key_meaning, ec_private_key};
 ghost use Rattle.x509_keys.specs.facts.EcPrivateKeys.{ec_key_is, ec_key_one, point_apart};
 
 use crate::public_key::EncapsulatedEcPoint;
 use std::alloc::{Allocator, Global};
+use std::marker::Model;
 use x509_der::parts::{
-    ContextConstructed, Field, Join, Optional, Reader, SEQUENCE_TAG, Sequence, Tagged, View,
-    WholeDeviations, known_there, read_viewed,
+    Content, ContextConstructed, Field, Join, One, Optional, Output, Reader, Ref, SEQUENCE_TAG,
+    Sequence, Tagged, ToContent, View, WholeDeviations, known_there, put_element, read_viewed,
 };
 use x509_der::{CloneEq, FromDer, IntegerAsn1, OctetStringAsn1, ReadError, SameEq, ToDer, TooLong};
 use x509_keys_parts::EcParameters;
@@ -51,33 +52,53 @@ impl<A: Allocator> SameEq for ECPrivateKey<A> {
     }
 }
 
-/// The fields in the SEQUENCE, owned or borrowed.
-type Nest<I, O, E, B> = Join<
-    I,
-    Join<
-        O,
-        Join<
-            Optional<Tagged<ContextConstructed<0>, E>>,
-            Optional<Tagged<ContextConstructed<1>, B>>,
-        >,
-    >,
+/// The fields that may be absent, owned or borrowed.
+type OptionalNest<E, B> = Join<
+    Optional<Tagged<ContextConstructed<0>, One<E>>>,
+    One<Optional<Tagged<ContextConstructed<1>, One<B>>>>,
 >;
 
 /// The fields in the SEQUENCE, owned.
-type Inner<A> = Nest<IntegerAsn1<A>, OctetStringAsn1<A>, EcParameters<A>, EncapsulatedEcPoint<A>>;
+type Inner<A> = Join<
+    IntegerAsn1<A>,
+    Join<OctetStringAsn1<A>, OptionalNest<EcParameters<A>, EncapsulatedEcPoint<A>>>,
+>;
 
 /// The fields, owned.
 type Fields<A> = Tagged<Sequence, Inner<A>>;
 
+/// The fields of a key that may be absent, to be written: apart, since a proof about a nest of all is too deep.
+#[derive(Drop)]
+struct OptionalOf<'a, A: Allocator>(&'a ECPrivateKey<A>);
+
+impl<'a, A: Allocator> Model for OptionalOf<'a, A> {
+    ghost Value = { OptionalFields A };
+
+    ghost view = { λ o. optional_parts o.0.now };
+}
+
+/// The fields that may be absent.
+fn optional<A: Allocator>(
+    key: &ECPrivateKey<A>,
+) -> OptionalNest<Ref<'_, EcParameters<A>>, Ref<'_, EncapsulatedEcPoint<A>>>
+    ensures { result ≡ optional_parts key.now }
+{
+    let point = One(Optional::borrowed_element(&key.public_key));
+    Join(Optional::borrowed_element(&key.parameters), point)
+}
+
+impl<'a, A: Allocator> ToContent for OptionalOf<'a, A> {
+    ghost content = { ec_key_optional.strict };
+
+    fn put_content<O: Output>(&self, out: &mut [u8], at: usize) -> Result<usize, TooLong> {
+        optional(self.0).put_content::<O>(out, at)
+    }
+}
+
 /// The fields that are written, borrowed.
-type Written<'a, A> = Tagged<
-    Sequence,
-    Nest<
-        &'a IntegerAsn1<A>,
-        &'a OctetStringAsn1<A>,
-        &'a EcParameters<A>,
-        &'a EncapsulatedEcPoint<A>,
-    >,
+type Written<'a, A> = Join<
+    Ref<'a, IntegerAsn1<A>>,
+    Join<Ref<'a, OctetStringAsn1<A>>, OptionalOf<'a, A>>,
 >;
 
 /// Whether a version is 1.
@@ -92,24 +113,19 @@ fn is_version_1<A: Allocator>(version: &IntegerAsn1<A>) -> bool
 
 /// The fields of a key, to be written.
 fn written<A: Allocator>(key: &ECPrivateKey<A>) -> Written<'_, A>
-    ensures { ⟦<Written<'static, A> as ToDer>⟧.strict result ≡ ec_key_base.strict (ec_key_parts key.now) }
+    ensures { result ≡ ec_key_parts key.now }
 {
-    let optional = Join(
-        Optional::borrowed_element(&key.parameters),
-        Optional::borrowed_element(&key.public_key),
-    );
-    Tagged::new(Join(&key.version, Join(&key.private_key, optional)))
+    Join(
+        Ref(&key.version),
+        Join(Ref(&key.private_key), OptionalOf(key)),
+    )
 }
 
 impl<A: Allocator> ToDer for ECPrivateKey<A> {
     ghost strict = { λ v. ec_key_base.strict (ec_key_parts v) };
 
-    fn encoded_len(&self) -> Result<usize, TooLong> {
-        written(self).encoded_len()
-    }
-
-    fn write_back(&self, out: &mut [u8]) -> usize {
-        written(self).write_back(out)
+    fn put<O: Output>(&self, out: &mut [u8], at: usize) -> Result<usize, TooLong> {
+        put_element::<O, _>(SEQUENCE_TAG, &written(self), out, at)
     }
 }
 
@@ -119,7 +135,7 @@ impl<A: Allocator + Copy> View<Fields<A>, A> for ECPrivateKey<A> {
     ghost view = { ec_key_meaning };
 
     ghost keeps = { sequence_keeps ec_key_meaning ec_key_inner
-        (⟦<Inner<A> as Field<A>>⟧.lawful (
+        (⟦<Inner<A> as Content<A>>⟧.content_lawful (
           tt,
           (tt, ((tt, tt), (tt, tt), point_apart), λ c h. refl),
           λ c
@@ -132,12 +148,12 @@ impl<A: Allocator + Copy> View<Fields<A>, A> for ECPrivateKey<A> {
         ensures name { IfErr result (λ e. e ≡ BadVersion) }
     {
         let Join(version, Join(private_key, optional)) = parts.into_inner();
-        let Join(parameters, public_key) = optional;
+        let Join(parameters, One(public_key)) = optional;
         let key = ECPrivateKey {
             version,
             private_key,
-            parameters: parameters.into_field(),
-            public_key: public_key.into_field(),
+            parameters: parameters.into_value(),
+            public_key: public_key.into_value(),
         };
         if is_version_1(&key.version) {
             Ok((key, WholeDeviations::Nothing))

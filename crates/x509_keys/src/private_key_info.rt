@@ -19,8 +19,8 @@ use crate::rsa_private_key::RsaPrivateKey;
 use crate::skipping::{PassedOver, Skipping, read_skipping};
 use std::alloc::{AllocError, Allocator, Global};
 use x509_der::parts::{
-    AnyDefinedBy, BorrowedBits, ContextConstructed, DefinedBy, Field, Join, Optional, Reader,
-    SEQUENCE_TAG, Sequence, Tag, Tagged, View, WholeDeviations, clone_three,
+    AnyDefinedBy, BorrowedBits, Content, ContextConstructed, DefinedBy, Field, Join, One, Optional,
+    Output, Reader, Ref, SEQUENCE_TAG, Sequence, Tag, Tagged, View, WholeDeviations, clone_three,
 };
 use x509_der::{
     BitString, BitStringAsn1, CloneEq, Deviation, FromDer, IntegerAsn1, ObjectIdentifier,
@@ -290,7 +290,7 @@ impl Tags for SkippedTags {
 }
 
 /// The public key under its tag, where there is one.
-type WrittenPublicKey<'a> = Optional<Tagged<ContextConstructed<1>, BorrowedBits<'a>>>;
+type WrittenPublicKey<'a> = Optional<Tagged<ContextConstructed<1>, One<BorrowedBits<'a>>>>;
 
 /// The public key, to be written, where there is one.
 fn borrowed_public_key<A: Allocator>(public_key: &Option<BitString<A>>) -> WrittenPublicKey<'_>
@@ -298,35 +298,32 @@ fn borrowed_public_key<A: Allocator>(public_key: &Option<BitString<A>>) -> Writt
         public_key.now }
 {
     match public_key {
-        Some(bits) => Optional(Some(Tagged::new(BorrowedBits::of(bits)))),
+        Some(bits) => Optional(Some(Tagged::new(One(BorrowedBits::of(bits))))),
         None => Optional(None),
     }
 }
 
-/// The algorithm and the key, borrowed.
-type WrittenKey<'a, A> = DefinedBy<&'a AlgorithmIdentifier<A>, &'a PrivateKeyValue<A>>;
+/// The fields that are written: the algorithm and the key, owned or borrowed, and the public key.
+type Nest<'a, K, V> = Tagged<Sequence, Join<u8, Join<DefinedBy<K, V>, One<WrittenPublicKey<'a>>>>>;
 
 /// The fields that are written, borrowed.
-type Written<'a, A> = Tagged<Sequence, Join<&'a u8, Join<WrittenKey<'a, A>, WrittenPublicKey<'a>>>>;
+type Written<'a, A> = Nest<'a, Ref<'a, AlgorithmIdentifier<A>>, Ref<'a, PrivateKeyValue<A>>>;
 
 /// The fields of a private key, to be written.
 fn written<A: Allocator>(value: &PrivateKeyInfo<A>) -> Written<'_, A>
-    ensures { ⟦<Written<'static, A> as ToDer>⟧.strict result ≡ info_bytes value.now }
+    ensures { ⟦<Nest<'static, AlgorithmIdentifier<A>, PrivateKeyValue<A>> as ToDer>⟧.strict result
+        ≡ info_bytes value.now }
 {
-    let key = DefinedBy(&value.private_key_algorithm, &value.private_key);
-    let rest = Join(key, borrowed_public_key(&value.public_key));
-    Tagged::new(Join(&value.version, rest))
+    let key = DefinedBy(Ref(&value.private_key_algorithm), Ref(&value.private_key));
+    let rest = Join(key, One(borrowed_public_key(&value.public_key)));
+    Tagged::new(Join(value.version, rest))
 }
 
 impl<A: Allocator> ToDer for PrivateKeyInfo<A> {
     ghost strict = { info_bytes };
 
-    fn encoded_len(&self) -> Result<usize, TooLong> {
-        written(self).encoded_len()
-    }
-
-    fn write_back(&self, out: &mut [u8]) -> usize {
-        written(self).write_back(out)
+    fn put<O: Output>(&self, out: &mut [u8], at: usize) -> Result<usize, TooLong> {
+        written(self).put::<O>(out, at)
     }
 }
 
@@ -370,10 +367,13 @@ fn known_bits<A: Allocator>(bits: &Option<BitString<A>>)
 type Key<A> = DefinedBy<AlgorithmIdentifier<A>, PrivateKeyValue<A>>;
 
 /// The public key under its tag, where there is one.
-type PublicKeyField<A> = Optional<Tagged<ContextConstructed<1>, BitStringAsn1<A>>>;
+type PublicKeyField<A> = Optional<Tagged<ContextConstructed<1>, One<BitStringAsn1<A>>>>;
 
 /// The fields in the SEQUENCE. What is read keeps their laws, and lends the element that is skipped.
-type Inner<A> = Join<u8, Join<Key<A>, Join<Optional<RawIn<SkippedTags, A>>, PublicKeyField<A>>>>;
+type Inner<A> = Join<
+    u8,
+    Join<Key<A>, Join<Optional<RawIn<SkippedTags, A>>, One<PublicKeyField<A>>>>,
+>;
 
 /// The fields that are read.
 type Fields<'a, A> = Skipping<'a, u8, Key<A>, PublicKeyField<A>>;
@@ -384,7 +384,7 @@ impl<'a, A: Allocator + Copy> View<Fields<'a, A>, A> for PrivateKeyInfo<A> {
     ghost view = { info_meaning };
 
     ghost keeps = { sequence_keeps info_meaning info_inner
-        (⟦<Inner<A> as Field<A>>⟧.lawful (
+        (⟦<Inner<A> as Content<A>>⟧.content_lawful (
           tt,
           (
             (tt, λ c h. refl),
@@ -407,7 +407,7 @@ impl<'a, A: Allocator + Copy> View<Fields<'a, A>, A> for PrivateKeyInfo<A> {
             version,
             private_key_algorithm,
             private_key,
-            public_key: bits_in(public_key.into_field()),
+            public_key: bits_in(public_key.into_value()),
         };
         if is_version(version) {
             Ok((info, found))

@@ -10,7 +10,7 @@ use crate::ec_private_key::ECPrivateKey;
 use crate::key_kind::{KeyKind, key_kind};
 use crate::rsa_private_key::RsaPrivateKey;
 use std::alloc::{Allocator, Global};
-use x509_der::parts::{AnyDefinedBy, Field, OCTET_STRING_TAG, Reader};
+use x509_der::parts::{AnyDefinedBy, Field, OCTET_STRING_TAG, Output, Reader};
 use x509_der::{
     CloneEq, OctetStringAsn1, OctetStringAsn1Container, ReadError, SameEq, ToDer, TooLong,
 };
@@ -53,19 +53,11 @@ impl<A: Allocator> SameEq for PrivateKeyValue<A> {
 impl<A: Allocator> ToDer for PrivateKeyValue<A> {
     ghost strict = { private_key_bytes };
 
-    fn encoded_len(&self) -> Result<usize, TooLong> {
+    fn put<O: Output>(&self, out: &mut [u8], at: usize) -> Result<usize, TooLong> {
         match self {
-            PrivateKeyValue::Rsa(key) => key.encoded_len(),
-            PrivateKeyValue::EC(key) => key.encoded_len(),
-            PrivateKeyValue::ED(secret) => secret.encoded_len(),
-        }
-    }
-
-    fn write_back(&self, out: &mut [u8]) -> usize {
-        match self {
-            PrivateKeyValue::Rsa(key) => key.write_back(out),
-            PrivateKeyValue::EC(key) => key.write_back(out),
-            PrivateKeyValue::ED(secret) => secret.write_back(out),
+            PrivateKeyValue::Rsa(key) => key.put::<O>(out, at),
+            PrivateKeyValue::EC(key) => key.put::<O>(out, at),
+            PrivateKeyValue::ED(secret) => secret.put::<O>(out, at),
         }
     }
 }

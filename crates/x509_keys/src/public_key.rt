@@ -9,7 +9,7 @@ ghost use Rattle.x509_keys.specs.PublicKeys.{public_key_bytes, IsPublicKey, publ
 use crate::key_kind::{KeyKind, key_kind};
 use crate::rsa_public_key::{EncapsulatedRsaPublicKey, RsaPublicKey};
 use std::alloc::{Allocator, Global};
-use x509_der::parts::{AnyDefinedBy, BIT_STRING_TAG, Field, Reader};
+use x509_der::parts::{AnyDefinedBy, BIT_STRING_TAG, Field, Output, Reader};
 use x509_der::{BitStringAsn1, CloneEq, OctetStringAsn1, ReadError, SameEq, ToDer, TooLong};
 use x509_keys_parts::AlgorithmIdentifier;
 
@@ -57,20 +57,11 @@ impl<A: Allocator> SameEq for PublicKey<A> {
 impl<A: Allocator> ToDer for PublicKey<A> {
     ghost strict = { public_key_bytes };
 
-    fn encoded_len(&self) -> Result<usize, TooLong> {
+    fn put<O: Output>(&self, out: &mut [u8], at: usize) -> Result<usize, TooLong> {
         match self {
-            PublicKey::Rsa(key) => key.encoded_len(),
+            PublicKey::Rsa(key) => key.put::<O>(out, at),
             PublicKey::Ec(bits) | PublicKey::Ed(bits) | PublicKey::Mldsa(bits) => {
-                bits.encoded_len()
-            }
-        }
-    }
-
-    fn write_back(&self, out: &mut [u8]) -> usize {
-        match self {
-            PublicKey::Rsa(key) => key.write_back(out),
-            PublicKey::Ec(bits) | PublicKey::Ed(bits) | PublicKey::Mldsa(bits) => {
-                bits.write_back(out)
+                bits.put::<O>(out, at)
             }
         }
     }

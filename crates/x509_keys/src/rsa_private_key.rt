@@ -2,12 +2,14 @@
 
 ghost use Rattle.std.specs.Prelude.{◌≡◌, refl};
 ghost use Rattle.x509_der.specs.laws.Structure.{structure_lawful, structure_element};
-ghost use Rattle.x509_keys.specs.RsaPrivateKeys.{private_parts, private_base, rsa_private_key};
+ghost use Rattle.x509_keys.specs.RsaPrivateKeys.{LastFields, last_parts, last_inner, private_parts, private_base, rsa_private_key};
 ghost use Rattle.x509_keys.specs.facts.RsaPrivateKeys.{private_key_same};
 
 use std::alloc::{AllocError, Allocator, Global};
+use std::marker::Model;
 use x509_der::parts::{
-    Field, Join, Reader, SEQUENCE_TAG, Sequence, Structure, Tagged, clone_three, read_sequence,
+    Field, Join, One, Output, Reader, Ref, SEQUENCE_TAG, Sequence, Structure, Tagged, ToContent,
+    clone_three, put_element, read_sequence,
 };
 use x509_der::{CloneEq, FromDer, IntegerAsn1, ReadError, SameEq, ToDer, TooLong};
 
@@ -176,41 +178,61 @@ impl<A: Allocator> SameEq for RsaPrivateKey<A> {
     }
 }
 
-/// Four fields one behind another, and what stands behind them.
-type Four<I, R> = Join<I, Join<I, Join<I, Join<I, R>>>>;
+/// The last four fields as they stand in the SEQUENCE, owned or borrowed.
+type Last<I> = Join<I, Join<I, Join<I, One<I>>>>;
 
-/// The fields as they stand in the SEQUENCE, owned or borrowed.
-type Parts<I> = Four<I, Four<I, I>>;
-
-/// The SEQUENCE.
-type Nest<I> = Tagged<Sequence, Parts<I>>;
+/// The fields as they stand in the SEQUENCE, owned or borrowed, with what stands behind the first five.
+type Parts<I, R> = Join<I, Join<I, Join<I, Join<I, Join<I, R>>>>>;
 
 /// The fields, owned.
-type Inner<A> = Parts<IntegerAsn1<A>>;
+type Inner<A> = Parts<IntegerAsn1<A>, Last<IntegerAsn1<A>>>;
 
 /// The SEQUENCE of them.
-type Fields<A> = Nest<IntegerAsn1<A>>;
+type Fields<A> = Tagged<Sequence, Inner<A>>;
+
+/// The last four fields of a key, to be written: apart, since a proof about a nest of nine borrowed fields is too deep.
+#[derive(Drop)]
+struct LastOf<'a, A: Allocator>(&'a RsaPrivateKey<A>);
+
+impl<'a, A: Allocator> Model for LastOf<'a, A> {
+    ghost Value = { LastFields };
+
+    ghost view = { λ l. last_parts l.0.now };
+}
+
+/// The last four fields.
+fn last<A: Allocator>(key: &RsaPrivateKey<A>) -> Last<Ref<'_, IntegerAsn1<A>>>
+    ensures { result ≡ last_parts key.now }
+{
+    let exponents = Join(Ref(&key.exponent_2), One(Ref(&key.coefficient)));
+    Join(Ref(&key.prime_2), Join(Ref(&key.exponent_1), exponents))
+}
+
+impl<'a, A: Allocator> ToContent for LastOf<'a, A> {
+    ghost content = { last_inner.strict };
+
+    fn put_content<O: Output>(&self, out: &mut [u8], at: usize) -> Result<usize, TooLong> {
+        last(self.0).put_content::<O>(out, at)
+    }
+}
 
 /// The fields of a key, to be written.
-fn written<A: Allocator>(key: &RsaPrivateKey<A>) -> Nest<&IntegerAsn1<A>>
-    ensures { ⟦<Nest<&'static IntegerAsn1<A>> as ToDer>⟧.strict result ≡ private_base.strict
-        (private_parts key.now) }
+fn written<A: Allocator>(key: &RsaPrivateKey<A>) -> Parts<Ref<'_, IntegerAsn1<A>>, LastOf<'_, A>>
+    ensures { result ≡ private_parts key.now }
 {
-    let factors = Join(&key.exponent_1, Join(&key.exponent_2, &key.coefficient));
-    let rest = Join(&key.prime_1, Join(&key.prime_2, factors));
-    let exponents = Join(&key.public_exponent, Join(&key.private_exponent, rest));
-    Tagged::new(Join(&key.version, Join(&key.modulus, exponents)))
+    let primes = Join(
+        Ref(&key.private_exponent),
+        Join(Ref(&key.prime_1), LastOf(key)),
+    );
+    let numbers = Join(Ref(&key.modulus), Join(Ref(&key.public_exponent), primes));
+    Join(Ref(&key.version), numbers)
 }
 
 impl<A: Allocator> ToDer for RsaPrivateKey<A> {
     ghost strict = { λ v. private_base.strict (private_parts v) };
 
-    fn encoded_len(&self) -> Result<usize, TooLong> {
-        written(self).encoded_len()
-    }
-
-    fn write_back(&self, out: &mut [u8]) -> usize {
-        written(self).write_back(out)
+    fn put<O: Output>(&self, out: &mut [u8], at: usize) -> Result<usize, TooLong> {
+        put_element::<O, _>(SEQUENCE_TAG, &written(self), out, at)
     }
 }
 
@@ -219,8 +241,8 @@ impl<A: Allocator> Structure<Inner<A>> for RsaPrivateKey<A> {
 
     fn from_fields(parts: Inner<A>) -> Self {
         let Join(version, Join(modulus, Join(public_exponent, rest))) = parts;
-        let Join(private_exponent, Join(prime_1, Join(prime_2, factors))) = rest;
-        let Join(exponent_1, Join(exponent_2, coefficient)) = factors;
+        let Join(private_exponent, Join(prime_1, last)) = rest;
+        let Join(prime_2, Join(exponent_1, Join(exponent_2, One(coefficient)))) = last;
         RsaPrivateKey {
             version,
             modulus,

@@ -7,7 +7,7 @@ ghost use Rattle.x509_keys.specs.facts.RsaPublicKeys.{public_key_same};
 
 use std::alloc::{Allocator, Global};
 use x509_der::parts::{
-    Field, Join, Reader, SEQUENCE_TAG, Sequence, Structure, Tagged, read_sequence,
+    Field, Join, One, Output, Reader, Ref, SEQUENCE_TAG, Sequence, Structure, Tagged, read_sequence,
 };
 use x509_der::{
     BitStringAsn1Container, CloneEq, FromDer, IntegerAsn1, ReadError, SameEq, ToDer, TooLong,
@@ -43,23 +43,19 @@ impl<A: Allocator> SameEq for RsaPublicKey<A> {
 }
 
 /// The fields as they stand in the SEQUENCE, owned or borrowed.
-type Nest<I> = Tagged<Sequence, Join<I, I>>;
+type Nest<I> = Tagged<Sequence, Join<I, One<I>>>;
 
 /// The SEQUENCE, owned.
 type Fields<A> = Nest<IntegerAsn1<A>>;
 
 /// The fields, owned.
-type Inner<A> = Join<IntegerAsn1<A>, IntegerAsn1<A>>;
+type Inner<A> = Join<IntegerAsn1<A>, One<IntegerAsn1<A>>>;
 
 impl<A: Allocator> ToDer for RsaPublicKey<A> {
     ghost strict = { λ v. public_base.strict (public_parts v) };
 
-    fn encoded_len(&self) -> Result<usize, TooLong> {
-        Nest::new(Join(&self.modulus, &self.public_exponent)).encoded_len()
-    }
-
-    fn write_back(&self, out: &mut [u8]) -> usize {
-        Nest::new(Join(&self.modulus, &self.public_exponent)).write_back(out)
+    fn put<O: Output>(&self, out: &mut [u8], at: usize) -> Result<usize, TooLong> {
+        Nest::new(Join(Ref(&self.modulus), One(Ref(&self.public_exponent)))).put::<O>(out, at)
     }
 }
 
@@ -67,7 +63,7 @@ impl<A: Allocator> Structure<Inner<A>> for RsaPublicKey<A> {
     ghost fields = { public_parts };
 
     fn from_fields(parts: Inner<A>) -> Self {
-        let Join(modulus, public_exponent) = parts;
+        let Join(modulus, One(public_exponent)) = parts;
         RsaPublicKey {
             modulus,
             public_exponent,

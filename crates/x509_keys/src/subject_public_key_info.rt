@@ -9,8 +9,8 @@ use crate::public_key::PublicKey;
 use crate::rsa_public_key::RsaPublicKey;
 use std::alloc::{AllocError, Allocator, Global};
 use x509_der::parts::{
-    AnyDefinedBy, DefinedBy, Field, Reader, SEQUENCE_TAG, Sequence, Structure, Tagged,
-    read_sequence,
+    AnyDefinedBy, DefinedBy, Field, One, Output, Reader, Ref, SEQUENCE_TAG, Sequence, Structure,
+    Tagged, read_sequence,
 };
 use x509_der::{
     BitString, BitStringAsn1, BitStringAsn1Container, CloneEq, FromDer, IntegerAsn1,
@@ -115,23 +115,30 @@ impl<A: Allocator> SameEq for SubjectPublicKeyInfo<A> {
 }
 
 /// The fields as they stand in the SEQUENCE, owned or borrowed.
-type Nest<K, V> = Tagged<Sequence, DefinedBy<K, V>>;
+type Nest<K, V> = Tagged<Sequence, One<DefinedBy<K, V>>>;
 
 /// The SEQUENCE, owned.
 type Fields<A> = Nest<AlgorithmIdentifier<A>, PublicKey<A>>;
 
 /// The fields, owned.
-type Inner<A> = DefinedBy<AlgorithmIdentifier<A>, PublicKey<A>>;
+type Inner<A> = One<DefinedBy<AlgorithmIdentifier<A>, PublicKey<A>>>;
+
+/// The SEQUENCE, borrowed.
+type Written<'a, A> = Nest<Ref<'a, AlgorithmIdentifier<A>>, Ref<'a, PublicKey<A>>>;
+
+/// The fields, to be written.
+fn written<A: Allocator>(value: &SubjectPublicKeyInfo<A>) -> Written<'_, A>
+    ensures { result ≡ subject_parts value.now }
+{
+    let key = DefinedBy(Ref(&value.algorithm), Ref(&value.subject_public_key));
+    Tagged::new(One(key))
+}
 
 impl<A: Allocator> ToDer for SubjectPublicKeyInfo<A> {
     ghost strict = { subject_bytes };
 
-    fn encoded_len(&self) -> Result<usize, TooLong> {
-        Nest::new(DefinedBy(&self.algorithm, &self.subject_public_key)).encoded_len()
-    }
-
-    fn write_back(&self, out: &mut [u8]) -> usize {
-        Nest::new(DefinedBy(&self.algorithm, &self.subject_public_key)).write_back(out)
+    fn put<O: Output>(&self, out: &mut [u8], at: usize) -> Result<usize, TooLong> {
+        written(self).put::<O>(out, at)
     }
 }
 
@@ -139,7 +146,7 @@ impl<A: Allocator> Structure<Inner<A>> for SubjectPublicKeyInfo<A> {
     ghost fields = { subject_parts };
 
     fn from_fields(parts: Inner<A>) -> Self {
-        let DefinedBy(algorithm, subject_public_key) = parts;
+        let One(DefinedBy(algorithm, subject_public_key)) = parts;
         SubjectPublicKeyInfo {
             algorithm,
             subject_public_key,

@@ -7,7 +7,7 @@ ghost use Rattle.x509_keys_parts.specs.facts.AesParameters.{aes_same, octets_apa
 
 use crate::aes_auth_enc::AesAuthEncParams;
 use std::alloc::{Allocator, Global};
-use x509_der::parts::{Choice, Field, Reader, Structure, read_fields};
+use x509_der::parts::{Choice, Field, Output, Reader, Ref, Structure, read_fields};
 use x509_der::{CloneEq, FromDer, OctetStringAsn1, ReadError, SameEq, ToDer, TooLong};
 
 /// A mode of operation of AES, for which each key size has an algorithm of its own.
@@ -73,17 +73,17 @@ type Nest<N, O, P> = Choice<N, Choice<O, P>>;
 type Fields<A> = Nest<(), OctetStringAsn1<A>, AesAuthEncParams<A>>;
 
 /// The alternative that is written, borrowed.
-type Written<'a, A> = Nest<(), &'a OctetStringAsn1<A>, &'a AesAuthEncParams<A>>;
+type Written<'a, A> = Nest<(), Ref<'a, OctetStringAsn1<A>>, Ref<'a, AesAuthEncParams<A>>>;
 
 /// The alternative of parameters, to be written.
 fn written<A: Allocator>(value: &AesParameters<A>) -> Written<'_, A>
-    ensures { ⟦<Written<'static, A> as ToDer>⟧.strict result ≡ aes_base.strict (aes_parts value.now) }
+    ensures { result ≡ aes_parts value.now }
 {
     match value {
         AesParameters::Null => Choice::First(()),
-        AesParameters::InitializationVector(vector) => Choice::Second(Choice::First(vector)),
+        AesParameters::InitializationVector(vector) => Choice::Second(Choice::First(Ref(vector))),
         AesParameters::AuthenticatedEncryptionParameters(parameters) => {
-            Choice::Second(Choice::Second(parameters))
+            Choice::Second(Choice::Second(Ref(parameters)))
         }
     }
 }
@@ -91,12 +91,8 @@ fn written<A: Allocator>(value: &AesParameters<A>) -> Written<'_, A>
 impl<A: Allocator> ToDer for AesParameters<A> {
     ghost strict = { λ v. aes_base.strict (aes_parts v) };
 
-    fn encoded_len(&self) -> Result<usize, TooLong> {
-        written(self).encoded_len()
-    }
-
-    fn write_back(&self, out: &mut [u8]) -> usize {
-        written(self).write_back(out)
+    fn put<O: Output>(&self, out: &mut [u8], at: usize) -> Result<usize, TooLong> {
+        written(self).put::<O>(out, at)
     }
 }
 

@@ -9,7 +9,7 @@ ghost use Rattle.x509_keys_parts.specs.facts.AesAuthEncParams.{auth_enc_same};
 use std::alloc::{AllocError, Allocator, Global};
 use std::marker::Model;
 use x509_der::parts::{
-    Field, Join, Reader, SEQUENCE_TAG, Sequence, Structure, Tagged, read_fields,
+    Field, Join, One, Output, Reader, Ref, SEQUENCE_TAG, Sequence, Structure, Tagged, read_fields,
 };
 use x509_der::{CloneEq, FromDer, IntegerAsn1, OctetStringAsn1, ReadError, SameEq, ToDer, TooLong};
 
@@ -81,7 +81,7 @@ impl<A: Allocator> SameEq for AesAuthEncParams<A> {
 }
 
 /// The fields as they stand in the SEQUENCE, owned or borrowed.
-type Nest<N, I> = Tagged<Sequence, Join<N, I>>;
+type Nest<N, I> = Tagged<Sequence, Join<N, One<I>>>;
 
 /// The fields, owned.
 type Fields<A> = Nest<OctetStringAsn1<A>, IntegerAsn1<A>>;
@@ -89,12 +89,8 @@ type Fields<A> = Nest<OctetStringAsn1<A>, IntegerAsn1<A>>;
 impl<A: Allocator> ToDer for AesAuthEncParams<A> {
     ghost strict = { λ v. auth_enc_base.strict (auth_enc_parts v) };
 
-    fn encoded_len(&self) -> Result<usize, TooLong> {
-        Nest::new(Join(&self.nonce, &self.icv_len)).encoded_len()
-    }
-
-    fn write_back(&self, out: &mut [u8]) -> usize {
-        Nest::new(Join(&self.nonce, &self.icv_len)).write_back(out)
+    fn put<O: Output>(&self, out: &mut [u8], at: usize) -> Result<usize, TooLong> {
+        Nest::new(Join(Ref(&self.nonce), One(Ref(&self.icv_len)))).put::<O>(out, at)
     }
 }
 
@@ -102,7 +98,7 @@ impl<A: Allocator> Structure<Fields<A>> for AesAuthEncParams<A> {
     ghost fields = { auth_enc_parts };
 
     fn from_fields(parts: Fields<A>) -> Self {
-        let Join(nonce, icv_len) = parts.into_inner();
+        let Join(nonce, One(icv_len)) = parts.into_inner();
         AesAuthEncParams { nonce, icv_len }
     }
 

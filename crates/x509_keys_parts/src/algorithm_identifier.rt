@@ -13,8 +13,8 @@ use crate::rsassa_pss::{MaskGenAlgorithm, RsassaPssParams};
 use std::alloc::{Allocator, Global};
 use std::marker::Model;
 use x509_der::parts::{
-    AnyDefinedBy, DefinedBy, Field, Reader, SEQUENCE_TAG, Sequence, Tagged, View, WholeDeviations,
-    read_viewed,
+    AnyDefinedBy, Content, DefinedBy, Field, One, Output, Reader, Ref, SEQUENCE_TAG, Sequence,
+    Tagged, View, WholeDeviations, read_viewed,
 };
 use x509_der::{
     CloneEq, Deviation, FromDer, ObjectIdentifier, ObjectIdentifierAsn1, ReadError, SameEq, ToDer,
@@ -121,10 +121,10 @@ impl<A: Allocator> SameEq for AlgorithmIdentifier<A> {
 }
 
 /// The fields as they stand in the SEQUENCE, owned or borrowed.
-type Nest<K, V> = Tagged<Sequence, DefinedBy<K, V>>;
+type Nest<K, V> = Tagged<Sequence, One<DefinedBy<K, V>>>;
 
 /// The fields in the SEQUENCE, owned.
-type Inner<A> = DefinedBy<ObjectIdentifierAsn1<A>, AlgorithmIdentifierParameters<A>>;
+type Inner<A> = One<DefinedBy<ObjectIdentifierAsn1<A>, AlgorithmIdentifierParameters<A>>>;
 
 /// The fields, owned.
 type Fields<A> = Tagged<Sequence, Inner<A>>;
@@ -132,12 +132,8 @@ type Fields<A> = Tagged<Sequence, Inner<A>>;
 impl<A: Allocator> ToDer for AlgorithmIdentifier<A> {
     ghost strict = { λ v. algorithm_bytes (written_fields v) };
 
-    fn encoded_len(&self) -> Result<usize, TooLong> {
-        Nest::new(DefinedBy(&self.algorithm, &self.parameters)).encoded_len()
-    }
-
-    fn write_back(&self, out: &mut [u8]) -> usize {
-        Nest::new(DefinedBy(&self.algorithm, &self.parameters)).write_back(out)
+    fn put<O: Output>(&self, out: &mut [u8], at: usize) -> Result<usize, TooLong> {
+        Nest::new(One(DefinedBy(Ref(&self.algorithm), Ref(&self.parameters)))).put::<O>(out, at)
     }
 }
 
@@ -200,10 +196,10 @@ impl<A: Allocator + Copy> View<Fields<A>, A> for AlgorithmIdentifier<A> {
     ghost view = { algorithm_meaning };
 
     ghost keeps = { sequence_keeps algorithm_meaning inner
-        (⟦<Inner<A> as Field<A>>⟧.lawful (tt, λ c h. refl)) algorithm_means algorithm_one };
+        (⟦<Inner<A> as Content<A>>⟧.content_lawful (tt, λ c h. refl)) algorithm_means algorithm_one };
 
     fn meaning(_alloc: A, parts: Fields<A>) -> Result<(Self, WholeDeviations), ReadError> {
-        let DefinedBy(algorithm, parameters) = parts.into_inner();
+        let One(DefinedBy(algorithm, parameters)) = parts.into_inner();
         let left_out = lacks_null(&algorithm, &parameters);
         let value = AlgorithmIdentifier {
             algorithm,

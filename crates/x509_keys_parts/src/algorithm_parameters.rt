@@ -12,7 +12,7 @@ use crate::ec_parameters::EcParameters;
 use crate::hash_algorithm::HashAlgorithm;
 use crate::rsassa_pss::{MaskGenAlgorithm, RsassaPssParams};
 use std::alloc::{Allocator, Global};
-use x509_der::parts::{AnyDefinedBy, Field, Optional, Reader};
+use x509_der::parts::{AnyDefinedBy, Field, Optional, Output, Reader};
 use x509_der::{
     CloneEq, ObjectIdentifier, ObjectIdentifierAsn1, ReadError, SameEq, ToDer, TooLong,
 };
@@ -168,23 +168,13 @@ pub fn kind_of<A: Allocator>(identifier: &ObjectIdentifierAsn1<A>) -> AlgorithmK
 impl<A: Allocator> ToDer for AlgorithmIdentifierParameters<A> {
     ghost strict = { parameters_bytes };
 
-    fn encoded_len(&self) -> Result<usize, TooLong> {
+    fn put<O: Output>(&self, out: &mut [u8], at: usize) -> Result<usize, TooLong> {
         match self {
-            AlgorithmIdentifierParameters::None => Ok(0),
-            AlgorithmIdentifierParameters::Null => ().encoded_len(),
-            AlgorithmIdentifierParameters::Aes(parameters) => parameters.encoded_len(),
-            AlgorithmIdentifierParameters::Ec(parameters) => parameters.encoded_len(),
-            AlgorithmIdentifierParameters::RsassaPss(parameters) => parameters.encoded_len(),
-        }
-    }
-
-    fn write_back(&self, out: &mut [u8]) -> usize {
-        match self {
-            AlgorithmIdentifierParameters::None => out.len(),
-            AlgorithmIdentifierParameters::Null => ().write_back(out),
-            AlgorithmIdentifierParameters::Aes(parameters) => parameters.write_back(out),
-            AlgorithmIdentifierParameters::Ec(parameters) => parameters.write_back(out),
-            AlgorithmIdentifierParameters::RsassaPss(parameters) => parameters.write_back(out),
+            AlgorithmIdentifierParameters::None => Ok(at),
+            AlgorithmIdentifierParameters::Null => ().put::<O>(out, at),
+            AlgorithmIdentifierParameters::Aes(parameters) => parameters.put::<O>(out, at),
+            AlgorithmIdentifierParameters::Ec(parameters) => parameters.put::<O>(out, at),
+            AlgorithmIdentifierParameters::RsassaPss(parameters) => parameters.put::<O>(out, at),
         }
     }
 }

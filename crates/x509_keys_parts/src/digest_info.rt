@@ -15,7 +15,7 @@ use crate::hash_algorithm::HashAlgorithm;
 use crate::rsassa_pss::{MaskGenAlgorithm, RsassaPssParams};
 use std::alloc::{Allocator, Global};
 use x509_der::parts::{
-    Field, Join, Reader, SEQUENCE_TAG, Sequence, Structure, Tagged, read_sequence,
+    Field, Join, One, Output, Reader, Ref, SEQUENCE_TAG, Sequence, Structure, Tagged, read_sequence,
 };
 use x509_der::{CloneEq, FromDer, OctetStringAsn1, ReadError, SameEq, ToDer, TooLong};
 
@@ -47,23 +47,19 @@ impl<A: Allocator> SameEq for DigestInfo<A> {
 }
 
 /// The fields as they stand in the SEQUENCE, owned or borrowed.
-type Nest<I, O> = Tagged<Sequence, Join<I, O>>;
+type Nest<I, O> = Tagged<Sequence, Join<I, One<O>>>;
 
 /// The SEQUENCE, owned.
 type Fields<A> = Nest<AlgorithmIdentifier<A>, OctetStringAsn1<A>>;
 
 /// The fields, owned.
-type Inner<A> = Join<AlgorithmIdentifier<A>, OctetStringAsn1<A>>;
+type Inner<A> = Join<AlgorithmIdentifier<A>, One<OctetStringAsn1<A>>>;
 
 impl<A: Allocator> ToDer for DigestInfo<A> {
     ghost strict = { λ v. element 48 (digest_info_bytes (digest_info_parts v)) };
 
-    fn encoded_len(&self) -> Result<usize, TooLong> {
-        Nest::new(Join(&self.oid, &self.digest)).encoded_len()
-    }
-
-    fn write_back(&self, out: &mut [u8]) -> usize {
-        Nest::new(Join(&self.oid, &self.digest)).write_back(out)
+    fn put<O: Output>(&self, out: &mut [u8], at: usize) -> Result<usize, TooLong> {
+        Nest::new(Join(Ref(&self.oid), One(Ref(&self.digest)))).put::<O>(out, at)
     }
 }
 
@@ -71,7 +67,7 @@ impl<A: Allocator> Structure<Inner<A>> for DigestInfo<A> {
     ghost fields = { digest_info_parts };
 
     fn from_fields(parts: Inner<A>) -> Self {
-        let Join(oid, digest) = parts;
+        let Join(oid, One(digest)) = parts;
         DigestInfo { oid, digest }
     }
 

@@ -6,7 +6,7 @@ ghost use Rattle.x509_keys_parts.specs.EcParameters.{curve_of, ec_base, ec_param
 ghost use Rattle.x509_keys_parts.specs.facts.EcParameters.{ec_same};
 
 use std::alloc::{Allocator, Global};
-use x509_der::parts::{Field, OBJECT_IDENTIFIER_TAG, Reader, Structure, read_fields};
+use x509_der::parts::{Field, OBJECT_IDENTIFIER_TAG, Output, Reader, Structure, read_fields};
 use x509_der::{
     CloneEq, FromDer, ObjectIdentifier, ObjectIdentifierAsn1, ReadError, SameEq, ToDer, TooLong,
 };
@@ -71,15 +71,9 @@ impl<A: Allocator> SameEq for EcParameters<A> {
 impl<A: Allocator> ToDer for EcParameters<A> {
     ghost strict = { λ v. ec_base.strict (curve_of v) };
 
-    fn encoded_len(&self) -> Result<usize, TooLong> {
+    fn put<O: Output>(&self, out: &mut [u8], at: usize) -> Result<usize, TooLong> {
         match self {
-            EcParameters::NamedCurve(curve) => curve.encoded_len(),
-        }
-    }
-
-    fn write_back(&self, out: &mut [u8]) -> usize {
-        match self {
-            EcParameters::NamedCurve(curve) => curve.write_back(out),
+            EcParameters::NamedCurve(curve) => curve.put::<O>(out, at),
         }
     }
 }

@@ -13,8 +13,8 @@ use crate::errors::{AlgorithmError, unsupported};
 use std::alloc::{AllocError, Allocator};
 use std::marker::Model;
 use x509_der::parts::{
-    Field, Join, OBJECT_IDENTIFIER_TAG, Optional, Reader, SEQUENCE_TAG, Sequence, Tagged, View,
-    WholeDeviations, from_lawful, read_viewed, write_bytes,
+    Content, Field, Join, OBJECT_IDENTIFIER_TAG, One, Optional, Output, Reader, SEQUENCE_TAG,
+    Sequence, Tagged, View, WholeDeviations, from_lawful, read_viewed,
 };
 use x509_der::{
     CloneEq, Deviation, FromDer, ObjectIdentifier, ObjectIdentifierAsn1, ReadError, SameEq, ToDer,
@@ -201,12 +201,8 @@ fn name_element(hash: HashAlgorithm) -> [u8; 11]
 impl ToDer for HashName {
     ghost strict = { hash_name.strict };
 
-    fn encoded_len(&self) -> Result<usize, TooLong> {
-        Ok(name_element(self.0).len())
-    }
-
-    fn write_back(&self, out: &mut [u8]) -> usize {
-        write_bytes(&name_element(self.0), out)
+    fn put<O: Output>(&self, out: &mut [u8], at: usize) -> Result<usize, TooLong> {
+        O::bytes(&name_element(self.0), out, at)
     }
 }
 
@@ -255,17 +251,13 @@ impl<A: Allocator + Copy> Field<A> for HashName {
 }
 
 /// The fields that are written.
-type Written = Tagged<Sequence, Join<HashName, ()>>;
+type Written = Tagged<Sequence, Join<HashName, One<()>>>;
 
 impl ToDer for HashAlgorithm {
     ghost strict = { λ v. hash_base.strict (hash_fields v) };
 
-    fn encoded_len(&self) -> Result<usize, TooLong> {
-        Written::new(Join(HashName(*self), ())).encoded_len()
-    }
-
-    fn write_back(&self, out: &mut [u8]) -> usize {
-        Written::new(Join(HashName(*self), ())).write_back(out)
+    fn put<O: Output>(&self, out: &mut [u8], at: usize) -> Result<usize, TooLong> {
+        Written::new(Join(HashName(*self), One(()))).put::<O>(out, at)
     }
 }
 
@@ -280,7 +272,7 @@ fn absence(null: Option<()>) -> Option<Deviation>
 }
 
 /// The fields in the SEQUENCE.
-type Inner = Join<HashName, Optional<()>>;
+type Inner = Join<HashName, One<Optional<()>>>;
 
 /// The fields that are read.
 type Fields = Tagged<Sequence, Inner>;
@@ -291,10 +283,10 @@ impl<A: Allocator + Copy> View<Fields, A> for HashAlgorithm {
     ghost view = { hash_meaning };
 
     ghost keeps = { sequence_keeps hash_meaning hash_inner
-        (⟦<Inner as Field<A>>⟧.lawful (tt, (tt, tt), λ c h. refl)) hash_is few_kinds };
+        (⟦<Inner as Content<A>>⟧.content_lawful (tt, (tt, tt), λ c h. refl)) hash_is few_kinds };
 
     fn meaning(_alloc: A, parts: Fields) -> Result<(Self, WholeDeviations), ReadError> {
-        let Join(HashName(hash), Optional(null)) = parts.into_inner();
+        let Join(HashName(hash), One(Optional(null))) = parts.into_inner();
         Ok((hash, WholeDeviations::of(absence(null))))
     }
 }

@@ -8,8 +8,8 @@ ghost use Rattle.x509_der.specs.View.{if_found};
 use std::alloc::{AllocError, Allocator, Global};
 use std::marker::Model;
 use x509_der::parts::{
-    Field, Join, Optional, Reader, SEQUENCE_TAG, Sequence, Tagged, View, WholeDeviations,
-    known_bytes, known_there, read_viewed,
+    Content, Field, Join, One, Optional, Output, Reader, Ref, SEQUENCE_TAG, Sequence, Tagged, View,
+    WholeDeviations, known_bytes, known_there, read_viewed,
 };
 use x509_der::{
     Asn1RawDer, CloneEq, Deviation, FromDer, ObjectIdentifier, ObjectIdentifierAsn1, ReadError,
@@ -121,7 +121,10 @@ fn absence<A: Allocator>(parameters: &Option<ReadParameters<A>>) -> Option<Devia
 }
 
 /// The fields that are written, borrowed.
-type Written<'a, A> = Tagged<Sequence, Join<&'a ObjectIdentifierAsn1<A>, Parameters<'a, A>>>;
+type Written<'a, A> = Tagged<
+    Sequence,
+    Join<Ref<'a, ObjectIdentifierAsn1<A>>, One<Parameters<'a, A>>>,
+>;
 
 /// Parameters as they are written: NULL where there are none.
 #[derive(Drop)]
@@ -130,22 +133,10 @@ struct Parameters<'a, A: Allocator>(&'a Option<Asn1RawDer<A>>);
 impl<'a, A: Allocator> ToDer for Parameters<'a, A> {
     ghost strict = { λ p. written_parameters p.0.now };
 
-    fn encoded_len(&self) -> Result<usize, TooLong> {
+    fn put<O: Output>(&self, out: &mut [u8], at: usize) -> Result<usize, TooLong> {
         match self.0 {
-            Some(element) => element.encoded_len(),
-            None => Ok(2),
-        }
-    }
-
-    fn write_back(&self, out: &mut [u8]) -> usize {
-        match self.0 {
-            Some(element) => element.write_back(out),
-            None => {
-                let start = out.len() - 2;
-                out[start] = 5;
-                out[start + 1] = 0;
-                start
-            }
+            Some(element) => element.put::<O>(out, at),
+            None => O::bytes(&[5, 0], out, at),
         }
     }
 }
@@ -155,12 +146,10 @@ impl<A: Allocator> ToDer for RawAlgorithmIdentifier<A> {
 
     ghost strict = { λ v. base.strict (written_fields v) };
 
-    fn encoded_len(&self) -> Result<usize, TooLong> {
-        Written::new(Join(&self.algorithm, Parameters(&self.parameters))).encoded_len()
-    }
-
-    fn write_back(&self, out: &mut [u8]) -> usize {
-        Written::new(Join(&self.algorithm, Parameters(&self.parameters))).write_back(out)
+    fn put<O: Output>(&self, out: &mut [u8], at: usize) -> Result<usize, TooLong> {
+        Written::new(Join(Ref(&self.algorithm), One(Parameters(&self.parameters)))).put::<O>(
+            out, at,
+        )
     }
 }
 
@@ -184,12 +173,8 @@ impl<A: Allocator> Model for ReadParameters<A> {
 impl<A: Allocator> ToDer for ReadParameters<A> {
     ghost strict = { λ p. written_parameters p };
 
-    fn encoded_len(&self) -> Result<usize, TooLong> {
-        Parameters(&self.0).encoded_len()
-    }
-
-    fn write_back(&self, out: &mut [u8]) -> usize {
-        Parameters(&self.0).write_back(out)
+    fn put<O: Output>(&self, out: &mut [u8], at: usize) -> Result<usize, TooLong> {
+        Parameters(&self.0).put::<O>(out, at)
     }
 }
 
@@ -253,7 +238,7 @@ fn if_there<A: Allocator>(parameters: Option<ReadParameters<A>>) -> Option<Asn1R
 }
 
 /// The fields in the SEQUENCE.
-type Inner<A> = Join<ObjectIdentifierAsn1<A>, Optional<ReadParameters<A>>>;
+type Inner<A> = Join<ObjectIdentifierAsn1<A>, One<Optional<ReadParameters<A>>>>;
 
 /// The fields, owned.
 type Fields<A> = Tagged<Sequence, Inner<A>>;
@@ -268,10 +253,10 @@ impl<A: Allocator + Copy> View<Fields<A>, A> for RawAlgorithmIdentifier<A> {
     ghost view = { raw_meaning };
 
     ghost keeps = { sequence_keeps raw_meaning inner
-        (⟦<Inner<A> as Field<A>>⟧.lawful (tt, (tt, tt), λ c h. refl)) raw_algorithm_means one_kind };
+        (⟦<Inner<A> as Content<A>>⟧.content_lawful (tt, (tt, tt), λ c h. refl)) raw_algorithm_means one_kind };
 
     fn meaning(_alloc: A, parts: Fields<A>) -> Result<(Self, WholeDeviations), ReadError> {
-        let Join(ObjectIdentifierAsn1(algorithm), Optional(parameters)) = parts.into_inner();
+        let Join(ObjectIdentifierAsn1(algorithm), One(Optional(parameters))) = parts.into_inner();
         let absent = absence(&parameters);
         let value = RawAlgorithmIdentifier {
             algorithm: ObjectIdentifierAsn1(algorithm),

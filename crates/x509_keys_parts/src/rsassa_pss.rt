@@ -12,8 +12,8 @@ use crate::hash_algorithm::HashAlgorithm;
 use crate::salt_length::SaltLength;
 use std::alloc::{AllocError, Allocator, Global};
 use x509_der::parts::{
-    ContextConstructed, Field, Join, Reader, SEQUENCE_TAG, Sequence, Structure, Tagged, View,
-    WholeDeviations, read_fields, read_viewed,
+    Content, ContextConstructed, Field, Join, One, Output, Reader, Ref, SEQUENCE_TAG, Sequence,
+    Structure, Tagged, View, WholeDeviations, read_fields, read_viewed,
 };
 use x509_der::{
     CloneEq, Deviation, FromDer, IntegerAsn1, ObjectIdentifierAsn1, ReadError, SameEq, ToDer,
@@ -64,17 +64,15 @@ impl<A: Allocator> SameEq for MaskGenAlgorithm<A> {
 }
 
 /// The fields as they stand in the SEQUENCE, owned or borrowed.
-type MaskGenNest<I> = Tagged<Sequence, Join<I, HashAlgorithm>>;
+type MaskGenNest<I> = Tagged<Sequence, Join<I, One<HashAlgorithm>>>;
 
 impl<A: Allocator> ToDer for MaskGenAlgorithm<A> {
     ghost strict = { λ v. mask_gen_base.strict (mask_gen_parts v) };
 
-    fn encoded_len(&self) -> Result<usize, TooLong> {
-        MaskGenNest::new(Join(&self.mask_gen_algorithm, self.hash_algorithm)).encoded_len()
-    }
-
-    fn write_back(&self, out: &mut [u8]) -> usize {
-        MaskGenNest::new(Join(&self.mask_gen_algorithm, self.hash_algorithm)).write_back(out)
+    fn put<O: Output>(&self, out: &mut [u8], at: usize) -> Result<usize, TooLong> {
+        MaskGenNest::new(Join(Ref(&self.mask_gen_algorithm), One(self.hash_algorithm))).put::<O>(
+            out, at,
+        )
     }
 }
 
@@ -82,7 +80,7 @@ impl<A: Allocator> Structure<MaskGenNest<ObjectIdentifierAsn1<A>>> for MaskGenAl
     ghost fields = { mask_gen_parts };
 
     fn from_fields(parts: MaskGenNest<ObjectIdentifierAsn1<A>>) -> Self {
-        let Join(mask_gen_algorithm, hash_algorithm) = parts.into_inner();
+        let Join(mask_gen_algorithm, One(hash_algorithm)) = parts.into_inner();
         MaskGenAlgorithm {
             mask_gen_algorithm,
             hash_algorithm,
@@ -169,8 +167,8 @@ impl<A: Allocator> SameEq for RsassaPssParams<A> {
 
 /// The fields in the SEQUENCE, owned or borrowed.
 type Nest<M, S> = Join<
-    Tagged<ContextConstructed<0>, HashAlgorithm>,
-    Join<Tagged<ContextConstructed<1>, M>, Tagged<ContextConstructed<2>, S>>,
+    Tagged<ContextConstructed<0>, One<HashAlgorithm>>,
+    Join<Tagged<ContextConstructed<1>, One<M>>, One<Tagged<ContextConstructed<2>, One<S>>>>,
 >;
 
 /// The fields in the SEQUENCE, owned.
@@ -180,30 +178,23 @@ type Inner<A> = Nest<MaskGenAlgorithm<A>, IntegerAsn1<A>>;
 type Fields<A> = Tagged<Sequence, Inner<A>>;
 
 /// The fields that are written, borrowed.
-type Written<'a, A> = Tagged<Sequence, Nest<&'a MaskGenAlgorithm<A>, SaltLength>>;
+type Written<'a, A> = Tagged<Sequence, Nest<Ref<'a, MaskGenAlgorithm<A>>, SaltLength>>;
 
 /// The fields of parameters, to be written.
 fn written<A: Allocator>(value: &RsassaPssParams<A>) -> Written<'_, A>
-    ensures { ⟦<Written<'static, A> as ToDer>⟧.strict result ≡ pss_base.strict (pss_fields value.now) }
+    ensures { result ≡ (value.now.hash_algorithm, (value.now.mask_gen_algorithm, value.now.salt_length)) }
 {
-    Tagged::new(Join(
-        Tagged::new(value.hash_algorithm),
-        Join(
-            Tagged::new(&value.mask_gen_algorithm),
-            Tagged::new(SaltLength(value.salt_length)),
-        ),
-    ))
+    let salt = One(Tagged::new(One(SaltLength(value.salt_length))));
+    let mask_gen = Tagged::new(One(Ref(&value.mask_gen_algorithm)));
+    let hash = Tagged::new(One(value.hash_algorithm));
+    Tagged::new(Join(hash, Join(mask_gen, salt)))
 }
 
 impl<A: Allocator> ToDer for RsassaPssParams<A> {
     ghost strict = { λ v. pss_base.strict (pss_fields v) };
 
-    fn encoded_len(&self) -> Result<usize, TooLong> {
-        written(self).encoded_len()
-    }
-
-    fn write_back(&self, out: &mut [u8]) -> usize {
-        written(self).write_back(out)
+    fn put<O: Output>(&self, out: &mut [u8], at: usize) -> Result<usize, TooLong> {
+        written(self).put::<O>(out, at)
     }
 }
 
@@ -231,14 +222,14 @@ impl<A: Allocator + Copy> View<Fields<A>, A> for RsassaPssParams<A> {
     ghost view = { pss_meaning };
 
     ghost keeps = { sequence_keeps pss_meaning pss_inner
-        (⟦<Inner<A> as Field<A>>⟧.lawful (tt, (tt, tt, λ c h. refl), λ c h. refl)) pss_is pss_one };
+        (⟦<Inner<A> as Content<A>>⟧.content_lawful (tt, (tt, tt, λ c h. refl), λ c h. refl)) pss_is pss_one };
 
     fn meaning(_alloc: A, parts: Fields<A>) -> Result<(Self, WholeDeviations), ReadError> {
-        let Join(hash_algorithm, Join(mask_gen_algorithm, salt)) = parts.into_inner();
-        let (salt_length, found) = salt_in(&salt.into_inner())?;
+        let Join(hash_algorithm, Join(mask_gen_algorithm, One(salt))) = parts.into_inner();
+        let (salt_length, found) = salt_in(&salt.into_value())?;
         let parameters = RsassaPssParams {
-            hash_algorithm: hash_algorithm.into_inner(),
-            mask_gen_algorithm: mask_gen_algorithm.into_inner(),
+            hash_algorithm: hash_algorithm.into_value(),
+            mask_gen_algorithm: mask_gen_algorithm.into_value(),
             salt_length,
         };
         Ok((parameters, found))

@@ -10,7 +10,6 @@ use Rattle.x509_der.specs.Tagged.{tagged}
 use Rattle.x509_der.specs.Join.{join}
 use Rattle.x509_der.specs.Optional.{optional, OptionalAt}
 use Rattle.x509_der.specs.Structure.{structure}
-use Rattle.x509_der.specs.ContentOf.{content_of}
 use Rattle.x509_names_parts.specs.DirectoryStrings.{directory_string}
 
 abbrev pub Fields : Type 0 → Type 0
@@ -31,16 +30,13 @@ party_name = tagged 161 directory_string
 abbrev pub edi_inner : {A : Type 0} → Shape (Fields A)
 edi_inner = join (λ j. j.0) (λ j. j.1) (optional name_assigner) party_name
 
--- EDIPartyName ::= SEQUENCE { nameAssigner [0] DirectoryString OPTIONAL, partyName [1] DirectoryString }
-abbrev pub edi_base : {A : Type 0} → Shape (Fields A)
-edi_base = tagged 48 edi_inner
-
-abbrev pub edi_party_name : {A : Type 0} → Shape (EdiPartyName A)
-edi_party_name = structure edi_parts edi_base
-
--- its content, without the header
+-- the content of an EDIPartyName, without the header
 abbrev pub edi_content : {A : Type 0} → Shape (EdiPartyName A)
-edi_content = content_of (structure edi_parts edi_inner)
+edi_content = structure edi_parts edi_inner
+
+-- EDIPartyName ::= SEQUENCE { nameAssigner [0] DirectoryString OPTIONAL, partyName [1] DirectoryString }
+abbrev pub edi_party_name : {A : Type 0} → Shape (EdiPartyName A)
+edi_party_name = tagged 48 edi_content
 
 -- the fields one behind the other in a content behind n bytes, each under its tag
 pub record EdiFieldsAt {A : Type 0} (v : EdiPartyName A) (n : ℕ) (content string : List ℕ) (y : Tally) : Type 0 where

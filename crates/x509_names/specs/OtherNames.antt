@@ -10,7 +10,6 @@ use Rattle.x509_der.specs.Join.{join}
 use Rattle.x509_der.specs.RawElement.{raws}
 use Rattle.x509_der.specs.ObjectIdentifier.{oids}
 use Rattle.x509_der.specs.Structure.{structure}
-use Rattle.x509_der.specs.ContentOf.{content_of}
 
 -- the arcs of the form, and the element that is the name
 abbrev pub Fields : Type 0
@@ -31,16 +30,13 @@ value = tagged 160 raws
 abbrev pub other_inner : Shape Fields
 other_inner = join (λ j. j.0) (λ j. j.1) type_id value
 
--- OtherName ::= SEQUENCE { type-id OBJECT IDENTIFIER, value [0] EXPLICIT ANY DEFINED BY type-id }
-abbrev pub other_base : Shape Fields
-other_base = tagged 48 other_inner
-
-abbrev pub other_name : {A : Type 0} → Shape (OtherName A)
-other_name = structure other_parts other_base
-
--- its content, without the header
+-- the content of an OtherName, without the header
 abbrev pub other_content : {A : Type 0} → Shape (OtherName A)
-other_content = content_of (structure other_parts other_inner)
+other_content = structure other_parts other_inner
+
+-- OtherName ::= SEQUENCE { type-id OBJECT IDENTIFIER, value [0] EXPLICIT ANY DEFINED BY type-id }
+abbrev pub other_name : {A : Type 0} → Shape (OtherName A)
+other_name = tagged 48 other_content
 
 -- the fields one behind the other in a content behind n bytes, the value under its tag
 pub record OtherFieldsAt {A : Type 0} (v : OtherName A) (n : ℕ) (content string : List ℕ) (y : Tally) : Type 0 where

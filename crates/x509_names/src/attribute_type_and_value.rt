@@ -4,7 +4,7 @@ ghost use Rattle.std.specs.Prelude.{◌≡◌, ◌++◌, true, false, refl, IfOk
 ghost use Rattle.x509_der.specs.Element.{element};
 ghost use Rattle.x509_der.specs.Reading.{Ready, Reads};
 ghost use Rattle.x509_der.specs.laws.Structure.{structure_lawful, structure_element};
-ghost use Rattle.x509_names.specs.Attributes.{kind_of as kind_by};
+ghost use Rattle.x509_names.specs.Attributes.{kind_of as kind_by, held as held_by};
 ghost use Rattle.x509_names.specs.Attributes.{text_value as text_by, value_bytes, IsValue, by_kind};
 ghost use Rattle.x509_names.specs.Attributes.{attribute_parts, attribute_base, attribute, attribute_bytes};
 ghost use Rattle.x509_names.specs.Attributes.{text_attribute as text_by_attr, email_attribute};
@@ -14,8 +14,8 @@ ghost use Rattle.x509_names.specs.declared.name_attr.NameAttr.TheVariants as att
 use crate::name_attr::{NameAttr, attr_of, identifier_of};
 use std::alloc::{AllocError, Allocator, Global};
 use x509_der::parts::{
-    AnyDefinedBy, Choice, DefinedBy, Field, Reader, SEQUENCE_TAG, Sequence, Structure, Tagged,
-    element_len, read_sequence, write_element,
+    AnyDefinedBy, Choice, DefinedBy, Field, One, Output, Reader, Ref, SEQUENCE_TAG, Sequence,
+    Structure, Tagged, put_element, read_sequence,
 };
 use x509_der::{
     Asn1RawDer, CloneEq, FromDer, ObjectIdentifierAsn1, ReadError, SameEq, ToDer, TooLong,
@@ -125,11 +125,14 @@ fn text_value<A: Allocator>(
 }
 
 /// What a value holds, to be written.
-type Held<'a, A> = Choice<&'a DirectoryString<A>, Choice<&'a Ia5StringAsn1<A>, &'a Asn1RawDer<A>>>;
+type Held<'a, A> = Choice<
+    Ref<'a, DirectoryString<A>>,
+    Choice<Ref<'a, Ia5StringAsn1<A>>, Ref<'a, Asn1RawDer<A>>>,
+>;
 
 /// What a value holds.
 fn held<A: Allocator>(value: &AttributeTypeAndValueParameters<A>) -> Held<'_, A>
-    ensures { ⟦<Held<'static, A> as ToDer>⟧.strict result ≡ value_bytes value.now }
+    ensures { result ≡ held_by value.now }
 {
     match value {
         AttributeTypeAndValueParameters::CommonName(text)
@@ -142,23 +145,21 @@ fn held<A: Allocator>(value: &AttributeTypeAndValueParameters<A>) -> Held<'_, A>
         | AttributeTypeAndValueParameters::OrganizationName(text)
         | AttributeTypeAndValueParameters::OrganizationalUnitName(text)
         | AttributeTypeAndValueParameters::GivenName(text)
-        | AttributeTypeAndValueParameters::Phone(text) => Choice::First(text),
+        | AttributeTypeAndValueParameters::Phone(text) => Choice::First(Ref(text)),
         AttributeTypeAndValueParameters::EmailAddress(address) => {
-            Choice::Second(Choice::First(address))
+            Choice::Second(Choice::First(Ref(address)))
         }
-        AttributeTypeAndValueParameters::Custom(element) => Choice::Second(Choice::Second(element)),
+        AttributeTypeAndValueParameters::Custom(element) => {
+            Choice::Second(Choice::Second(Ref(element)))
+        }
     }
 }
 
 impl<A: Allocator> ToDer for AttributeTypeAndValueParameters<A> {
     ghost strict = { value_bytes };
 
-    fn encoded_len(&self) -> Result<usize, TooLong> {
-        held(self).encoded_len()
-    }
-
-    fn write_back(&self, out: &mut [u8]) -> usize {
-        held(self).write_back(out)
+    fn put<O: Output>(&self, out: &mut [u8], at: usize) -> Result<usize, TooLong> {
+        held(self).put::<O>(out, at)
     }
 }
 
@@ -421,17 +422,25 @@ impl<A: Allocator> AttributeTypeAndValue<A> {
 }
 
 /// The fields in the SEQUENCE, owned.
-type Inner<A> = DefinedBy<ObjectIdentifierAsn1<A>, AttributeTypeAndValueParameters<A>>;
+type Inner<A> = One<DefinedBy<ObjectIdentifierAsn1<A>, AttributeTypeAndValueParameters<A>>>;
+
+/// The fields, borrowed.
+type Written<'a, A> = One<
+    DefinedBy<Ref<'a, ObjectIdentifierAsn1<A>>, Ref<'a, AttributeTypeAndValueParameters<A>>>,
+>;
+
+/// The fields of an attribute, to be written.
+fn written<A: Allocator>(value: &AttributeTypeAndValue<A>) -> Written<'_, A>
+    ensures { result ≡ attribute_parts value.now }
+{
+    One(DefinedBy(Ref(&value.ty), Ref(&value.value)))
+}
 
 impl<A: Allocator> ToDer for AttributeTypeAndValue<A> {
     ghost strict = { λ v. element 48 (attribute_bytes v) };
 
-    fn encoded_len(&self) -> Result<usize, TooLong> {
-        element_len(SEQUENCE_TAG, &DefinedBy(&self.ty, &self.value))
-    }
-
-    fn write_back(&self, out: &mut [u8]) -> usize {
-        write_element(SEQUENCE_TAG, &DefinedBy(&self.ty, &self.value), out)
+    fn put<O: Output>(&self, out: &mut [u8], at: usize) -> Result<usize, TooLong> {
+        put_element::<O, _>(SEQUENCE_TAG, &written(self), out, at)
     }
 }
 
@@ -439,7 +448,7 @@ impl<A: Allocator> Structure<Inner<A>> for AttributeTypeAndValue<A> {
     ghost fields = { attribute_parts };
 
     fn from_fields(parts: Inner<A>) -> Self {
-        let DefinedBy(ty, value) = parts;
+        let One(DefinedBy(ty, value)) = parts;
         AttributeTypeAndValue { ty, value }
     }
 

@@ -7,7 +7,7 @@ use std::fmt;
 use std::fmt::{Debug, Formatter};
 use std::marker::Model;
 use std::ops::Deref;
-use x509_der::parts::{Content, Reader, ToContent};
+use x509_der::parts::{Content, Output, Reader, ToContent};
 use x509_der::{CloneEq, ReadError, SameEq, TooLong};
 
 /// A value on the heap. Contracts see the value.
@@ -96,12 +96,8 @@ impl<T: CloneEq, A: Allocator + Copy> CloneEq for Boxed<T, A> {
 impl<T: ToContent, A: Allocator> ToContent for Boxed<T, A> {
     ghost content = { T.content };
 
-    fn content_len(&self) -> Result<usize, TooLong> {
-        self.0.content_len()
-    }
-
-    fn write_content(&self, out: &mut [u8]) -> usize {
-        self.0.write_content(out)
+    fn put_content<O: Output>(&self, out: &mut [u8], at: usize) -> Result<usize, TooLong> {
+        self.0.put_content::<O>(out, at)
     }
 }
 
@@ -127,10 +123,6 @@ impl<T: TakesMemory<A> + Drop, A: Allocator + Copy> Content<A> for Boxed<T, A> {
         let boxed = Boxed::new(alloc, value)?;
         Ok(boxed)
     }
-
-    ghost content_always = { T.content_always };
-
-    ghost open = { λ b. T.open b };
 
     ghost content_agrees = { λ v. T.content_agrees v };
 }

@@ -18,8 +18,8 @@ use crate::other_name::OtherName;
 use std::alloc::{AllocError, Allocator, Global};
 use x509_der::parts::Choice::{First, Second};
 use x509_der::parts::{
-    Choice, Content, ContentOf, ContextConstructed, ContextPrimitive, Field, Reader, Tagged, View,
-    WholeDeviations, element_len, read_viewed, write_element,
+    Choice, Content, ContextConstructed, ContextPrimitive, Field, One, Output, Reader, Ref, Tagged,
+    View, WholeDeviations, put_element, read_viewed,
 };
 use x509_der::{
     Asn1SequenceOf, CloneEq, Deviation, FromDer, ObjectIdentifierAsn1, OctetStringAsn1, ReadError,
@@ -120,24 +120,24 @@ impl<A: Allocator> SameEq for GeneralName<A> {
 /// The alternatives that are written, the first half of them.
 type StrictFront<A> = Choice<
     Choice<
-        Tagged<ContextConstructed<0>, ContentOf<Boxed<OtherName<A>, A>>>,
-        Tagged<ContextPrimitive<1>, ContentOf<Ia5StringAsn1<A>>>,
+        Tagged<ContextConstructed<0>, Boxed<OtherName<A>, A>>,
+        Tagged<ContextPrimitive<1>, Ia5StringAsn1<A>>,
     >,
     Choice<
-        Tagged<ContextPrimitive<2>, ContentOf<Ia5StringAsn1<A>>>,
-        Tagged<ContextConstructed<4>, Name<A>>,
+        Tagged<ContextPrimitive<2>, Ia5StringAsn1<A>>,
+        Tagged<ContextConstructed<4>, One<Name<A>>>,
     >,
 >;
 
 /// The other half.
 type StrictBack<A> = Choice<
     Choice<
-        Tagged<ContextConstructed<5>, ContentOf<Boxed<EdiPartyName<A>, A>>>,
-        Tagged<ContextPrimitive<6>, ContentOf<Ia5StringAsn1<A>>>,
+        Tagged<ContextConstructed<5>, Boxed<EdiPartyName<A>, A>>,
+        Tagged<ContextPrimitive<6>, Ia5StringAsn1<A>>,
     >,
     Choice<
-        Tagged<ContextPrimitive<7>, ContentOf<OctetStringAsn1<A>>>,
-        Tagged<ContextPrimitive<8>, ContentOf<ObjectIdentifierAsn1<A>>>,
+        Tagged<ContextPrimitive<7>, OctetStringAsn1<A>>,
+        Tagged<ContextPrimitive<8>, ObjectIdentifierAsn1<A>>,
     >,
 >;
 
@@ -146,19 +146,19 @@ type Strict<A> = Choice<StrictFront<A>, StrictBack<A>>;
 
 /// The alternatives that are deviations, the first two of them.
 type LooseFront<A> = Choice<
-    Tagged<ContextConstructed<1>, Ia5StringAsn1<A>>,
-    Tagged<ContextConstructed<2>, Ia5StringAsn1<A>>,
+    Tagged<ContextConstructed<1>, One<Ia5StringAsn1<A>>>,
+    Tagged<ContextConstructed<2>, One<Ia5StringAsn1<A>>>,
 >;
 
 /// The other four.
 type LooseBack<A> = Choice<
     Choice<
-        Tagged<ContextConstructed<6>, Ia5StringAsn1<A>>,
-        Tagged<ContextConstructed<7>, OctetStringAsn1<A>>,
+        Tagged<ContextConstructed<6>, One<Ia5StringAsn1<A>>>,
+        Tagged<ContextConstructed<7>, One<OctetStringAsn1<A>>>,
     >,
     Choice<
-        Tagged<ContextConstructed<8>, ObjectIdentifierAsn1<A>>,
-        Tagged<ContextPrimitive<4>, ContentOf<Name<A>>>,
+        Tagged<ContextConstructed<8>, One<ObjectIdentifierAsn1<A>>>,
+        Tagged<ContextPrimitive<4>, Name<A>>,
     >,
 >;
 
@@ -173,14 +173,14 @@ fn from_strict<A: Allocator>(parts: Strict<A>) -> GeneralName<A>
     ensures { result ≡ strict_name parts }
 {
     match parts {
-        First(First(First(name))) => GeneralName::OtherName(name.into_value()),
-        First(First(Second(text))) => GeneralName::Rfc822Name(text.into_value()),
-        First(Second(First(text))) => GeneralName::DnsName(text.into_value()),
-        First(Second(Second(name))) => GeneralName::DirectoryName(name.into_inner()),
-        Second(First(First(name))) => GeneralName::EdiPartyName(name.into_value()),
-        Second(First(Second(text))) => GeneralName::Uri(text.into_value()),
-        Second(Second(First(octets))) => GeneralName::IpAddress(octets.into_value()),
-        Second(Second(Second(id))) => GeneralName::RegisteredId(id.into_value()),
+        First(First(First(name))) => GeneralName::OtherName(name.into_inner()),
+        First(First(Second(text))) => GeneralName::Rfc822Name(text.into_inner()),
+        First(Second(First(text))) => GeneralName::DnsName(text.into_inner()),
+        First(Second(Second(name))) => GeneralName::DirectoryName(name.into_value()),
+        Second(First(First(name))) => GeneralName::EdiPartyName(name.into_inner()),
+        Second(First(Second(text))) => GeneralName::Uri(text.into_inner()),
+        Second(Second(First(octets))) => GeneralName::IpAddress(octets.into_inner()),
+        Second(Second(Second(id))) => GeneralName::RegisteredId(id.into_inner()),
     }
 }
 
@@ -189,12 +189,12 @@ fn from_loose<A: Allocator>(parts: Loose<A>) -> GeneralName<A>
     ensures { result ≡ loose_name parts }
 {
     match parts {
-        First(First(text)) => GeneralName::Rfc822Name(text.into_inner()),
-        First(Second(text)) => GeneralName::DnsName(text.into_inner()),
-        Second(First(First(text))) => GeneralName::Uri(text.into_inner()),
-        Second(First(Second(octets))) => GeneralName::IpAddress(octets.into_inner()),
-        Second(Second(First(id))) => GeneralName::RegisteredId(id.into_inner()),
-        Second(Second(Second(name))) => GeneralName::DirectoryName(name.into_value()),
+        First(First(text)) => GeneralName::Rfc822Name(text.into_value()),
+        First(Second(text)) => GeneralName::DnsName(text.into_value()),
+        Second(First(First(text))) => GeneralName::Uri(text.into_value()),
+        Second(First(Second(octets))) => GeneralName::IpAddress(octets.into_value()),
+        Second(Second(First(id))) => GeneralName::RegisteredId(id.into_value()),
+        Second(Second(Second(name))) => GeneralName::DirectoryName(name.into_inner()),
     }
 }
 
@@ -218,29 +218,21 @@ const REGISTERED_ID: u8 = 0x88;
 impl<A: Allocator> ToDer for GeneralName<A> {
     ghost strict = { λ v. general_names.strict v };
 
-    fn encoded_len(&self) -> Result<usize, TooLong> {
+    fn put<O: Output>(&self, out: &mut [u8], at: usize) -> Result<usize, TooLong> {
         match self {
-            GeneralName::OtherName(name) => element_len(OTHER_NAME, &ContentOf(name)),
-            GeneralName::Rfc822Name(text) => element_len(RFC822_NAME, &ContentOf(text)),
-            GeneralName::DnsName(text) => element_len(DNS_NAME, &ContentOf(text)),
-            GeneralName::DirectoryName(name) => element_len(DIRECTORY_NAME, name),
-            GeneralName::EdiPartyName(name) => element_len(EDI_PARTY_NAME, &ContentOf(name)),
-            GeneralName::Uri(text) => element_len(URI, &ContentOf(text)),
-            GeneralName::IpAddress(octets) => element_len(IP_ADDRESS, &ContentOf(octets)),
-            GeneralName::RegisteredId(id) => element_len(REGISTERED_ID, &ContentOf(id)),
-        }
-    }
-
-    fn write_back(&self, out: &mut [u8]) -> usize {
-        match self {
-            GeneralName::OtherName(name) => write_element(OTHER_NAME, &ContentOf(name), out),
-            GeneralName::Rfc822Name(text) => write_element(RFC822_NAME, &ContentOf(text), out),
-            GeneralName::DnsName(text) => write_element(DNS_NAME, &ContentOf(text), out),
-            GeneralName::DirectoryName(name) => write_element(DIRECTORY_NAME, name, out),
-            GeneralName::EdiPartyName(name) => write_element(EDI_PARTY_NAME, &ContentOf(name), out),
-            GeneralName::Uri(text) => write_element(URI, &ContentOf(text), out),
-            GeneralName::IpAddress(octets) => write_element(IP_ADDRESS, &ContentOf(octets), out),
-            GeneralName::RegisteredId(id) => write_element(REGISTERED_ID, &ContentOf(id), out),
+            GeneralName::OtherName(name) => put_element::<O, _>(OTHER_NAME, name, out, at),
+            GeneralName::Rfc822Name(text) => put_element::<O, _>(RFC822_NAME, text, out, at),
+            GeneralName::DnsName(text) => put_element::<O, _>(DNS_NAME, text, out, at),
+            GeneralName::DirectoryName(name) => put_element::<O, _>(
+                DIRECTORY_NAME,
+                &One(Ref(name)),
+                out,
+                at,
+            ),
+            GeneralName::EdiPartyName(name) => put_element::<O, _>(EDI_PARTY_NAME, name, out, at),
+            GeneralName::Uri(text) => put_element::<O, _>(URI, text, out, at),
+            GeneralName::IpAddress(octets) => put_element::<O, _>(IP_ADDRESS, octets, out, at),
+            GeneralName::RegisteredId(id) => put_element::<O, _>(REGISTERED_ID, id, out, at),
         }
     }
 }
@@ -251,9 +243,9 @@ impl<A: Allocator + Copy> View<Fields<A>, A> for GeneralName<A> {
     ghost view = { general_meaning };
 
     ghost keeps = { general_keeps (record {
-      other = ⟦<ContentOf<OtherName<A>> as Field<A>>⟧.lawful tt;
-      names = ⟦<ContentOf<Name<A>> as Field<A>>⟧.lawful tt;
-      edi = ⟦<ContentOf<EdiPartyName<A>> as Field<A>>⟧.lawful tt;
+      other = ⟦<OtherName<A> as Content<A>>⟧.content_lawful tt;
+      names = ⟦<Name<A> as Content<A>>⟧.content_lawful tt;
+      edi = ⟦<EdiPartyName<A> as Content<A>>⟧.content_lawful tt;
     }) };
 
     fn meaning(_alloc: A, parts: Fields<A>) -> Result<(Self, WholeDeviations), ReadError> {
@@ -297,15 +289,15 @@ impl<A: Allocator + Copy> Field<A> for GeneralName<A> {
     ghost shape = { general_names };
 
     ghost lawful = { λ h. general_lawful (record {
-      other = ⟦<ContentOf<OtherName<A>> as Field<A>>⟧.lawful tt;
-      names = ⟦<ContentOf<Name<A>> as Field<A>>⟧.lawful tt;
-      edi = ⟦<ContentOf<EdiPartyName<A>> as Field<A>>⟧.lawful tt;
+      other = ⟦<OtherName<A> as Content<A>>⟧.content_lawful tt;
+      names = ⟦<Name<A> as Content<A>>⟧.content_lawful tt;
+      edi = ⟦<EdiPartyName<A> as Content<A>>⟧.content_lawful tt;
     }) };
 
     ghost elements = { λ h. general_element (record {
-      other = ⟦<ContentOf<OtherName<A>> as Field<A>>⟧.lawful tt;
-      names = ⟦<ContentOf<Name<A>> as Field<A>>⟧.lawful tt;
-      edi = ⟦<ContentOf<EdiPartyName<A>> as Field<A>>⟧.lawful tt;
+      other = ⟦<OtherName<A> as Content<A>>⟧.content_lawful tt;
+      names = ⟦<Name<A> as Content<A>>⟧.content_lawful tt;
+      edi = ⟦<EdiPartyName<A> as Content<A>>⟧.content_lawful tt;
     }) };
 
     ghost agrees = { λ v. refl };

@@ -1,9 +1,8 @@
 //! Names: what subjects, issuers and directory entries are called.
 
-ghost use Rattle.std.specs.Prelude.{◌≡◌, ◌++◌, ◌∷◌, [], refl, IfOk, OnOk, OnErr, MatchOption, Some, None};
-ghost use Rattle.x509_der.specs.Element.{element};
+ghost use Rattle.std.specs.Prelude.{◌≡◌, ◌++◌, ◌∷◌, [], IfOk, OnOk, OnErr, MatchOption, Some, None};
 ghost use Rattle.x509_names.specs.Attributes.{text_attribute, email_attribute};
-ghost use Rattle.x509_names.specs.Names.{name, name_content, name_bytes};
+ghost use Rattle.x509_names.specs.Names.{name_content, name_bytes};
 ghost use Rattle.x509_names.specs.CommonNames.{common_name_of, first_of_set, first_common_name};
 ghost use Rattle.x509_names.specs.declared.name_attr.NameAttr.TheVariants as attr;
 
@@ -13,8 +12,8 @@ use crate::attribute_type_and_value::{
 pub use crate::name_attr::NameAttr;
 use std::alloc::{AllocError, Allocator, Global};
 use std::marker::Model;
-use x509_der::parts::{Constructed, Content, Field, OneTag, Reader, SEQUENCE_TAG, ToContent};
-use x509_der::{Asn1SequenceOf, Asn1SetOf, CloneEq, FromDer, ReadError, SameEq, ToDer, TooLong};
+use x509_der::parts::{Content, FromContent, Output, OwnTag, Reader, Sequence, ToContent};
+use x509_der::{Asn1SequenceOf, Asn1SetOf, CloneEq, ReadError, SameEq, TooLong};
 use x509_names_parts::DirectoryString;
 use x509_prim::Ia5StringAsn1;
 
@@ -169,24 +168,8 @@ impl<A: Allocator> SameEq for Name<A> {
 impl<A: Allocator> ToContent for Name<A> {
     ghost content = { name_bytes };
 
-    fn content_len(&self) -> Result<usize, TooLong> {
-        self.0.content_len()
-    }
-
-    fn write_content(&self, out: &mut [u8]) -> usize {
-        self.0.write_content(out)
-    }
-}
-
-impl<A: Allocator> ToDer for Name<A> {
-    ghost strict = { λ v. element 48 (name_bytes v) };
-
-    fn encoded_len(&self) -> Result<usize, TooLong> {
-        self.0.encoded_len()
-    }
-
-    fn write_back(&self, out: &mut [u8]) -> usize {
-        self.0.write_back(out)
+    fn put_content<O: Output>(&self, out: &mut [u8], at: usize) -> Result<usize, TooLong> {
+        self.0.put_content::<O>(out, at)
     }
 }
 
@@ -196,10 +179,6 @@ impl<A: Allocator + Copy> Content<A> for Name<A> {
     ghost content_shape = { name_content };
 
     ghost content_lawful = { λ h. ⟦<RdnSequence<A> as Content<A>>⟧.content_lawful ((tt, tt), tt) };
-
-    ghost content_always = { tt };
-
-    ghost open = { λ b. refl };
 
     ghost content_agrees = { content_agrees };
 
@@ -213,43 +192,10 @@ impl<A: Allocator + Copy> Content<A> for Name<A> {
     }
 }
 
-impl<A: Allocator + Copy> Field<A> for Name<A> {
-    ghost use Rattle.x509_names.specs.facts.NameFacts.{name_agrees};
-
-    ghost shape = { name };
-
-    ghost lawful = { λ h. ⟦<RdnSequence<A> as Field<A>>⟧.lawful ((tt, tt), tt) };
-
-    ghost elements = { λ h. ⟦<RdnSequence<A> as Field<A>>⟧.elements tt };
-
-    ghost agrees = { name_agrees };
-
-    fn starts(byte: u8) -> bool {
-        byte == SEQUENCE_TAG
-    }
-
-    fn known(&self) {
-        self.0.known();
-    }
-
-    fn read(alloc: A, reader: &mut Reader<'_, A>) -> Result<Self, ReadError> {
-        let sets = RdnSequence::read(alloc, reader)?;
-        Ok(Name(sets))
-    }
+impl<A: Allocator + Copy> FromContent<A> for Name<A> {
+    ghost content_always = { tt };
 }
 
-impl<A: Allocator + Copy> FromDer<A> for Name<A> {
-    ghost stands_alone = { (tt, tt) };
-}
-
-impl<A: Allocator + Copy> OneTag<A> for Name<A> {
-    type Form = Constructed;
-
-    ghost tag = { 48 };
-
-    ghost form = { refl };
-
-    ghost spelled_around = { λ v p y. (λ s. s, λ s. s) };
-
-    ghost strict_around = { λ v. refl };
+impl<A: Allocator> OwnTag for Name<A> {
+    type Tag = Sequence;
 }

@@ -7,8 +7,8 @@ ghost use Rattle.x509_names_parts.specs.facts.DirectoryStrings.{directory_same, 
 
 use std::alloc::{Allocator, Global};
 use x509_der::parts::{
-    BMP_STRING_TAG, Choice, Field, PRINTABLE_STRING_TAG, Reader, Structure, UTF8_STRING_TAG,
-    read_fields,
+    BMP_STRING_TAG, Choice, Field, Output, PRINTABLE_STRING_TAG, Reader, Ref, Structure,
+    UTF8_STRING_TAG, read_fields,
 };
 use x509_der::{CloneEq, FromDer, ReadError, SameEq, ToDer, TooLong};
 use x509_prim::{BmpStringAsn1, PrintableStringAsn1, Utf8String};
@@ -37,7 +37,11 @@ type Nest<P, U, B> = Choice<P, Choice<U, B>>;
 type Fields<A> = Nest<PrintableStringAsn1<A>, Utf8String<A>, BmpStringAsn1<A>>;
 
 /// The alternatives, borrowed.
-type Written<'a, A> = Nest<&'a PrintableStringAsn1<A>, &'a Utf8String<A>, &'a BmpStringAsn1<A>>;
+type Written<'a, A> = Nest<
+    Ref<'a, PrintableStringAsn1<A>>,
+    Ref<'a, Utf8String<A>>,
+    Ref<'a, BmpStringAsn1<A>>,
+>;
 
 impl<A: Allocator + Copy> CloneEq for DirectoryString<A> {
     ghost use Rattle.std.proofs.Common.{rules};
@@ -55,25 +59,20 @@ impl<A: Allocator> SameEq for DirectoryString<A> {
 
 /// The alternative of a string, to be written.
 fn written<A: Allocator>(value: &DirectoryString<A>) -> Written<'_, A>
-    ensures { ⟦<Written<'static, A> as ToDer>⟧.strict result ≡ directory_base.strict
-        (directory_parts value.now) }
+    ensures { result ≡ directory_parts value.now }
 {
     match value {
-        DirectoryString::PrintableString(text) => Choice::First(text),
-        DirectoryString::Utf8String(text) => Choice::Second(Choice::First(text)),
-        DirectoryString::BmpString(text) => Choice::Second(Choice::Second(text)),
+        DirectoryString::PrintableString(text) => Choice::First(Ref(text)),
+        DirectoryString::Utf8String(text) => Choice::Second(Choice::First(Ref(text))),
+        DirectoryString::BmpString(text) => Choice::Second(Choice::Second(Ref(text))),
     }
 }
 
 impl<A: Allocator> ToDer for DirectoryString<A> {
     ghost strict = { λ v. directory_base.strict (directory_parts v) };
 
-    fn encoded_len(&self) -> Result<usize, TooLong> {
-        written(self).encoded_len()
-    }
-
-    fn write_back(&self, out: &mut [u8]) -> usize {
-        written(self).write_back(out)
+    fn put<O: Output>(&self, out: &mut [u8], at: usize) -> Result<usize, TooLong> {
+        written(self).put::<O>(out, at)
     }
 }
 

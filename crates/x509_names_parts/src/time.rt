@@ -7,7 +7,7 @@ ghost use Rattle.x509_names_parts.specs.facts.Time.{time_same, times_apart};
 
 use std::alloc::Allocator;
 use x509_der::parts::{
-    Choice, Field, GENERALIZED_TIME_TAG, Reader, Structure, UTC_TIME_TAG, read_fields,
+    Choice, Field, GENERALIZED_TIME_TAG, Output, Reader, Ref, Structure, UTC_TIME_TAG, read_fields,
 };
 use x509_der::{CloneEq, FromDer, ReadError, SameEq, ToDer, TooLong};
 use x509_prim::{GeneralizedTime, GeneralizedTimeAsn1, UTCTime, UtcTimeAsn1};
@@ -82,25 +82,20 @@ impl SameEq for Time {
 type Forms = Choice<UtcTimeAsn1, GeneralizedTimeAsn1>;
 
 /// The alternative of a time, to be written.
-fn written(value: &Time) -> Choice<&UtcTimeAsn1, &GeneralizedTimeAsn1>
-    ensures { ⟦<Choice<&'static UtcTimeAsn1, &'static GeneralizedTimeAsn1> as ToDer>⟧.strict result
-        ≡ time_base.strict (time_parts value.now) }
+fn written(value: &Time) -> Choice<Ref<'_, UtcTimeAsn1>, Ref<'_, GeneralizedTimeAsn1>>
+    ensures { result ≡ time_parts value.now }
 {
     match value {
-        Time::Utc(time) => Choice::First(time),
-        Time::Generalized(time) => Choice::Second(time),
+        Time::Utc(time) => Choice::First(Ref(time)),
+        Time::Generalized(time) => Choice::Second(Ref(time)),
     }
 }
 
 impl ToDer for Time {
     ghost strict = { λ v. time_base.strict (time_parts v) };
 
-    fn encoded_len(&self) -> Result<usize, TooLong> {
-        written(self).encoded_len()
-    }
-
-    fn write_back(&self, out: &mut [u8]) -> usize {
-        written(self).write_back(out)
+    fn put<O: Output>(&self, out: &mut [u8], at: usize) -> Result<usize, TooLong> {
+        written(self).put::<O>(out, at)
     }
 }
 

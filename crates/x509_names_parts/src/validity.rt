@@ -1,6 +1,6 @@
 //! The times between which a certificate is valid.
 
-ghost use Rattle.std.specs.Prelude.{refl};
+ghost use Rattle.std.specs.Prelude.{◌≡◌, refl};
 ghost use Rattle.x509_der.specs.laws.Structure.{structure_lawful, structure_element};
 ghost use Rattle.x509_names_parts.specs.Validities.{validity_parts, validity_base, validity as validities};
 ghost use Rattle.x509_names_parts.specs.facts.Validities.{validity_same};
@@ -8,8 +8,8 @@ ghost use Rattle.x509_names_parts.specs.facts.Validities.{validity_same};
 use crate::time::Time;
 use std::alloc::Allocator;
 use x509_der::parts::{
-    Field, Join, Reader, SEQUENCE_TAG, Sequence, Structure, Tagged, element_len, read_sequence,
-    write_element,
+    Field, Join, One, Output, Reader, Ref, SEQUENCE_TAG, Sequence, Structure, Tagged, put_element,
+    read_sequence,
 };
 use x509_der::{CloneEq, FromDer, ReadError, SameEq, ToDer, TooLong};
 
@@ -39,17 +39,20 @@ impl SameEq for Validity {
 }
 
 /// The fields in the SEQUENCE.
-type Inner = Join<Time, Time>;
+type Inner = Join<Time, One<Time>>;
+
+/// The fields, borrowed.
+fn borrowed(value: &Validity) -> Join<Ref<'_, Time>, One<Ref<'_, Time>>>
+    ensures { result ≡ validity_parts value.now }
+{
+    Join(Ref(&value.not_before), One(Ref(&value.not_after)))
+}
 
 impl ToDer for Validity {
     ghost strict = { λ v. validity_base.strict (validity_parts v) };
 
-    fn encoded_len(&self) -> Result<usize, TooLong> {
-        element_len(SEQUENCE_TAG, &Join(&self.not_before, &self.not_after))
-    }
-
-    fn write_back(&self, out: &mut [u8]) -> usize {
-        write_element(SEQUENCE_TAG, &Join(&self.not_before, &self.not_after), out)
+    fn put<O: Output>(&self, out: &mut [u8], at: usize) -> Result<usize, TooLong> {
+        put_element::<O, _>(SEQUENCE_TAG, &borrowed(self), out, at)
     }
 }
 
@@ -57,7 +60,7 @@ impl Structure<Inner> for Validity {
     ghost fields = { validity_parts };
 
     fn from_fields(parts: Inner) -> Self {
-        let Join(not_before, not_after) = parts;
+        let Join(not_before, One(not_after)) = parts;
         Validity {
             not_before,
             not_after,

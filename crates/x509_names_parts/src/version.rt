@@ -9,7 +9,7 @@ ghost use Rattle.x509_names_parts.specs.Versions.{version_number, version_of, ve
 ghost use Rattle.x509_names_parts.specs.facts.Versions.{version_is, version_keeps};
 
 use std::alloc::Allocator;
-use x509_der::parts::{Field, INTEGER_TAG, Reader, View, WholeDeviations, read_viewed};
+use x509_der::parts::{Field, INTEGER_TAG, Output, Reader, View, WholeDeviations, read_viewed};
 use x509_der::{CloneEq, FromDer, ReadError, SameEq, ToDer, TooLong};
 
 /// The version of a certificate (RFC 5280, 4.1.2.1).
@@ -72,12 +72,8 @@ impl SameEq for Version {
 impl ToDer for Version {
     ghost strict = { λ v. version.strict v };
 
-    fn encoded_len(&self) -> Result<usize, TooLong> {
-        self.number().encoded_len()
-    }
-
-    fn write_back(&self, out: &mut [u8]) -> usize {
-        self.number().write_back(out)
+    fn put<O: Output>(&self, out: &mut [u8], at: usize) -> Result<usize, TooLong> {
+        self.number().put::<O>(out, at)
     }
 }
 

@@ -1,14 +1,14 @@
 //! What the two types of times have in common.
 
-ghost use Rattle.std.specs.Prelude.{◌≡◌, ◌+◌, ◌≤◌, ◌↔◌, ◌++◌, ℕ, List, length, take, IsTrue, SomeIff, IfSome, IfNone};
+ghost use Rattle.std.specs.Prelude.{◌≡◌, ◌↔◌, ℕ, List, IsTrue, SomeIff, IfSome, IfNone};
 ghost use Rattle.x509_der.specs.Element.{form_bit};
 ghost use Rattle.x509_der.specs.laws.PrimitiveContent.{IsPlain};
 ghost use Rattle.x509_prim_parts.specs.Calendar.{Moment, IsMoment, moment};
 
 use crate::calendar::DateTime;
 use std::marker::{Model, PhantomData};
-use x509_der::parts::Tag;
-use x509_der::{CloneEq, SameEq};
+use x509_der::parts::{Output, Tag};
+use x509_der::{CloneEq, SameEq, TooLong};
 
 /// The years of a type of times, at the level of types, with the type's tag and its texts.
 pub trait Years: Tag {
@@ -36,16 +36,13 @@ pub trait Years: Tag {
         ensures some { IfSome result (λ t. says t content.now) }
         ensures none { IfNone result ((t : Moment) → says t content.now → ⊥) };
 
-    /// How long the text of a second is.
-    fn text_len(moment: &DateTime) -> usize
-        ensures { result ≡ length (text moment.now) };
-
-    /// Fills the end of a slice that is long enough with the text of a second, and answers where it begins. The bytes
-    /// before it are unchanged. Takes no memory.
-    fn write_text(moment: &DateTime, out: &mut [u8]) -> usize
-        requires { length (text moment.now) ≤ length out.old }
-        ensures start { result + length (text moment.now) ≡ length out.old }
-        ensures bytes { out.new ≡ take result out.old ++ text moment.now };
+    /// Puts the text of a second in front of a place, to be counted or written. Takes no memory.
+    ///
+    /// # Errors
+    /// `TooLong`, exactly where more is counted than the greatest `usize`.
+    fn put_text<O: Output>(moment: &DateTime, out: &mut [u8], at: usize) -> Result<usize, TooLong>
+        requires { O.fits (text moment.now) out.old at }
+        ensures { O.puts (text moment.now) out.old at out.new result };
 
     /// The tag is a primitive one.
     ghost primitive: { form_bit Self.BYTE ≡ 0 };

@@ -7,7 +7,7 @@ use super::checks::{is_so, same, same_bytes};
 use refusing::{Refusing, Turn, in_turn};
 use std::alloc::{Allocator, Global};
 use std::process::Abort;
-use x509_der::parts::{FirstField, Join, Optional, Structure, read_first_field};
+use x509_der::parts::{FirstField, Join, One, Optional, Structure, read_first_field};
 use x509_der::{Deviation, Deviations, ReadError};
 use x509_keys::RawAlgorithmIdentifier;
 
@@ -22,13 +22,13 @@ struct Pair<A: Allocator> {
 }
 
 /// The fields of a pair.
-type Both<A> = Join<RawAlgorithmIdentifier<A>, RawAlgorithmIdentifier<A>>;
+type Both<A> = Join<RawAlgorithmIdentifier<A>, One<RawAlgorithmIdentifier<A>>>;
 
 impl<A: Allocator> Structure<Both<A>> for Pair<A> {
     ghost fields = { λ v. (v.first, v.second) };
 
     fn from_fields(parts: Both<A>) -> Self {
-        let Join(first, second) = parts;
+        let Join(first, One(second)) = parts;
         Pair { first, second }
     }
 
@@ -65,7 +65,7 @@ fn pair_of<A: Allocator + Copy>(
     alloc: A,
     bytes: &[u8],
 ) -> Result<FirstField<'_, Pair<A>>, ReadError> {
-    read_first_field::<Pair<A>, RawAlgorithmIdentifier<A>, RawAlgorithmIdentifier<A>, A>(
+    read_first_field::<Pair<A>, RawAlgorithmIdentifier<A>, One<RawAlgorithmIdentifier<A>>, A>(
         alloc, bytes,
     )
 }
@@ -177,13 +177,13 @@ struct Flagged<A: Allocator> {
 }
 
 /// The fields of a flag.
-type WithFlag<A> = Join<Optional<RawAlgorithmIdentifier<A>>, bool>;
+type WithFlag<A> = Join<Optional<RawAlgorithmIdentifier<A>>, One<bool>>;
 
 impl<A: Allocator> Structure<WithFlag<A>> for Flagged<A> {
     ghost fields = { λ v. (v.algorithm, v.flag) };
 
     fn from_fields(parts: WithFlag<A>) -> Self {
-        let Join(Optional(algorithm), flag) = parts;
+        let Join(Optional(algorithm), One(flag)) = parts;
         Flagged { algorithm, flag }
     }
 
@@ -195,7 +195,7 @@ fn flagged_of<A: Allocator + Copy>(
     alloc: A,
     bytes: &[u8],
 ) -> Result<FirstField<'_, Flagged<A>>, ReadError> {
-    read_first_field::<Flagged<A>, Optional<RawAlgorithmIdentifier<A>>, bool, A>(alloc, bytes)
+    read_first_field::<Flagged<A>, Optional<RawAlgorithmIdentifier<A>>, One<bool>, A>(alloc, bytes)
 }
 
 /// It is a flag that is set, with no deviation, and in front of it an algorithm with these bytes, or none.

@@ -4,7 +4,7 @@ use super::Heap;
 use refusing::{Refusing, Turn, in_turn};
 use std::alloc::Global;
 use std::process::Abort;
-use x509_der::parts::{ContentOf, ContextConstructed, ContextPrimitive, OneTag, TagOf, Tagged};
+use x509_der::parts::{ContextConstructed, ContextPrimitive, OneTag, TagOf, Tagged};
 use x509_der::{
     Asn1SequenceOf, Asn1SetOf, BitStringAsn1Container, IntegerAsn1, OctetStringAsn1Container,
     ReadError, from_bytes,
@@ -38,11 +38,8 @@ fn content_turn<A: Heap, N: TagOf<T::Form> + Drop, T: OneTag<A> + PartialEq>(
     bytes: &[u8],
     stated: &T,
 ) -> Turn {
-    match from_bytes::<Tagged<N, ContentOf<T>>, A>(heap, bytes) {
-        Ok(element) => {
-            let ContentOf(value) = element.into_inner();
-            Turn::right(value == *stated)
-        }
+    match from_bytes::<Tagged<N, T>, A>(heap, bytes) {
+        Ok(element) => Turn::right(element.into_inner() == *stated),
         Err(ReadError::OutOfMemory) => Turn::Refused,
         Err(_other) => Turn::Wrong,
     }

@@ -1,14 +1,12 @@
 //! Numbers in base 128, and the content of an object identifier that they make.
 
-ghost use Rattle.std.specs.Prelude.{◌≡◌, ◌+◌, ◌≤◌, ◌++◌, ◌∷◌, length, take};
+ghost use Rattle.std.specs.Prelude.{◌≡◌, ◌+◌, ◌≤◌, ◌++◌, ◌∷◌, length, take, drop};
 ghost use Rattle.std.specs.List.{flat_map};
 ghost use Rattle.x509_der_parts.specs.Writing.{Measures};
 ghost use Rattle.x509_der.specs.ObjectIdentifier.{IsLawful, septets, high_digits, spelled_numbers, oid_content};
 
 use std::marker::Model;
 use x509_der_parts::errors::TooLong;
-use x509_der_parts::parts::write_before;
-use x509_der_parts::traits::ToDer;
 
 /// A number in base 128, the highest digit first, with the top bit on each digit but the last (X.690, 8.19.2).
 #[derive(Drop)]
@@ -47,17 +45,33 @@ fn write_high(number: u64, out: &mut [u8]) -> usize
     write_high(number / 128, &mut out[..last])
 }
 
-impl ToDer for Septets {
-    ghost strict = { λ v. septets v };
-
-    fn encoded_len(&self) -> Result<usize, TooLong> {
-        Ok(high_len(self.0 / 128) + 1)
+impl Septets {
+    /// How many digits the number has.
+    fn len(&self) -> usize
+        ensures { result ≡ length (septets self.now) }
+    {
+        high_len(self.0 / 128) + 1
     }
 
-    fn write_back(&self, out: &mut [u8]) -> usize {
+    /// Writes the digits to the end of a slice, and answers where they begin.
+    fn write_back(&self, out: &mut [u8]) -> usize
+        requires { length (septets self.now) ≤ length out.old }
+        ensures start { result + length (septets self.now) ≡ length out.old }
+        ensures bytes { out.new ≡ take result out.old ++ septets self.now }
+    {
         let last = out.len() - 1;
         out[last] = (self.0 % 128) as u8;
         write_high(self.0 / 128, &mut out[..last])
+    }
+
+    /// Writes the digits in front of what was written from a place on, and answers where they begin.
+    fn write_before(&self, out: &mut [u8], end: usize) -> usize
+        requires end { end ≤ length out.old }
+        requires room { length (septets self.now) ≤ end }
+        ensures start { result + length (septets self.now) ≡ end }
+        ensures bytes { out.new ≡ take result out.old ++ (septets self.now ++ drop end out.old) }
+    {
+        self.write_back(&mut out[..end])
     }
 }
 
@@ -67,8 +81,7 @@ fn numbers_len(numbers: &[u64]) -> Result<usize, TooLong>
 {
     let mut total: usize = 0;
     for number in numbers {
-        let len = Septets(*number).encoded_len()?;
-        let Some(sum) = total.checked_add(len) else {
+        let Some(sum) = total.checked_add(Septets(*number).len()) else {
             return Err(TooLong);
         };
         total = sum;
@@ -86,7 +99,7 @@ fn write_numbers(numbers: &[u64], out: &mut [u8]) -> usize
     let mut left = numbers.len();
     while left > 0 {
         left -= 1;
-        start = write_before(&Septets(numbers[left]), out, start);
+        start = Septets(numbers[left]).write_before(out, start);
     }
     start
 }
@@ -106,9 +119,8 @@ pub(crate) fn oid_len(arcs: &[u64]) -> Result<usize, TooLong>
     ensures { Measures (length (oid_content arcs.now)) result }
 {
     let (first, rest) = numbers_of(arcs);
-    let first = Septets(first).encoded_len()?;
     let rest = numbers_len(rest)?;
-    first.checked_add(rest).ok_or(TooLong)
+    Septets(first).len().checked_add(rest).ok_or(TooLong)
 }
 
 /// Writes the content of an object identifier to the end of a slice, and answers where it begins.
@@ -120,7 +132,7 @@ pub(crate) fn write_oid(arcs: &[u64], out: &mut [u8]) -> usize
 {
     let (first, rest) = numbers_of(arcs);
     let start = write_numbers(rest, out);
-    write_before(&Septets(first), out, start)
+    Septets(first).write_before(out, start)
 }
 
 /// Writes the content of an object identifier to a slice of its length.

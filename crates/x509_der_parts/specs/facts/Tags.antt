@@ -1,4 +1,4 @@
--- The context-specific tags (X.690, 8.1.2.4): 160 and the number where the content is constructed, else 128 and the number.
+-- Tags of one byte (X.690, 8.1.2.4): of the context-specific class 160 and the number where the content is constructed, else 128 and the number; of the universal class the number where the content is primitive.
 use Rattle.std.proofs.Common.{◌≡◌, ap, ℕ, ◌+◌, ◌<◌, ◌%◌, true, not, arith, lit<}
 use Rattle.std.proofs.lemmas.Bool.{ne_eqb}
 use Rattle.std.proofs.lemmas.Nat.{mod_below}
@@ -28,3 +28,12 @@ primitive_byte n = omega (arith, mod_below n 31 (lit< tt))
 
 pub primitive_form : (n : ℕ) → form_bit (128 + n % 31) ≡ 0
 primitive_form n = let r = n % 31 in let h : r < 31 = mod_below n 31 (lit< tt) in omega (arith, h)
+
+pub universal_tag : (n : ℕ) → is_tag (n % 31) ≡ true
+universal_tag n = let r = n % 31 in let h : r < 31 = mod_below n 31 (lit< tt) in ap not (ne_eqb (r % 32) 31 (λ e. omega (arith, h, e)))
+
+pub universal_byte : (n : ℕ) → n % 31 < 256
+universal_byte n = omega (arith, mod_below n 31 (lit< tt))
+
+pub universal_form : (n : ℕ) → form_bit (n % 31) ≡ 0
+universal_form n = let r = n % 31 in let h : r < 31 = mod_below n 31 (lit< tt) in omega (arith, h)

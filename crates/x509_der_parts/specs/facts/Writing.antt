@@ -1,44 +1,29 @@
 -- Writing parts.
-use Rattle.std.proofs.Common.{◌≡◌, ℕ, zero, suc, ◌+◌, ◌≤◌, ◌<◌, ◌-◌, ◌/◌, ◌%◌, List, [], ◌∷◌, ◌++◌, length, take, drop, set, get_or, refl, sym, ap, ◌∙◌, arith, append_assoc, length-append, length-set, Result}
-use Rattle.std.proofs.lemmas.List.{take_more, take_all, drop_at, at_drop_more, append-nil, length-take-le, take-take, take-append-le, set_at}
-use Rattle.std.proofs.lemmas.List.Folds.{length-flat_map-take}
+use Rattle.std.proofs.Common.{◌≡◌, ℕ, ◌+◌, ◌≤◌, ◌<◌, ◌-◌, ◌/◌, ◌%◌, List, [], ◌∷◌, ◌++◌, length, take, drop, set, get_or, refl, sym, ap, ◌∙◌, arith, append_assoc, length-append, length-set}
+use Rattle.std.proofs.lemmas.List.{take_more, take_all, drop_at, at_drop_more, append-nil, length-take-le, take-take, take-append-le, take-append-drop, set_at}
+use Rattle.std.proofs.lemmas.Grind.{flat_map-append}
 use Rattle.std.specs.List.{flat_map}
-use Rattle.x509_der_parts.specs.declared.errors.TooLong.{TooLong}
 use Rattle.std.specs.Prelude.{◌≡◌, ℕ, ◌+◌, List, ◌++◌, length, take}
-use Rattle.x509_der_parts.specs.Element.{base, digits, element, element_size}
+use Rattle.x509_der_parts.specs.Element.{base, digits, element}
 use Rattle.x509_der_parts.specs.facts.LengthDigits.{base_zero, base_more, digits_low, digits_high}
 use Rattle.x509_der_parts.specs.facts.Lists.{same_append}
-use Rattle.x509_der_parts.specs.facts.Element.{element_length, element_sized}
-use Rattle.x509_der_parts.specs.Writing.{Measures}
 
 module _ {V : Type 0} (f : V → List ℕ) where
-  pub part_fits : (xs : List V) (i n m : ℕ) (d : V) → i < length xs → n ≡ length (flat_map f (take i xs)) → length (flat_map f xs) ≤ m → n + length (f (get_or xs i d)) ≤ m
-  part_fits xs i n m d h e k = omega (arith, length-flat_map-take f xs i d h)
-
   -- an item, and those behind it
   pub items_from : (xs : List V) (i j : ℕ) (x d : V) → i + 1 ≡ j → i < length xs → x ≡ get_or xs i d → flat_map f (drop i xs) ≡ f x ++ flat_map f (drop j xs)
   items_from xs i j x d e h g = at_drop_more (flat_map f) xs i d h ∙ ap (λ y. f y ++ flat_map f (drop (i + 1) xs)) (sym g) ∙ ap (λ k. f x ++ flat_map f (drop k xs)) e
 
-  behind_fits : (xs : List V) (i : ℕ) → length (flat_map f (drop i xs)) ≤ length (flat_map f xs)
-  behind_fits xs zero = omega arith
-  behind_fits [] (suc i) = omega arith
-  behind_fits (x ∷ xs) (suc i) = omega (arith, behind_fits xs i, length-append (f x) (flat_map f xs))
+  -- those before an item, and the others
+  pub items_parted : (xs : List V) (i : ℕ) → flat_map f xs ≡ flat_map f (take i xs) ++ flat_map f (drop i xs)
+  items_parted xs i = ap (flat_map f) (sym (take-append-drop i xs)) ∙ flat_map-append f (take i xs) (drop i xs)
 
-  pub item_fits : (xs : List V) (i j n m : ℕ) (x d : V) → i + 1 ≡ j → i < length xs → x ≡ get_or xs i d → n + length (flat_map f (drop j xs)) ≡ m → length (flat_map f xs) ≤ m → length (f x) ≤ n
-  item_fits xs i j n m x d e h g p r = omega (arith, p, r, behind_fits xs i, ap length (items_from xs i j x d e h g), length-append (f x) (flat_map f (drop j xs)))
-
-  pub items_start : (xs : List V) (i j n m k : ℕ) (x d : V) → i + 1 ≡ j → i < length xs → x ≡ get_or xs i d → n + length (flat_map f (drop j xs)) ≡ m → k + length (f x) ≡ n → k + length (flat_map f (drop i xs)) ≡ m
-  items_start xs i j n m k x d e h g p s = omega (arith, p, s, ap length (items_from xs i j x d e h g), length-append (f x) (flat_map f (drop j xs)))
-
-pub too_long : (n : ℕ) (t : ℕ) (c : List ℕ) → n ≤ length c → n ≤ length (element t c)
-too_long n t c h = omega (arith, element_length t c)
+  -- those before an item and the item, and those behind it
+  pub items_around : (xs : List V) (i j : ℕ) (x d : V) → i + 1 ≡ j → i < length xs → x ≡ get_or xs i d → flat_map f xs ≡ (flat_map f (take i xs) ++ f x) ++ flat_map f (drop j xs)
+  items_around xs i j x d e h g = items_parted xs i ∙ ap (λ r. flat_map f (take i xs) ++ r) (items_from xs i j x d e h g) ∙ sym (append_assoc (flat_map f (take i xs)) (f x) (flat_map f (drop j xs)))
 
 pub element_is : (t : ℕ) (c : List ℕ) → element t c ≡ (t ∷ digits (length c)) ++ c
 unfolding element
 element_is t c = refl
-
-pub measured : (t : ℕ) (c : List ℕ) (n : ℕ) (r : Result ℕ TooLong) → n ≡ length c → Measures (element_size n) r → Measures (length (element t c)) r
-measured t c n r e h = rw (element_sized t c, ← e) h
 
 pub low_size : (n : ℕ) → n < 128 → length (digits n) ≡ 1
 low_size n h = ap length (digits_low n h)
@@ -111,19 +96,3 @@ pub high_back : (old out : List ℕ) (len n m : ℕ) → 128 ≤ len → n + 1 �
 high_back old out len n m h e p o =
     let c : length old - m ≡ length (base len) = omega arith in
     set_before old (base len) out n m (128 + (length old - m)) e (omega arith) o ∙ ap (λ k. take n old ++ ((128 + k) ∷ base len)) c ∙ ap (λ x. take n old ++ x) (sym (digits_high len h))
-
--- an element, written in front of the end of a slice: its content first
-pub content_fits : (t : ℕ) (c : List ℕ) (k : ℕ) → length (element t c) ≤ k → length c ≤ k
-content_fits t c k h = omega (arith, element_sized t c)
-
-pub header_fits : (t : ℕ) (c : List ℕ) (len k m : ℕ) → len ≡ length c → m + length c ≡ k → length (element t c) ≤ k → 1 + length (digits len) ≤ m
-header_fits t c len k m q e h = omega (arith, element_sized t c, ap (λ n. length (digits n)) q)
-
-pub element_starts : (t : ℕ) (c : List ℕ) (len k m n : ℕ) → len ≡ length c → m + length c ≡ k → n + (1 + length (digits len)) ≡ m → n + length (element t c) ≡ k
-element_starts t c len k m n q e s = omega (arith, element_sized t c, ap (λ n. length (digits n)) q)
-
-pub element_back : (t : ℕ) (c old out front : List ℕ) (len n m : ℕ) → len ≡ length c → m ≤ length old → n + (1 + length (digits len)) ≡ m → out ≡ take m old ++ c → front ≡ take n (take m out) ++ (t ∷ digits len) → front ++ drop m out ≡ take n old ++ element t c
-element_back t c old out front len n m q l s o f =
-    slice_before (t ∷ digits len) c old out front n m (omega arith) l o f
-    ∙ ap (λ k. take n old ++ ((t ∷ digits k) ++ c)) q
-    ∙ ap (λ x. take n old ++ x) (sym (element_is t c))

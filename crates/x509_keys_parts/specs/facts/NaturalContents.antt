@@ -1,8 +1,6 @@
 -- The content of a natural number, byte by byte from its end.
-use Rattle.std.proofs.Common.{◌≡◌, ℕ, zero, suc, ◌+◌, ◌/◌, ◌%◌, ◌<◌, ◌≤◌, Bool, true, false, cond, List, [], ◌∷◌, ◌++◌, length, length-append, take, set, ⊎_elim, refl, sym, ap, ◌∙◌, arith}
+use Rattle.std.proofs.Common.{◌≡◌, ℕ, zero, suc, ◌+◌, ◌/◌, ◌%◌, ◌<◌, ◌≤◌, Bool, true, false, cond, List, [], ◌∷◌, ◌++◌, length, length-append, ⊎_elim, refl, sym, ap, ◌∙◌, arith}
 use Rattle.std.specs.Prelude.{nat_le}
-use Rattle.std.proofs.lemmas.List.{append-nil, take_all}
-use Rattle.x509_der.specs.facts.Writing.{set_before}
 use Rattle.std.proofs.lemmas.Bool.{cases_lt}
 use Rattle.std.proofs.lemmas.Bool.Decides.{nat_tests}
 use Rattle.x509_der.specs.Element.{base}
@@ -53,10 +51,3 @@ natural_more n l =
     (λ h. one_more n l h)
     (λ h. ap unsigned_content (base_more n (omega arith)) ∙ digit_behind (base (n / 256)) (n % 256) (some_digits (n / 256) (omega arith)))
     (cases_lt n 256)
-
-pub natural_length : (n : ℕ) → 128 ≤ n → length (natural_content n) ≡ length (natural_content (n / 256)) + 1
-natural_length n l = ap length (natural_more n l) ∙ length-append (natural_content (n / 256)) (n % 256 ∷ [])
-
--- a byte written at the end
-pub set_last : (out : List ℕ) (n x : ℕ) → n + 1 ≡ length out → set out n x ≡ take n out ++ x ∷ []
-set_last out n x e = set_before out [] out n (length out) x e (omega arith) (sym (append-nil (take (length out) out) ∙ take_all (length out) out (omega arith)))

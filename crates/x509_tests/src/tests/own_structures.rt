@@ -16,8 +16,8 @@ use std::marker::Model;
 use std::process::Abort;
 use x509_der::laws::fields;
 use x509_der::parts::{
-    ContentOf, ContextConstructed, ContextPrimitive, Field, Join, Optional, Reader, SEQUENCE_TAG,
-    Sequence, Structure, Tagged, known_there, read_fields,
+    ContextConstructed, ContextPrimitive, Field, Join, One, Optional, Output, Reader, Ref,
+    SEQUENCE_TAG, Sequence, Structure, Tagged, known_there, read_fields,
 };
 use x509_der::{FromDer, OctetStringAsn1, ReadError, ToDer, TooLong};
 use x509_prim::{
@@ -50,10 +50,10 @@ impl<A: Allocator> Model for Options<A> {
 type OptionNest<N, F, O> = Tagged<
     Sequence,
     Join<
-        Optional<Tagged<ContextConstructed<0>, N>>,
+        Optional<Tagged<ContextConstructed<0>, One<N>>>,
         Join<
-            Optional<Tagged<ContextConstructed<1>, F>>,
-            Optional<Tagged<ContextPrimitive<2>, ContentOf<O>>>,
+            Optional<Tagged<ContextConstructed<1>, One<F>>>,
+            One<Optional<Tagged<ContextPrimitive<2>, O>>>,
         >,
     >,
 >;
@@ -62,15 +62,15 @@ type OptionNest<N, F, O> = Tagged<
 type OwnedOptions<A> = OptionNest<u8, bool, OctetStringAsn1<A>>;
 
 /// The fields, borrowed.
-type WrittenOptions<'a, A> = OptionNest<&'a u8, &'a bool, &'a OctetStringAsn1<A>>;
+type WrittenOptions<'a, A> = OptionNest<Ref<'a, u8>, Ref<'a, bool>, Ref<'a, OctetStringAsn1<A>>>;
 
 /// The fields, to be written.
 fn written_options<A: Allocator>(value: &Options<A>) -> WrittenOptions<'_, A>
-    ensures { ⟦<WrittenOptions<'static, A> as ToDer>⟧.strict result ≡ options.strict value.now }
+    ensures { result ≡ value.now }
 {
     let rest = Join(
         Optional::borrowed_element(&value.flag),
-        Optional::borrowed_content(&value.octets),
+        One(Optional::borrowed_content(&value.octets)),
     );
     Tagged::new(Join(Optional::borrowed_element(&value.number), rest))
 }
@@ -78,12 +78,8 @@ fn written_options<A: Allocator>(value: &Options<A>) -> WrittenOptions<'_, A>
 impl<A: Allocator> ToDer for Options<A> {
     ghost strict = { λ v. options.strict v };
 
-    fn encoded_len(&self) -> Result<usize, TooLong> {
-        written_options(self).encoded_len()
-    }
-
-    fn write_back(&self, out: &mut [u8]) -> usize {
-        written_options(self).write_back(out)
+    fn put<O: Output>(&self, out: &mut [u8], at: usize) -> Result<usize, TooLong> {
+        written_options(self).put::<O>(out, at)
     }
 }
 
@@ -91,11 +87,11 @@ impl<A: Allocator> Structure<OwnedOptions<A>> for Options<A> {
     ghost fields = { λ v. v };
 
     fn from_fields(parts: OwnedOptions<A>) -> Self {
-        let Join(number, Join(flag, octets)) = parts.into_inner();
+        let Join(number, Join(flag, One(octets))) = parts.into_inner();
         Options {
-            number: number.into_field(),
-            flag: flag.into_field(),
-            octets: octets.into_value(),
+            number: number.into_value(),
+            flag: flag.into_value(),
+            octets: octets.into_inner(),
         }
     }
 
@@ -249,7 +245,7 @@ impl<A: Allocator> Model for Letter<A> {
 /// The fields, owned or borrowed.
 type LetterNest<P, I, B, T, U, G, N> = Tagged<
     Sequence,
-    Join<P, Join<I, Join<B, Join<T, Join<U, Join<G, N>>>>>>,
+    Join<P, Join<I, Join<B, Join<T, Join<U, Join<G, One<N>>>>>>>,
 >;
 
 /// The fields, owned.
@@ -265,33 +261,32 @@ type OwnedLetter<A> = LetterNest<
 
 /// The fields, borrowed.
 type WrittenLetter<'a, A> = LetterNest<
-    &'a PrintableStringAsn1<A>,
-    &'a Ia5StringAsn1<A>,
-    &'a BmpStringAsn1<A>,
-    &'a Utf8String<A>,
-    &'a UtcTimeAsn1,
-    &'a GeneralizedTimeAsn1,
-    &'a u8,
+    Ref<'a, PrintableStringAsn1<A>>,
+    Ref<'a, Ia5StringAsn1<A>>,
+    Ref<'a, BmpStringAsn1<A>>,
+    Ref<'a, Utf8String<A>>,
+    Ref<'a, UtcTimeAsn1>,
+    Ref<'a, GeneralizedTimeAsn1>,
+    Ref<'a, u8>,
 >;
 
 /// The fields, to be written.
 fn written_letter<A: Allocator>(value: &Letter<A>) -> WrittenLetter<'_, A>
-    ensures { ⟦<WrittenLetter<'static, A> as ToDer>⟧.strict result ≡ letter.strict value.now }
+    ensures { result ≡ value.now }
 {
-    let times = Join(&value.sent, Join(&value.received, &value.number));
-    let texts = Join(&value.pairs, Join(&value.text, times));
-    Tagged::new(Join(&value.printable, Join(&value.ascii, texts)))
+    let times = Join(
+        Ref(&value.sent),
+        Join(Ref(&value.received), One(Ref(&value.number))),
+    );
+    let texts = Join(Ref(&value.pairs), Join(Ref(&value.text), times));
+    Tagged::new(Join(Ref(&value.printable), Join(Ref(&value.ascii), texts)))
 }
 
 impl<A: Allocator> ToDer for Letter<A> {
     ghost strict = { λ v. letter.strict v };
 
-    fn encoded_len(&self) -> Result<usize, TooLong> {
-        written_letter(self).encoded_len()
-    }
-
-    fn write_back(&self, out: &mut [u8]) -> usize {
-        written_letter(self).write_back(out)
+    fn put<O: Output>(&self, out: &mut [u8], at: usize) -> Result<usize, TooLong> {
+        written_letter(self).put::<O>(out, at)
     }
 }
 
@@ -300,7 +295,7 @@ impl<A: Allocator> Structure<OwnedLetter<A>> for Letter<A> {
 
     fn from_fields(parts: OwnedLetter<A>) -> Self {
         let Join(printable, Join(ascii, Join(pairs, Join(text, times)))) = parts.into_inner();
-        let Join(sent, Join(received, number)) = times;
+        let Join(sent, Join(received, One(number))) = times;
         Letter {
             printable,
             ascii,

@@ -15,22 +15,22 @@ handed_on t s l old inner end new after (Err x) y n a e f = tagged_refuses t s l
 
 pub returns-then-done : goal.returns-then-done
 returns-then-done g c =
-    handed_on c.args.tag g.F.Field.shape (g.F.Field.lawful c.requires.fits) c.args.reader.now c.enter.new.self c.read-outcome.new.reader c.leave.new.self c.in_ok-after.after.now c.read-outcome.result c.requires.ready c.in_ok-after.ensures.enters c.read-outcome.ensures
-    (empty_is c.read-outcome.new.reader.rest (sym c.is_empty-done.ensures ∙ c.if-done.true)) c.leave.ensures
+    handed_on c.args.tag g.F.Content.content_shape (g.F.Content.content_lawful c.requires.fits) c.args.reader.now c.enter.new.self c.read_content-outcome.new.reader c.leave.new.self c.in_ok-after.after.now c.read_content-outcome.result c.requires.ready c.in_ok-after.ensures.enters c.read_content-outcome.ensures
+    (empty_is c.read_content-outcome.new.reader.rest (sym c.is_empty-done.ensures ∙ c.if-done.true)) c.leave.ensures
 
 pub returns-in_err-value : goal.returns-in_err-value
 returns-in_err-value g c =
-    let s = g.F.Field.shape in
+    let s = g.F.Content.content_shape in
     let p = err_from_is_err_and c.from_residual-in_err-value.result c.from_residual-in_err-value.ensures.1 in
-    rw (p.1, p.2) (tagged_refuses c.args.tag s (g.F.Field.lawful c.requires.fits) c.args.reader.now c.enter.new.self c.read-outcome.new.reader c.leave.new.self c.in_ok-after.after.now _ c.in_ok-after.ensures.enters c.in_err-value.ensures c.leave.ensures)
+    rw (p.1, p.2) (tagged_refuses c.args.tag s (g.F.Content.content_lawful c.requires.fits) c.args.reader.now c.enter.new.self c.read_content-outcome.new.reader c.leave.new.self c.in_ok-after.after.now _ c.in_ok-after.ensures.enters c.in_err-value.ensures c.leave.ensures)
 
 pub returns : goal.returns
 returns g c =
-    tagged_left_over c.args.tag g.F.Field.shape (g.F.Field.lawful c.requires.fits) c.args.reader.now c.enter.new.self c.read-outcome.new.reader c.leave.new.self c.in_ok-after.after.now c.in_ok-value.value _ (λ e. cc) c.in_ok-after.ensures.enters c.in_ok-value.ensures
-    (not_empty_is c.read-outcome.new.reader.rest (sym c.is_empty-done.ensures ∙ c.if-done.false)) c.leave.ensures
+    tagged_left_over c.args.tag g.F.Content.content_shape (g.F.Content.content_lawful c.requires.fits) c.args.reader.now c.enter.new.self c.read_content-outcome.new.reader c.leave.new.self c.in_ok-after.after.now c.in_ok-value.value _ (λ e. cc) c.in_ok-after.ensures.enters c.in_ok-value.ensures
+    (not_empty_is c.read_content-outcome.new.reader.rest (sym c.is_empty-done.ensures ∙ c.if-done.false)) c.leave.ensures
 
 pub returns-in_err-after : goal.returns-in_err-after
 returns-in_err-after g c =
-    let s = g.F.Field.shape in
+    let s = g.F.Content.content_shape in
     let p = err_from_is_err_and c.from_residual.result c.from_residual.ensures.1 in
-    rw (p.1, p.2) (tagged_wrong c.args.tag s (g.F.Field.lawful c.requires.fits) c.args.reader.now c.enter.new.self _ c.in_err-after.ensures.kind c.in_err-after.ensures.headers c.in_err-after.ensures.enters)
+    rw (p.1, p.2) (tagged_wrong c.args.tag s (g.F.Content.content_lawful c.requires.fits) c.args.reader.now c.enter.new.self _ c.in_err-after.ensures.kind c.in_err-after.ensures.headers c.in_err-after.ensures.enters)

@@ -9,4 +9,4 @@ returns g c =
     let p = c.rest-content.result.now in
     let u = c.in-Some.unused in
     let i : IsBits (used c.in_ok-bytes.bytes.items u) p = c.in-Some.ensures.some.bits ∙ ap (λ x. bit_content (used x u)) (sym c.in_ok-bytes.ensures.items) in
-    plain_accepts IsBits bit_content (λ v. Unit {0}) ⊥ bits_plain c.args.reader.now c.pass_rest.new.self p (used c.in_ok-bytes.bytes.items u) c.requires c.rest-content.ensures.all c.pass_rest.ensures i
+    plain_accepts IsBits bit_content (λ v. Unit {0}) ⊥ bits_plain c.args.reader.now c.pass_rest.new.self p (used c.in_ok-bytes.bytes.items u) c.requires.ready c.rest-content.ensures.all c.pass_rest.ensures i

@@ -3,4 +3,4 @@ use Rattle.x509_der_parts.specs.reads.PrimitiveContent.{itself_accepts}
 use Rattle.x509_der.proofs.octet_string.OctetStringAsn1Content.read_content.Goals as goal
 
 pub returns : goal.returns
-returns g c = itself_accepts (λ v. Unit {0}) c.args.reader.now c.pass_rest.new.self c.rest-bytes.result.now _ c.requires c.rest-bytes.ensures.bytes c.rest-bytes.ensures.all c.pass_rest.ensures (sym c.in_ok-octets.ensures.items) tt
+returns g c = itself_accepts (λ v. Unit {0}) c.args.reader.now c.pass_rest.new.self c.rest-bytes.result.now _ c.requires.ready c.rest-bytes.ensures.bytes c.rest-bytes.ensures.all c.pass_rest.ensures (sym c.in_ok-octets.ensures.items) tt

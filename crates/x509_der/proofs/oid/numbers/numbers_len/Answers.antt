@@ -1,15 +1,9 @@
 use Rattle.std.proofs.Common.{length, arith}
 use Rattle.std.specs.List.{flat_map}
-use Rattle.std.proofs.lemmas.Result.{err_from_is_err_and}
-use Rattle.x509_der_parts.specs.facts.Writing.{part_fits}
+use Rattle.x509_der.specs.facts.Numbers.{part_fits}
 use Rattle.x509_der.specs.ObjectIdentifier.{septets}
 use Rattle.x509_der.proofs.oid.numbers.numbers_len.Goals as goal
 
-pub returns-in_err-len : goal.returns-in_err-len
-returns-in_err-len c =
-    let p = err_from_is_err_and c.from_residual.result c.from_residual.ensures.1 in
-    rw p.1 (omega (arith, part_fits septets c.args.numbers.now c.loop-number.number-index c.loop-number.total (length (flat_map septets c.args.numbers.now)) 0 c.loop-number-test.true c.loop-number.invariant (omega arith), c.in_err-len.ensures))
-
 pub returns-in_default : goal.returns-in_default
 returns-in_default c =
-    omega (arith, part_fits septets c.args.numbers.now c.loop-number.number-index c.loop-number.total (length (flat_map septets c.args.numbers.now)) 0 c.loop-number-test.true c.loop-number.invariant (omega arith), c.in_ok-len.ensures, c.in_default.ensures)
+    omega (arith, part_fits septets c.args.numbers.now c.loop-number.number-index c.loop-number.total (length (flat_map septets c.args.numbers.now)) 0 c.loop-number-test.true c.loop-number.invariant (omega arith), c.len.ensures, c.in_default.ensures)

@@ -1,6 +1,7 @@
 use Rattle.std.proofs.Common.{◌-◌, ◌++◌, length, take, drop, get_or, arith, ap, sym, ◌∙◌, refl}
 use Rattle.std.specs.List.{flat_map}
-use Rattle.x509_der_parts.specs.facts.Writing.{items_from, item_fits, items_start, part_before}
+use Rattle.x509_der_parts.specs.facts.Writing.{items_from, part_before}
+use Rattle.x509_der.specs.facts.Numbers.{item_fits, items_start}
 use Rattle.x509_der.specs.ObjectIdentifier.{septets}
 use Rattle.x509_der.proofs.oid.numbers.write_numbers.Goals as goal
 

@@ -7,7 +7,7 @@ from_allowed-requires g c = g.Y.Years.plain.valid c.in-Some.moment c.rest.result
 pub returns : goal.returns
 returns g c =
     let y = g.Y.Years in
-    rw c.from_allowed.ensures (plain_accepts y.says y.text y.allowed (Unit {0}) y.plain c.args.reader.now c.pass_rest.new.self c.rest.result.now c.in-Some.moment c.requires c.rest.ensures.all c.pass_rest.ensures c.in-Some.ensures.some)
+    rw c.from_allowed.ensures (plain_accepts y.says y.text y.allowed (Unit {0}) y.plain c.args.reader.now c.pass_rest.new.self c.rest.result.now c.in-Some.moment c.requires.ready c.rest.ensures.all c.pass_rest.ensures c.in-Some.ensures.some)
 
 pub returns-in_default : goal.returns-in_default
 returns-in_default g c =
