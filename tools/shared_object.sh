@@ -1,10 +1,11 @@
 #!/bin/sh
 # Links the C archive into a shared object, by the toolchain's own linker and C library, so that the same archive gives the same
-# bytes on each machine.
+# bytes on each machine. Its SONAME has the major number of VERSION.
 # usage: tools/shared_object.sh ARCHIVE OUT
 set -eu
 export LC_ALL=C
 archive=$1 out=$2
+major=$(cut -d . -f 1 "$(dirname "$0")/../VERSION")
 command=$(command -v rt) || {
     echo "the toolchain's command rt isn't on the PATH: README says what is needed" >&2
     exit 1
@@ -17,6 +18,6 @@ fi
 exports=$(mktemp)
 trap 'rm -f "$exports"' EXIT
 echo '{ global: cimaroly_*; local: *; };' >"$exports"
-"$toolchain/bin/ld.lld" -shared -soname libcimaroly.so --version-script "$exports" --gc-sections --strip-all \
+"$toolchain/bin/ld.lld" -shared -soname "libcimaroly.so.$major" --version-script "$exports" --gc-sections --strip-all \
     --build-id=none -z now -z relro -z noexecstack -o "$out" \
     --whole-archive "$archive" --no-whole-archive --no-undefined "$toolchain/lib/libc.so.6"

@@ -15,7 +15,8 @@ enum column {
     SIGNED,
     FIELDS,
     EXTENSIONS,
-    COLUMNS = 14
+    FIELD = 14,
+    COLUMNS = 15
 };
 
 /* A row: its cells, the number of its kind, and its input. */

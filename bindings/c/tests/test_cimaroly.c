@@ -173,11 +173,24 @@ static void extensions_are_right(const struct row *row, const struct told *told,
     expect(told->count == count, row, "extensions", "their number");
 }
 
+/* The report of what is refused ends in the field, where one is stated. */
+static void field_is_right(const struct row *row, const char *report)
+{
+    char stated[160];
+    snprintf(stated, sizeof stated, ",\"field\":\"%s\"}", row->cells[FIELD]);
+    size_t size = strlen(report), wanted = strlen(stated);
+    if (is_text(row->cells[FIELD], "none"))
+        expect(strstr(report, "\"field\"") == NULL, row, "report", "a field where there is none");
+    else if (!is_text(row->cells[FIELD], "-"))
+        expect(size > wanted && is_text(report + size - wanted, stated), row, "report", "the field");
+}
+
 static void report_is_right(const struct row *row, const struct told *told, uint8_t *out)
 {
     char stated[64];
     snprintf(stated, sizeof stated, "\"result\":\"%s\"", row->cells[RESULT]);
     out[told->count] = '\0';
+    field_is_right(row, (const char *)out);
     expect(out[0] == '{' && out[told->count - 1] == '}', row, "report", "an object");
     expect(strstr((char *)out, stated) != NULL, row, "report", "the result");
     expect(told->count == strlen((char *)out), row, "report", "the size");
