@@ -1,13 +1,15 @@
-//! Links `libcimaroly.a`: that of the repository's `dist/`, or of the folder that
-//! `CIMAROLY_LIB_DIR` names.
+//! Links `libcimaroly.a`: that of the package's `lib/`, in the repository that of `dist/`, or that of
+//! the folder that `CIMAROLY_LIB_DIR` names.
 
 use std::env;
 use std::path::{Path, PathBuf};
 
+const ARCHIVE: &str = "libcimaroly.a";
+
 fn main() {
     println!("cargo:rerun-if-env-changed=CIMAROLY_LIB_DIR");
-    let folder = env::var_os("CIMAROLY_LIB_DIR").map_or_else(dist, PathBuf::from);
-    let archive = folder.join("libcimaroly.a");
+    let folder = env::var_os("CIMAROLY_LIB_DIR").map_or_else(packaged, PathBuf::from);
+    let archive = folder.join(ARCHIVE);
     println!("cargo:rerun-if-changed={}", archive.display());
     if !archive.is_file() {
         println!(
@@ -19,8 +21,14 @@ fn main() {
     println!("cargo:rustc-link-lib=static=cimaroly");
 }
 
-/// The folder of the repository that has what is built.
-fn dist() -> PathBuf {
+/// The folder of the package that has the archive, or that of the repository.
+fn packaged() -> PathBuf {
     let here = env::var_os("CARGO_MANIFEST_DIR").expect("cargo says where the package is");
-    Path::new(&here).join("../../dist")
+    let package = Path::new(&here);
+    let own = package.join("lib");
+    if own.join(ARCHIVE).is_file() {
+        own
+    } else {
+        package.join("../../dist")
+    }
 }

@@ -4,8 +4,9 @@
 usage: bindings/tests/make_table.py
 
 No answer comes from Cimaroly. OpenSSL says where elements stand (asn1parse), and what a certificate's names and times are; the
-package cryptography, which bytes are signed, and which extensions there are. By hand, from X.690 and the RFCs, stands below what
-each input is: which deviations it has and over which element, what its DER encoding is, and why and at which byte it is refused.
+package cryptography, which bytes are signed, and which extensions there are. By hand, from X.690 and the RFCs, stands below and
+in by_hand.py what each input is: which deviations it has and over which element, what its DER encoding is, and why, at which byte
+and in which field it is refused.
 
 The table needs to be made again only where a row is added. It wants openssl and cryptography 42 or later. README.md of this
 folder tells what the columns are.
@@ -43,6 +44,7 @@ def module_at(path, name):
 sys.dont_write_bytecode = True
 make = module_at(f"{DATA}/make.py", "make")
 rows = module_at(f"{TESTS}/program_rows.py", "program_rows")
+by_hand = module_at(f"{HERE}/by_hand.py", "by_hand")
 
 COLUMNS = [
     "name",
@@ -59,33 +61,8 @@ COLUMNS = [
     "not_before",
     "not_after",
     "values",
+    "field",
 ]
-
-# What OpenSSL made, which is in DER.
-IN_DER = {
-    "certificate_rsa.pem": "certificate",
-    "certificate_pss.pem": "certificate",
-    "certificate_ec.pem": "certificate",
-    "certificate_ed25519.pem": "certificate",
-    "request_rsa.pem": "request",
-    "request_ec.pem": "request",
-    "private_key_rsa.pem": "private-key",
-    "private_key_ec.pem": "private-key",
-    "private_key_ed25519.pem": "private-key",
-    "public_key_rsa.pem": "public-key",
-    "public_key_ec.pem": "public-key",
-    "public_key_ed25519.pem": "public-key",
-    "rsa_private_key.pem": "rsa-private-key",
-    "rsa_public_key.pem": "rsa-public-key",
-    "ec_private_key.pem": "ec-private-key",
-    # and by hand
-    "set_of_two.pem": "certificate",
-    "hostile_names.pem": "certificate",
-    "hostile_others.pem": "certificate",
-    "name.hex": "name",
-    "extensions.hex": "extensions",
-    "algorithm.hex": "algorithm",
-}
 
 # Steps to an element: the number of a part, from 0, or into the content of an OCTET STRING.
 CONTENT = "content"
@@ -158,99 +135,6 @@ PLACES = [
     # (the signature inside is complete, the one outside isn't)
     [(5, (0,)), (1, (1,))],
     [(6, (0,)), (1, (1,))],
-]
-
-# What of the program's refused rows follows from the grammar: the error's number (docs/CALLING.md) and the byte.
-REASONS = {
-    "": (2, 0),
-    "300a06082a864886f70d02": (2, 0),
-    # the identifier of a hash function without its NULL, which is wanted here
-    "300b0609608648016503040201": (2, 13),
-    "3100": (4, 0),
-    "300000": (3, 2),
-    # behind the value of an extension
-    "300d300b0603551d13040430000500": (3, 13),
-    # a second element behind a private key
-    "3015020100300506032b657004030401aaa000810200bb": (3, 19),
-    # no attributes
-    "301d30110201003000300a300506032b6570030100300506032b6570030100": (2, 21),
-    "30800000": (5, 0),
-    # extensions in a certificate of version 1
-    f"305b3049{rows.SERIAL}a30d300b30090603551d1304023000{rows.SIGNED}": (15, 2),
-}
-
-# A certificate with all that may be left out, and another without.
-FULL = (
-    "3078306ca003020102020101300506032b65703000301e170d3139313031373137343132385a170d3232313031363137343132385a300d310b3009060355"
-    "040313026162300a300506032b65700301008102070082020780a316301430120603551d130101ff040830060101ff020105300506032b6570030100"
-)
-# (the fields of its signed part; what stands around them in a certificate of version 1)
-SHORT = "020101300506032b65703000301e170d3139313031373137343132385a170d3232313031363137343132385a3000300a300506032b6570030100"
-OUTER = "300506032b6570030100"
-
-# Further inputs in DER.
-FURTHER = [
-    ("full_certificate", "certificate", FULL),
-    ("version_1", "certificate", f"3046303a{SHORT}{OUTER}"),
-    (
-        "request_attribute",
-        "request",
-        "303230260201003000300a300506032b6570030100a013301106092a864886f70d010907310413027077" + OUTER,
-    ),
-    ("private_key_with_public_key", "private-key", "3013020101300506032b657004020400a103030100"),
-    ("empty_name", "name", "3000"),
-    ("empty_extensions", "extensions", "3000"),
-    ("critical_extension", "extensions", "301430120603551d130101ff040830060101ff020105"),
-    ("unknown_algorithm", "raw-algorithm", "300c06032a030404050102030405"),
-]
-
-# An encoding of a kind, and damages of it, each by itself: the byte that is changed, what stands there then, the error's number
-# (docs/CALLING.md), and the byte that it stands at: the first of the element, or of the primitive content, that can't be read,
-# the first that is left over, or the first of the structure whose fields don't go together.
-DAMAGES = [
-    (
-        "certificate",
-        FULL,
-        [
-            ("another_tag", 0, 0x31, 4, 0),
-            ("indefinite_length", 1, 0x80, 5, 0),
-            ("longer_than_the_input", 1, 0x79, 2, 0),
-            ("last_field_cut_short", 1, 0x77, 2, 119),
-            ("no_version", 8, 0x05, 12, 6),
-            ("version_2_with_extensions", 8, 0x01, 15, 2),
-            ("serial_number_of_another_tag", 9, 0x04, 4, 9),
-            ("unknown_signature_algorithm", 18, 0x7F, 13, 14),
-            ("arc_without_end", 18, 0xF0, 9, 16),
-            ("no_digit_in_a_time", 25, 0x78, 11, 25),
-            ("month_13", 28, 0x33, 11, 25),
-            ("time_without_z", 37, 0x59, 11, 25),
-            ("star_in_a_printable_string", 66, 0x2A, 10, 66),
-            ("nine_unused_bits", 79, 0x09, 8, 79),
-            ("truth_value_of_one", 101, 0x01, 7, 101),
-            ("path_length_below_0", 111, 0x80, 6, 111),
-        ],
-    ),
-    ("name", "300d310b3009060355040313026162", [("indefinite_attribute", 5, 0x80, 5, 4), ("padded_arc", 8, 0x80, 9, 8)]),
-    (
-        "rsa-private-key",
-        "301b020100020101020102020103020104020105020106020107020108",
-        [("number_of_another_tag", 5, 0x1F, 4, 5)],
-    ),
-    ("ec-private-key", "30180201010401aaa00a06082a8648ce3d030107a10403020004", [("version_2", 4, 0x02, 12, 0)]),
-    ("private-key", "300e020100300506032b657004020400", [("version_3", 4, 0x02, 12, 0), ("key_cut_short", 15, 0x01, 2, 14)]),
-]
-
-# What else is refused: the kind, the bytes, the error's number and its byte, where these follow from the grammar.
-REFUSED = [
-    # RFC 5280, 4.1.2.8
-    ("unique_identifier_in_version_1", "certificate", f"304a303e{SHORT}81020700{OUTER}", 14, 2),
-    ("no_bytes", "certificate", "", 2, 0),
-    ("a_tag_alone", "certificate", "30", None, None),
-    ("a_tag_of_two_bytes", "certificate", "1f0100", 4, 0),
-    # docs/DIFFERENCES.md: a length of paths above 255
-    ("path_length_300", "extensions", "301530130603551d130101ff040930070101ff0202012c", 6, 21),
-    # X.690, 10.1: not the fewest digits
-    ("a_needless_length_digit", "name", "308100", 5, 0),
 ]
 
 # The fields of what has fields, by their names in cimaroly.h: the steps to the structure, and its fields in their order, each
@@ -517,9 +401,10 @@ def row_of(name, kind, given, der, places, encoding):
     return row
 
 
-def refused_row(name, kind, given, number, at):
+def refused_row(name, kind, given, number, at, field):
     error = "-" if number is None else f"{number}@{at}"
-    return dict.fromkeys(COLUMNS, "-") | {"name": name, "kind": kind, "input": given, "result": "refused", "error": error}
+    row = {"name": name, "kind": kind, "input": given, "result": "refused", "error": error, "field": field}
+    return dict.fromkeys(COLUMNS, "-") | row
 
 
 def bytes_of(name):
@@ -532,7 +417,7 @@ def bytes_of(name):
 
 
 def rows_of_files():
-    for name, kind in IN_DER.items():
+    for name, kind in by_hand.IN_DER.items():
         der = bytes_of(name)
         row = row_of(name.partition(".")[0], kind, name, der, [], der)
         # (names that a terminal obeys are printed as other text, or aren't read)
@@ -551,12 +436,12 @@ def rows_of_files():
         yield row_of(name.partition(".")[0], kind, name, bytes_of(name), places, encoding)
     # the time of month 13 is the content behind its header
     month = span_of(bytes_of("refused_month_13.pem"), (0, 4, 0))[0] + 2
-    yield refused_row("refused_month_13", "certificate", "refused_month_13.pem", 11, month)
+    yield refused_row("refused_month_13", "certificate", "refused_month_13.pem", 11, month, by_hand.NOT_BEFORE)
 
 
 def rows_of_the_program():
     """The rows that the program x509_tool is tested with."""
-    left = list(PLACES)
+    left, reasons = list(PLACES), by_hand.reasons(rows)
     for number, (kind, given, encoding, counts) in enumerate(rows.ACCEPTED):
         der, told = bytes.fromhex(given), list(map(int, counts.split()))
         places = left.pop(0) if any(told) else []
@@ -564,7 +449,7 @@ def rows_of_the_program():
         yield row_of(f"accepted_{number + 1}", kind, der.hex(), der, places, bytes.fromhex(encoding))
     for number, (kind, given) in enumerate(rows.REFUSED):
         digits = given.strip()
-        yield refused_row(f"refused_{number + 1}", kind, digits, *REASONS.get(digits, (None, None)))
+        yield refused_row(f"refused_{number + 1}", kind, digits, *reasons.get(digits, (None, None, "-")))
 
 
 def rows_by_cryptography():
@@ -578,16 +463,16 @@ def rows_by_cryptography():
 
 
 def rows_by_hand():
-    for name, kind, digits in FURTHER:
+    for name, kind, digits in by_hand.FURTHER:
         der = bytes.fromhex(digits)
         yield row_of(name, kind, digits, der, [], der)
-    for kind, digits, damages in DAMAGES:
-        for name, at, byte, number, place in damages:
+    for kind, digits, damages in by_hand.DAMAGES:
+        for name, at, byte, *told in damages:
             damaged = bytearray.fromhex(digits)
             damaged[at] = byte
-            yield refused_row(name, kind, damaged.hex(), number, place)
-    for name, kind, digits, number, place in REFUSED:
-        yield refused_row(name, kind, digits, number, place)
+            yield refused_row(name, kind, damaged.hex(), *told)
+    for it in by_hand.REFUSED:
+        yield refused_row(*it)
 
 
 def main():

@@ -14,7 +14,8 @@ from typing import Any, Optional
 
 HERE = os.path.dirname(os.path.dirname(os.path.abspath(__file__)))
 LIBRARY = "libcimaroly.so"
-TAG = "py3-none-linux_x86_64"
+TAG = "py3-none-manylinux_2_34_x86_64"
+LICENCES = ("LICENSE-APACHE", "LICENSE-MIT", "NOTICE")
 
 
 def _read(path: str) -> bytes:
@@ -30,11 +31,13 @@ def _project() -> dict[str, str]:
 
 def _metadata(project: dict[str, str]) -> bytes:
     lines = [
-        "Metadata-Version: 2.1",
+        "Metadata-Version: 2.4",
         f"Name: {project['name']}",
         f"Version: {project['version']}",
         f"Summary: {project['description']}",
         f"Requires-Python: {project['requires-python']}",
+        f"License-Expression: {project['license']}",
+        *(f"License-File: {it}" for it in LICENCES),
         "Description-Content-Type: text/markdown",
         "",
     ]
@@ -69,6 +72,7 @@ def _write(folder: str, files: dict[str, bytes]) -> str:
     stem = f"{project['name']}-{project['version']}"
     about = f"{stem}.dist-info"
     files = files | {
+        **{f"{about}/licenses/{it}": _read(f"{HERE}/../../{it}") for it in LICENCES},
         f"{about}/METADATA": _metadata(project),
         f"{about}/WHEEL": f"Wheel-Version: 1.0\nGenerator: cimaroly\nRoot-Is-Purelib: false\nTag: {TAG}\n".encode(),
     }

@@ -1,3 +1,4 @@
+# SPDX-License-Identifier: MIT OR Apache-2.0
 """X.509 structures in DER, checked, encoded and looked into by proved code.
 
     >>> import cimaroly
@@ -7,25 +8,17 @@
 
 `check` tells whether bytes encode a structure of a kind, and how they deviate from its DER encoding. `read` and `read_all`
 give a `Structure`, with its fields, its deviations, what is signed of it, its DER encoding and its report. What is refused
-raises `Refused`, which says why and at which byte.
+raises `Refused`, which says why, at which byte and in which field. `read_each` gives what came of each PEM block, and goes on
+behind those that are refused.
 
-Every call keeps to the memory of its own thread, and other threads run while it works.
+Every call keeps to the memory of its own thread, and other threads run while it works. What a call on a private key leaves in
+that memory is overwritten, and no `repr` shows the bytes of a field.
 """
 
 from ._kinds import KINDS, Deviation, Kind, Reason, Refused
-from ._pem import Block, PemError, pem_blocks
-from ._structure import (
-    Data,
-    Extension,
-    Field,
-    Place,
-    SignedPart,
-    Structure,
-    Verdict,
-    check,
-    read,
-    read_all,
-)
+from ._pem import Block, Data, PemError, pem_blocks
+from ._reading import Outcome, check, read, read_all, read_each
+from ._structure import Extension, Field, Place, SignedPart, Structure, Verdict
 
 __version__ = "0.1.0"
 
@@ -37,6 +30,7 @@ __all__ = [
     "Extension",
     "Field",
     "Kind",
+    "Outcome",
     "PemError",
     "Place",
     "Reason",
@@ -48,4 +42,5 @@ __all__ = [
     "pem_blocks",
     "read",
     "read_all",
+    "read_each",
 ]

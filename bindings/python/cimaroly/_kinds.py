@@ -3,7 +3,7 @@
 from __future__ import annotations
 
 import enum
-from typing import Literal, get_args
+from typing import Literal, Optional, get_args
 
 Kind = Literal[
     "certificate",
@@ -106,8 +106,8 @@ _REASONS = (
 class Refused(ValueError):
     """The bytes encode no value of the kind."""
 
-    def __init__(self, kind: Kind, number: int, place: int) -> None:
-        super().__init__(kind, number, place)
+    def __init__(self, kind: Kind, number: int, place: int, field: Optional[str] = None) -> None:
+        super().__init__(kind, number, place, field)
         self.kind: Kind = kind
         """As what they were read."""
         self.reason = Reason(number)
@@ -118,6 +118,9 @@ class Refused(ValueError):
         """The reason in plain words."""
         self.place = place
         """The byte, from 0, that could not be read."""
+        self.field = field
+        """The fields around that byte, from the outermost in, joined by dots; None where none has a name."""
 
     def __str__(self) -> str:
-        return f"{self.kind}: {self.name} at byte {self.place}"
+        inside = f" (in {self.field.replace('.', ', ')})" if self.field else ""
+        return f"{self.kind}: {self.name} at byte {self.place}{inside}"

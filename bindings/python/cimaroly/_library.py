@@ -3,14 +3,16 @@
 from __future__ import annotations
 
 import ctypes
+import json
 import mmap
 import os
 import threading
 from collections.abc import Callable
-from ctypes import POINTER, byref, c_bool, c_char_p, c_size_t, c_uint32, c_void_p
-from typing import Any
+from ctypes import POINTER, byref, c_bool, c_size_t, c_uint32, c_void_p
+from typing import Any, Optional
 
 from ._kinds import KINDS, Kind, Refused
+from ._secret import PRIVATE, Held, Secret
 
 OK, REFUSED, OUT_OF_MEMORY, BUFFER_TOO_SHORT, UNKNOWN_KIND, TOO_LONG = range(6)
 
@@ -23,6 +25,8 @@ _NUMBERS = {kind: number for number, kind in enumerate(KINDS, 1)}
 _KEPT = 1 << 20
 _ITEMS = 64
 _BYTES = 8192
+# More bytes than a report of what is refused has.
+_SHORT = 512
 
 
 class Span(ctypes.Structure):
@@ -113,6 +117,8 @@ _FIELDS: dict[Kind, tuple[str, type[ctypes.Structure]]] = {
     "request": ("cimaroly_request_fields", Request),
     "private-key": ("cimaroly_private_key_fields", PrivateKey),
 }
+# The calls that are for one kind, and aren't told which.
+_OF_ONE_KIND = frozenset(name for name, _ in _FIELDS.values())
 
 
 def _folder() -> str:
@@ -132,7 +138,7 @@ def _load() -> dict[str, Callable[..., int]]:
         library = ctypes.CDLL(path)
     except OSError as error:
         raise ImportError(f"the shared object of cimaroly can't be loaded (Linux on x86-64): {error}", path=path) from error
-    given = (POINTER(Memory), c_uint32, c_char_p, c_size_t)
+    given = (POINTER(Memory), c_uint32, c_void_p, c_size_t)
     buffer = (c_void_p, c_size_t, POINTER(c_size_t))
     calls: dict[str, tuple[Any, ...]] = {
         "cimaroly_check": (*given, POINTER(Verdict)),
@@ -143,7 +149,7 @@ def _load() -> dict[str, Callable[..., int]]:
         "cimaroly_report": (*given, c_bool, *buffer),
     }
     for call, fields in _FIELDS.values():
-        calls[call] = (POINTER(Memory), c_char_p, c_size_t, POINTER(fields))
+        calls[call] = (POINTER(Memory), c_void_p, c_size_t, POINTER(fields))
     loaded: dict[str, Callable[..., int]] = {}
     for name, arguments in calls.items():
         function = getattr(library, name)
@@ -165,6 +171,11 @@ class _Lent:
             raise MemoryError(f"{size} bytes") from None
         self.size = size
         self.of_library = Memory(ctypes.addressof(ctypes.c_char.from_buffer(self._map)), size)
+
+    def overwrite(self) -> None:
+        """Puts zeros in the place of what a call has left. What isn't kept goes back to the system as it is."""
+        if self.size <= _KEPT:
+            ctypes.memset(self.of_library.at, 0, self.size)
 
 
 class _Kept(threading.local):
@@ -188,27 +199,46 @@ def _lent(size: int) -> _Lent:
     return lent
 
 
-def _asked(name: str, der: bytes, *arguments: Any) -> int:
-    """The status of a call, which is given more memory until that is enough."""
+def _input(der: Held) -> Any:
+    """The place of an input, as calls take it."""
+    if isinstance(der, Secret):
+        return byref(ctypes.c_char.from_buffer(der)) if der else b""
+    return der
+
+
+def _asked(name: str, kind: Kind, der: Held, *arguments: Any) -> int:
+    """The status of a call on an input of a kind, which is given more memory until that is enough."""
     call, size = _CALLS[name], 16 * len(der) + 16384
+    numbers = () if name in _OF_ONE_KIND else (_NUMBERS[kind],)
     while True:
         lent = _lent(size)
-        status = call(byref(lent.of_library), *arguments)
+        status = call(byref(lent.of_library), *numbers, _input(der), len(der), *arguments)
+        if kind in PRIVATE:
+            lent.overwrite()
         if status != OUT_OF_MEMORY:
             return status
         size = 4 * lent.size
 
 
-def check(kind: Kind, der: bytes) -> Verdict:
+def check(kind: Kind, der: Held) -> Verdict:
     """What a check finds. Raises `Refused`."""
     verdict = Verdict()
-    status = _asked("cimaroly_check", der, _NUMBERS[kind], der, len(der), byref(verdict))
-    if status == REFUSED:
-        raise Refused(kind, verdict.error, verdict.at)
+    if _asked("cimaroly_check", kind, der, byref(verdict)) == REFUSED:
+        raise Refused(kind, verdict.error, verdict.at, _refused_in(kind, der))
     return verdict
 
 
-def _is_ok(status: int, kind: Kind, der: bytes) -> bool:
+def _refused_in(kind: Kind, der: Held) -> Optional[str]:
+    """The field in which bytes are refused, as their report tells it."""
+    try:
+        told: dict[str, Any] = json.loads(str(_written("cimaroly_report", kind, der, False, room=_SHORT), "utf-8"))
+        return told.get("field")
+    finally:
+        # (it may be a key that was taken for something else)
+        _KEPT_HERE.lent.overwrite()
+
+
+def _is_ok(status: int, kind: Kind, der: Held) -> bool:
     """Whether a call is done; False where its buffer was too short. Raises why there is no answer."""
     if status == REFUSED:
         check(kind, der)
@@ -219,60 +249,60 @@ def _is_ok(status: int, kind: Kind, der: bytes) -> bool:
     return status == OK
 
 
-def _bytes(name: str, kind: Kind, der: bytes, *further: Any) -> bytes:
-    """What a call writes to a buffer, which is as large as it is told to be."""
-    size = c_size_t(len(der) + _BYTES)
+def _written(name: str, kind: Kind, der: Held, *further: Any, room: int = 0) -> memoryview:
+    """What a call writes to a buffer, which is as large as it is told to be. It is overwritten after use."""
+    size = c_size_t(room or len(der) + _BYTES)
     while True:
-        out = bytearray(size.value)
+        out = Secret(size.value)
         at = ctypes.addressof(ctypes.c_char.from_buffer(out))
-        status = _asked(name, der, _NUMBERS[kind], der, len(der), *further, at, len(out), byref(size))
+        status = _asked(name, kind, der, *further, at, len(out), byref(size))
         if _is_ok(status, kind, der):
-            return bytes(memoryview(out)[: size.value])
+            return memoryview(out)[: size.value]
 
 
-def encode(kind: Kind, der: bytes) -> bytes:
+def encode(kind: Kind, der: Held) -> bytes:
     """The DER encoding of what the bytes encode."""
-    return _bytes("cimaroly_encode", kind, der)
+    return bytes(_written("cimaroly_encode", kind, der))
 
 
-def report(kind: Kind, der: bytes, secrets: bool) -> bytes:
-    """The JSON object that tells what stands in the bytes."""
-    return _bytes("cimaroly_report", kind, der, secrets)
+def report(kind: Kind, der: Held, secrets: bool) -> dict[str, Any]:
+    """What stands in the bytes, as docs/JSON.md tells."""
+    told: dict[str, Any] = json.loads(str(_written("cimaroly_report", kind, der, secrets), "utf-8"))
+    return told
 
 
-def _items(name: str, kind: Kind, der: bytes, item: type[ctypes.Structure]) -> list[Any]:
+def _items(name: str, kind: Kind, der: Held, item: type[ctypes.Structure]) -> list[Any]:
     """What a call writes to a buffer of items."""
     count = c_size_t(_ITEMS)
     while True:
         out = (item * count.value)()
-        given = (_NUMBERS[kind], der, len(der), out, len(out), byref(count))
-        if _is_ok(_asked(name, der, *given), kind, der):
+        if _is_ok(_asked(name, kind, der, out, len(out), byref(count)), kind, der):
             return list(out[: count.value])
 
 
-def places(kind: Kind, der: bytes) -> list[Place]:
+def places(kind: Kind, der: Held) -> list[Place]:
     """Where each deviation stands."""
     return _items("cimaroly_places", kind, der, Place)
 
 
-def extensions(kind: Kind, der: bytes) -> list[Extension]:
+def extensions(kind: Kind, der: Held) -> list[Extension]:
     """Where each extension stands."""
     return _items("cimaroly_extensions", kind, der, Extension)
 
 
-def signed_part(kind: Kind, der: bytes) -> Signed:
+def signed_part(kind: Kind, der: Held) -> Signed:
     """What the signature covers."""
     part = Signed()
-    _is_ok(_asked("cimaroly_signed_part", der, _NUMBERS[kind], der, len(der), byref(part)), kind, der)
+    _is_ok(_asked("cimaroly_signed_part", kind, der, byref(part)), kind, der)
     return part
 
 
-def fields(kind: Kind, der: bytes) -> dict[str, Span]:
+def fields(kind: Kind, der: Held) -> dict[str, Span]:
     """Where each field stands that is there."""
     if kind not in _FIELDS:
         raise ValueError(f"not for a {kind}")
     name, structure = _FIELDS[kind]
     found = structure()
-    _is_ok(_asked(name, der, der, len(der), byref(found)), kind, der)
+    _is_ok(_asked(name, kind, der, byref(found)), kind, der)
     spans = {field[0]: getattr(found, field[0]) for field in structure._fields_}
     return {field: span for field, span in spans.items() if span.end > 0}

@@ -2,17 +2,14 @@
 
 from __future__ import annotations
 
-import json
 from collections.abc import Mapping
 from functools import cached_property
-from typing import Any, NamedTuple, Optional, Union
+from typing import Any, NamedTuple, Union
 
 from . import _library
-from ._kinds import KINDS, Deviation, Kind
-from ._pem import Block, PemError, is_pem, pem_blocks
-
-Data = Union[bytes, bytearray, memoryview, str]
-"""DER or PEM. A `str` is PEM."""
+from ._kinds import Deviation, Kind
+from ._pem import viewed
+from ._secret import PRIVATE, Held, Secret
 
 
 class Verdict(NamedTuple):
@@ -43,6 +40,10 @@ class Field(NamedTuple):
     start: int
     end: int
     data: bytes
+
+    def __repr__(self) -> str:
+        # (they may be a private key's)
+        return f"Field(start={self.start}, end={self.end}, data=<{len(self.data)} bytes>)"
 
 
 class Extension(NamedTuple):
@@ -87,26 +88,45 @@ def _identifier(content: bytes) -> str:
     return ".".join(map(str, (first, arcs[0] - 40 * first, *arcs[1:])))
 
 
-def _content(der: bytes, span: Any) -> bytes:
+def _content(der: Held, span: Any) -> bytes:
     """The content of an element that was read."""
     size = der[span.start + 1]
     header = 2 if size < 128 else size - 126
-    return der[span.start + header : span.end]
+    return bytes(memoryview(der)[span.start + header : span.end])
+
+
+def checked(der: Held, kind: Kind) -> Verdict:
+    """What a check finds. Raises `Refused`, and keeps no secret then."""
+    try:
+        found = _library.check(kind, der)
+    except BaseException:
+        # (the frames of what is raised would keep it)
+        if isinstance(der, Secret):
+            der.overwrite()
+        raise
+    return Verdict(_counted(found.counts), found.headers)
 
 
 class Structure:
-    """A structure that was read. It keeps the bytes, and asks the library again for what is told of them."""
+    """A structure that was read. It keeps the bytes, and asks the library again for what is told of them.
 
-    def __init__(self, der: bytes, kind: Kind = "certificate") -> None:
+    What it keeps of a private key that came as PEM or in a `bytearray` is overwritten when the structure goes.
+    """
+
+    def __init__(self, der: Union[bytes, bytearray, memoryview], kind: Kind = "certificate") -> None:
         """Reads bytes in DER. Raises `Refused`."""
-        found = _library.check(kind, der)
-        self._der, self._kind = der, kind
-        self._verdict = Verdict(_counted(found.counts), found.headers)
+        if isinstance(der, str):
+            raise TypeError("DER is bytes, not str: read() takes PEM")
+        self._kind = kind
+        # (what is refused as something else may be a private key, too)
+        copy: Held = der if isinstance(der, (bytes, Secret)) else Secret(viewed(der))
+        self._verdict = checked(copy, kind)
+        self._der: Held = copy if kind in PRIVATE else bytes(copy)
 
     @property
     def der(self) -> bytes:
         """The bytes that were read."""
-        return self._der
+        return bytes(self._der)
 
     @property
     def kind(self) -> Kind:
@@ -130,14 +150,24 @@ class Structure:
             return ()
         return tuple(Place(Deviation(it.deviation), it.start, it.end) for it in _library.places(self._kind, self._der))
 
-    @cached_property
+    @property
     def fields(self) -> Mapping[str, Field]:
         """The fields of a certificate, a request or a private key that are there, by their names in `cimaroly.h`.
 
         Raises `ValueError` for another kind.
         """
+        return self._found_fields() if self._kind in PRIVATE else self._kept_fields
+
+    @cached_property
+    def _kept_fields(self) -> Mapping[str, Field]:
+        return self._found_fields()
+
+    def _found_fields(self) -> Mapping[str, Field]:
         found = _library.fields(self._kind, self._der)
-        return {name: Field(it.start, it.end, self._der[it.start : it.end]) for name, it in found.items()}
+        return {name: Field(it.start, it.end, self._bytes(it.start, it.end)) for name, it in found.items()}
+
+    def _bytes(self, start: int, end: int) -> bytes:
+        return bytes(memoryview(self._der)[start:end])
 
     @cached_property
     def extensions(self) -> tuple[Extension, ...]:
@@ -155,7 +185,7 @@ class Structure:
         """What the signature of a certificate or a request covers. Raises `ValueError` for another kind."""
         found = _library.signed_part(self._kind, self._der)
         start, end = found.part.start, found.part.end
-        return SignedPart(start, end, self._der[start:end], _counted(found.inside), _counted(found.outside))
+        return SignedPart(start, end, self._bytes(start, end), _counted(found.inside), _counted(found.outside))
 
     def encode(self) -> bytes:
         """The DER encoding: where no deviation stands there, the bytes that were read."""
@@ -163,8 +193,7 @@ class Structure:
 
     def report(self, *, secrets: bool = False) -> dict[str, Any]:
         """What stands there, as docs/JSON.md tells. The secret numbers of private keys are left out, unless asked for."""
-        told: dict[str, Any] = json.loads(_library.report(self._kind, self._der, secrets))
-        return told
+        return _library.report(self._kind, self._der, secrets)
 
     def __repr__(self) -> str:
         total = sum(self._verdict.counts.values())
@@ -175,58 +204,4 @@ class Structure:
         return isinstance(other, Structure) and (self._kind, self._der) == (other._kind, other._der)
 
     def __hash__(self) -> int:
-        return hash((self._kind, self._der))
-
-
-def _known(kind: str) -> None:
-    if kind not in KINDS:
-        raise ValueError(f"no kind {kind!r}: there are {', '.join(KINDS)}")
-
-
-def _blocks(data: Data, kind: Optional[Kind]) -> list[Block]:
-    """The blocks of a PEM text that are of a kind, or of any."""
-    found = list(pem_blocks(data))
-    fitting = [it for it in found if (it.kind is not None if kind is None else it.kind == kind)]
-    if not fitting:
-        labels = ", ".join(sorted({it.label for it in found})) or "none"
-        raise PemError(f"no PEM block of {'a known kind' if kind is None else 'kind ' + kind} (blocks: {labels})")
-    return fitting
-
-
-def _der(data: Data, kind: Kind) -> bytes:
-    _known(kind)
-    if isinstance(data, str):
-        return _blocks(data, kind)[0].der
-    found = bytes(data)
-    return _blocks(found, kind)[0].der if is_pem(found) else found
-
-
-def check(data: Data, kind: Kind = "certificate") -> Verdict:
-    """Whether bytes encode a structure of a kind, and how they deviate from its DER encoding.
-
-    Of PEM the first block is taken that the kind fits. Raises `Refused`, `PemError` where there is no such block, and
-    `MemoryError`.
-    """
-    found = _library.check(kind, _der(data, kind))
-    return Verdict(_counted(found.counts), found.headers)
-
-
-def read(data: Data, kind: Kind = "certificate") -> Structure:
-    """Reads one structure. Of PEM the first block is taken that the kind fits.
-
-    Raises `Refused`, `PemError` where there is no such block, and `MemoryError`.
-    """
-    return Structure(_der(data, kind), kind)
-
-
-def read_all(data: Data, kind: Optional[Kind] = None) -> list[Structure]:
-    """Reads every PEM block as the kind that its label says, or those of one kind; of DER its one structure, which is a
-    certificate where no kind is given.
-
-    Raises what `read` does. Who wants to go on behind a refused block takes the blocks from `pem_blocks`.
-    """
-    if kind is not None:
-        _known(kind)
-    if isinstance(data, str) or is_pem(bytes(data)):
-        return [Structure(it.der, it.kind) for it in _blocks(data, kind) if it.kind is not None]
-    return [Structure(bytes(data), kind or "certificate")]
+        return hash((self._kind, len(self._der) if self._kind in PRIVATE else self._der))

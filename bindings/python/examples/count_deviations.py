@@ -13,7 +13,6 @@ import collections
 import logging
 import os
 import sys
-from collections.abc import Iterator
 
 from dask.bag import from_sequence  # type: ignore[attr-defined]
 from dask.distributed import Client, LocalCluster
@@ -25,14 +24,6 @@ FILES = 200
 MOST_BYTES = 10_000_000
 
 
-def certificates(data: bytes) -> Iterator[bytes]:
-    """The certificates of a file."""
-    if b"-----BEGIN " in data:
-        yield from (it.der for it in cimaroly.pem_blocks(data) if it.kind == "certificate")
-    else:
-        yield data
-
-
 def found_in(path: str) -> collections.Counter[str]:
     """What is found in a file, each with its number."""
     found: collections.Counter[str] = collections.Counter()
@@ -41,14 +32,16 @@ def found_in(path: str) -> collections.Counter[str]:
             data = file.read(MOST_BYTES + 1)
         if len(data) > MOST_BYTES:
             return collections.Counter({"files passed over as too large": 1})
-        for der in certificates(data):
+        for it in cimaroly.read_each(data, "certificate"):
             found["certificates"] += 1
-            try:
-                for deviation, count in cimaroly.check(der).counts.items():
+            if it.structure is not None:
+                for deviation, count in it.structure.verdict.counts.items():
                     found[f"deviation: {deviation.text}"] += count
-            except cimaroly.Refused as error:
-                found[f"refused: {error.name}"] += 1
-    except (OSError, cimaroly.PemError) as error:
+            elif isinstance(it.refused, cimaroly.Refused):
+                found[f"refused: {it.refused.name}"] += 1
+            else:
+                found["blocks that could not be decoded"] += 1
+    except OSError as error:
         found[f"files that could not be read: {type(error).__name__}"] += 1
     return found
 

@@ -2,13 +2,16 @@
 
 from __future__ import annotations
 
+import array
 import base64
 import collections
 import concurrent.futures
 import contextlib
 import csv
 import json
+import mmap
 import os
+import pathlib
 import pickle
 import re
 import resource
@@ -16,6 +19,7 @@ import subprocess
 import sys
 import unittest
 import warnings
+from collections.abc import Callable
 from typing import Any
 
 try:
@@ -51,6 +55,12 @@ def table() -> list[dict[str, str]]:
 
 ROWS = table()
 READ = [it for it in ROWS if it["result"] != "refused"]
+
+
+def mmap_of(data: bytes) -> mmap.mmap:
+    found = mmap.mmap(-1, len(data))
+    found[:] = data
+    return found
 
 
 def span(text: str) -> tuple[int, int]:
@@ -100,9 +110,21 @@ class Table(unittest.TestCase):
                     error = caught.exception
                     self.assertEqual(error.kind, row["kind"])
                     self.assertEqual(error.name, error.reason.text)
-                    self.assertEqual(str(error), f"{row['kind']}: {error.name} at byte {error.place}")
+                    self.assertTrue(str(error).startswith(f"{row['kind']}: {error.name} at byte {error.place}"))
                     if row["error"] != "-":
                         self.assertEqual(f"{error.number}@{error.place}", row["error"])
+                    if row["field"] != "-":
+                        self.assertEqual(error.field or "none", row["field"])
+
+    def test_refusals_print(self) -> None:
+        """As the program prints them (docs/PROGRAMS.md)."""
+        with self.assertRaises(cimaroly.Refused) as caught:
+            cimaroly.read(file("refused_month_13.pem"))
+        error = pickle.loads(pickle.dumps(caught.exception))
+        self.assertEqual(str(error), "certificate: malformed time at byte 26 (in tbsCertificate, validity, notBefore)")
+        self.assertEqual(error.field, "tbsCertificate.validity.notBefore")
+        with self.assertRaisesRegex(cimaroly.Refused, "^name: wrong tag at byte 0$"):
+            cimaroly.read(b"1\0", "name")
 
     def test_deviations(self) -> None:
         for row in READ:
@@ -269,6 +291,35 @@ class Input(unittest.TestCase):
             cimaroly.read(file("certificate_ec.pem").replace(b"-----END", b"-----"))
         with self.assertRaisesRegex(cimaroly.PemError, "no base64"):
             cimaroly.read("-----BEGIN CERTIFICATE-----\nMII*\n-----END CERTIFICATE-----\n")
+
+    def test_what_is_no_data(self) -> None:
+        calls: list[Callable[[Any], object]] = [
+            cimaroly.check,
+            cimaroly.read,
+            cimaroly.read_all,
+            cimaroly.read_each,
+            cimaroly.pem_blocks,
+            cimaroly.Structure,
+        ]
+        with open(f"{DATA}/certificate_ec.pem", "rb") as opened:
+            for call in calls:
+                for data, text in (
+                    (7, "not int$"),
+                    (None, "not NoneType$"),
+                    ([48, 0], "not list$"),
+                    (pathlib.Path("cert.pem"), "not PosixPath: .*read_bytes"),
+                    (opened, "not BufferedReader: .*read"),
+                ):
+                    with self.assertRaisesRegex(TypeError, text):
+                        call(data)
+
+        with self.assertRaisesRegex(TypeError, "read.. takes PEM"):
+            cimaroly.Structure(file("certificate_ec.pem").decode())  # type: ignore[arg-type]
+
+    def test_any_buffer(self) -> None:
+        whole = memoryview(bytes.fromhex("0030ff00"))
+        for data in (whole[1::2], array.array("H", [0x30]), mmap_of(b"0\0")):
+            self.assertEqual(cimaroly.read(data, "name").der, b"0\0")  # type: ignore[arg-type]
 
     def test_unknown_kind(self) -> None:
         with self.assertRaisesRegex(ValueError, "no kind 'cert'"):

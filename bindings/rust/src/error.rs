@@ -2,6 +2,8 @@
 
 use core::fmt;
 
+use crate::field_path::FieldPath;
+
 /// Why a call gives no answer.
 #[derive(Clone, Copy, Debug, PartialEq, Eq)]
 #[non_exhaustive]
@@ -44,11 +46,18 @@ pub struct Refused {
     pub reason: Reason,
     /// The byte, from 0, that could not be read.
     pub at: usize,
+    /// The field around that byte, if it has a name.
+    pub field: Option<FieldPath>,
 }
 
 impl fmt::Display for Refused {
     fn fmt(&self, f: &mut fmt::Formatter<'_>) -> fmt::Result {
-        write!(f, "{} at byte {}", self.reason, self.at)
+        write!(f, "{} at byte {}", self.reason, self.at)?;
+        let Some(field) = &self.field else { return Ok(()) };
+        for (index, name) in field.names().enumerate() {
+            write!(f, "{}{name}", if index == 0 { " (in " } else { ", " })?;
+        }
+        f.write_str(")")
     }
 }
 

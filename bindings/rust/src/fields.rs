@@ -1,12 +1,23 @@
 //! Fields, which borrow from the input.
 
+use core::fmt;
 use core::ops::Range;
 
 /// A field with its tag and its length, within the input.
-#[derive(Clone, Copy, Debug, Default, PartialEq, Eq)]
+///
+/// It may be the secret of a private key, so that `{:?}` tells its place and its length, and none
+/// of its bytes.
+#[derive(Clone, Copy, Default, PartialEq, Eq)]
 pub struct Field<'a> {
     bytes: &'a [u8],
     start: usize,
+}
+
+impl fmt::Debug for Field<'_> {
+    fn fmt(&self, f: &mut fmt::Formatter<'_>) -> fmt::Result {
+        let mut told = f.debug_struct("Field");
+        told.field("range", &self.range()).field("len", &self.bytes.len()).finish_non_exhaustive()
+    }
 }
 
 impl<'a> Field<'a> {

@@ -1,3 +1,5 @@
+// SPDX-License-Identifier: MIT OR Apache-2.0
+
 //! X.509 structures in DER, checked, encoded and looked into by proved code.
 //!
 //! This crate calls `libcimaroly.a`, which is built of code whose contracts are proved; of this
@@ -27,9 +29,9 @@
 //!
 //! # Linking
 //!
-//! The build script links the archive of the repository's `dist/`, or of the folder that the
-//! variable `CIMAROLY_LIB_DIR` names. The archive is for x86-64 processors with SSE4.2, and needs
-//! `memcpy`, `memmove` and `memset` alone.
+//! The build script links the archive of the package's `lib/`, or of the folder that the variable
+//! `CIMAROLY_LIB_DIR` names. The archive is for x86-64 processors with SSE4.2, and needs `memcpy`,
+//! `memmove` and `memset` alone.
 #![no_std]
 
 #[cfg(feature = "alloc")]
@@ -38,6 +40,7 @@ extern crate alloc;
 #[cfg(feature = "alloc")]
 mod allocated;
 mod error;
+mod field_path;
 mod fields;
 mod kind;
 mod library;
@@ -49,6 +52,7 @@ pub use crate::allocated::{
     certificate, check, encode, extensions, places, private_key, report, request, signed_part,
 };
 pub use crate::error::{Error, Reason, Refused};
+pub use crate::field_path::FieldPath;
 pub use crate::fields::{Certificate, Extension, Field, PrivateKey, Request};
 pub use crate::kind::{Deviation, Kind};
 pub use crate::library::{Block, ExtensionPlaces};

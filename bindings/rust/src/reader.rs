@@ -4,6 +4,7 @@ use core::slice;
 use core::str;
 
 use crate::error::{Error, Reason, Refused};
+use crate::field_path::FieldPath;
 use crate::fields::{Certificate, Extension, Field, PrivateKey, Request};
 use crate::kind::Kind;
 use crate::library::{self, status, Block, ExtensionPlaces, Span};
@@ -12,8 +13,8 @@ use crate::told::{Place, SignedPart, Verdict};
 /// Reads inputs, in memory that it is lent. Nothing of an input is kept from one call to the next.
 ///
 /// A certificate needs some 15 times its size and a few thousand bytes, a list of many small items up
-/// to 70 times, and a report some 40 times. With too little the answer is [`Error::OutOfMemory`], and
-/// never another.
+/// to 70 times, and a report some 40 times; of what is refused the field takes a kilobyte more. With
+/// too little the answer is [`Error::OutOfMemory`], and never another.
 ///
 /// ```
 /// use cimaroly::{Block, Error, Kind, Reader, Reason};
@@ -46,7 +47,10 @@ impl<'m> Reader<'m> {
         let status = library::check(self.memory, kind as u32, der, &mut told);
         match (status, Reason::from_number(told.error)) {
             (status::OK, _) => Ok(Verdict { counts: told.counts, headers: told.headers }),
-            (status::REFUSED, Some(reason)) => Err(Error::Refused(Refused { reason, at: told.at })),
+            (status::REFUSED, Some(reason)) => {
+                let field = self.refused_in(kind, der)?;
+                Err(Error::Refused(Refused { reason, at: told.at, field }))
+            }
             _ => Err(Error::OutOfMemory),
         }
     }
@@ -193,6 +197,18 @@ impl<'m> Reader<'m> {
         let status = library::report(self.memory, kind as u32, der, secrets, out, &mut size);
         self.done(status, kind, der, size)?;
         Ok(str::from_utf8(out.get(..size).unwrap_or_default()).unwrap_or_default())
+    }
+
+    /// The field in which an input is refused, as its report tells it.
+    fn refused_in(&mut self, kind: Kind, der: &[u8]) -> Result<Option<FieldPath>, Error> {
+        // (there is room for every report that has no fields)
+        let (mut out, mut size) = ([0; 512], 0);
+        let status = library::report(self.memory, kind as u32, der, false, &mut out, &mut size);
+        match status {
+            status::OK => Ok(FieldPath::in_report(out.get(..size).unwrap_or_default())),
+            status::OUT_OF_MEMORY => Err(Error::OutOfMemory),
+            _ => Ok(None),
+        }
     }
 
     /// Why a call has no answer, if it has none.

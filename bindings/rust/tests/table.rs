@@ -3,7 +3,8 @@
 mod support;
 
 use cimaroly::{
-    Block, Counts, Deviation, Error, Extension, ExtensionPlaces, Field, Kind, Place, Reader, Reason,
+    Block, Counts, Deviation, Error, Extension, ExtensionPlaces, Field, FieldPath, Kind, Place,
+    Reader, Reason,
 };
 use support::{rows, span, Row};
 
@@ -55,10 +56,29 @@ fn refused() {
             let text = format!("{}@{}", refused.reason.number(), refused.at);
             assert_eq!(text, row.cell("error"), "{}", row.name());
         }
+        if row.cell("field") != "-" {
+            let field = refused.field.as_ref().map_or("none", FieldPath::as_str);
+            assert_eq!(field, row.cell("field"), "{}", row.name());
+        }
         let mut out = [0; 1024];
         let error = reader.encode(row.kind, &row.der, &mut out).unwrap_err();
         assert_eq!(error, Error::Refused(refused), "{}", row.name());
     });
+}
+
+/// A refusal prints as the program's does (docs/PROGRAMS.md).
+#[test]
+fn refusals_print() {
+    let rows = rows();
+    let text = |name: &str| {
+        let row = rows.iter().find(|row| row.name() == name).unwrap();
+        let mut memory = [Block::UNINIT; 1024];
+        Reader::new(&mut memory).check(row.kind, &row.der).unwrap_err().to_string()
+    };
+    let in_field = "malformed time at byte 25 (in tbsCertificate, validity, notBefore)";
+    assert_eq!(text("month_13"), in_field);
+    assert_eq!(text("key_cut_short"), "truncated element at byte 14 (in privateKey)");
+    assert_eq!(text("another_tag"), "wrong tag at byte 0");
 }
 
 #[test]
@@ -165,6 +185,25 @@ fn requests_and_private_keys() {
             same_fields(row, &fields);
         }
     });
+}
+
+/// What is printed of a private key's fields are their places, and none of their bytes.
+#[test]
+fn debug_tells_no_secret() {
+    // the seed of RFC 8032, 7.1, test 1, in PKCS #8 (RFC 8410, 7)
+    let mut der = *b"\x30\x2e\x02\x01\x00\x30\x05\x06\x03\x2b\x65\x70\x04\x22\x04\x20\
+        \x9d\x61\xb1\x9d\xef\xfd\x5a\x60\xba\x84\x4a\xf4\x92\xec\x2c\xc4\
+        \x44\x49\xc5\x69\x7b\x32\x69\x19\x70\x3b\xac\x03\x1c\xae\x7f\x60";
+    let mut memory = [Block::UNINIT; 1024];
+    let key = Reader::new(&mut memory).private_key(&der).unwrap();
+    let field = "Field { range: 12..48, len: 36, .. }";
+    assert_eq!(format!("{:?}", key.private_key), field);
+    let told = format!("{key:?} {key:#?}");
+    assert!(told.contains(field), "{told}");
+    // the same key with another secret prints the same
+    der[16..].fill(7);
+    let other = Reader::new(&mut memory).private_key(&der).unwrap();
+    assert_eq!(format!("{other:?} {other:#?}"), told);
 }
 
 #[test]

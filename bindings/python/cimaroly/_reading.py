@@ -1,0 +1,126 @@
+"""What is read of DER, and of PEM block by block."""
+
+from __future__ import annotations
+
+from collections.abc import Iterator
+from dataclasses import dataclass
+from typing import Optional, Union
+
+from ._kinds import KINDS, Kind, Refused
+from ._pem import Data, PemError, RawBlock, is_pem, raw_blocks, viewed
+from ._secret import Held, Secret
+from ._structure import Structure, Verdict, checked
+
+
+@dataclass(frozen=True)
+class Outcome:
+    """What came of one block of a PEM text, or of DER: a structure, or why there is none.
+
+    A block whose label is that of no kind has neither.
+    """
+
+    number: int
+    """The number of the block in its text, from 1."""
+    line: Optional[int]
+    """The number of the line that begins it, from 1; None for DER."""
+    label: Optional[str]
+    """What stands in this line; None for DER."""
+    kind: Optional[Kind]
+    """As what it is read; None for a label of no kind."""
+    structure: Optional[Structure] = None
+    """What was read."""
+    refused: Union[Refused, PemError, None] = None
+    """Why it is refused: `PemError` where the block itself can't be decoded."""
+
+
+def _known(kind: str) -> None:
+    if kind not in KINDS:
+        raise ValueError(f"no kind {kind!r}: there are {', '.join(KINDS)}")
+
+
+def _no_block(view: memoryview, kind: Optional[Kind]) -> PemError:
+    labels = ", ".join(sorted({it.label for it in raw_blocks(view)})) or "none"
+    return PemError(f"no PEM block of {'a known kind' if kind is None else 'kind ' + kind} (blocks: {labels})")
+
+
+def _der(data: Data, kind: Kind) -> Held:
+    """DER as it is, or what is in the first block that the kind fits."""
+    _known(kind)
+    if isinstance(data, bytes) and not is_pem(data):
+        return data
+    view = viewed(data)
+    if not (isinstance(data, str) or is_pem(view)):
+        return Secret(view)
+    for it in raw_blocks(view):
+        if it.kind == kind:
+            return it.held()
+    raise _no_block(view, kind)
+
+
+def check(data: Data, kind: Kind = "certificate") -> Verdict:
+    """Whether bytes encode a structure of a kind, and how they deviate from its DER encoding.
+
+    Of PEM the first block is taken that the kind fits. Raises `Refused`, `PemError` where there is no such block or it can't
+    be decoded, `TypeError` for what isn't data, and `MemoryError`.
+    """
+    return checked(_der(data, kind), kind)
+
+
+def read(data: Data, kind: Kind = "certificate") -> Structure:
+    """Reads one structure. Of PEM the first block is taken that the kind fits.
+
+    Raises what `check` does.
+    """
+    return Structure(_der(data, kind), kind)
+
+
+def read_each(data: Data, kind: Optional[Kind] = None) -> Iterator[Outcome]:
+    """Reads a PEM text block by block, each as the kind that its label says, and goes on behind those that are refused; with
+    a kind, the blocks of that kind alone. DER is one structure, which is a certificate where no kind is given.
+
+    Raises `TypeError` for what isn't data, and `MemoryError`. A text without blocks gives nothing.
+
+        >>> for it in cimaroly.read_each(open("bundle.pem", "rb").read()):  # doctest: +SKIP
+        ...     print(it.number, it.line, it.structure or it.refused or f"{it.label} is passed over")
+    """
+    if kind is not None:
+        _known(kind)
+    view = viewed(data)
+    if isinstance(data, str) or is_pem(view):
+        return (_outcome(it) for it in raw_blocks(view) if kind is None or it.kind == kind)
+    return iter((_outcome_of_der(data, kind or "certificate"),))
+
+
+def _outcome(block: RawBlock) -> Outcome:
+    number, line, label, kind = block.number, block.line, block.label, block.kind
+    if kind is None:
+        return Outcome(number, line, label, kind)
+    try:
+        return Outcome(number, line, label, kind, Structure(block.held(), kind))
+    except (Refused, PemError) as error:
+        # (without the frames, which keep what they read)
+        return Outcome(number, line, label, kind, refused=error.with_traceback(None))
+
+
+def _outcome_of_der(data: Union[bytes, bytearray, memoryview], kind: Kind) -> Outcome:
+    try:
+        return Outcome(1, None, None, kind, Structure(data, kind))
+    except Refused as error:
+        return Outcome(1, None, None, kind, refused=error.with_traceback(None))
+
+
+def read_all(data: Data, kind: Optional[Kind] = None) -> list[Structure]:
+    """The structures of `read_each`, where none is refused.
+
+    Raises `Refused` or `PemError` at the first that is, `PemError` where there is no block of a known kind or of this one, and
+    what `read_each` does.
+    """
+    found = []
+    for it in read_each(data, kind):
+        if it.refused is not None:
+            raise it.refused
+        if it.structure is not None:
+            found.append(it.structure)
+    if not found:
+        raise _no_block(viewed(data), kind)
+    return found
