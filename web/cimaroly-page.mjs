@@ -1,11 +1,13 @@
 // The page: takes files, text and links, and shows each structure in them.
 
-import { at, make } from "./page/dom.mjs";
+import { at, goToResult, make } from "./page/dom.mjs";
 import { Entry } from "./page/entry.mjs";
 import { fromFragment, structuresIn } from "./page/input.mjs";
 import { List } from "./page/list.mjs";
+import { PasteForm } from "./page/paste.mjs";
 import { Result } from "./page/result.mjs";
 import { SAMPLES } from "./page/samples.mjs";
+import { shown } from "./page/text.mjs";
 
 function tell(text) {
   const message = at("message");
@@ -16,13 +18,13 @@ function tell(text) {
 const loaded = import("./cimaroly.mjs");
 listSamples();
 const cimaroly = await loaded.catch((error) => {
-  tell(`What reads certificates couldn’t be loaded: ${error.message}`);
+  tell(`The certificate reader couldn’t be loaded: ${error.message}`);
   throw error;
 });
 const result = new Result(cimaroly);
 const list = new List((structure) => result.show(structure));
 
-/** Shows the structures of some inputs, each its bytes and its name. */
+/** Shows the structures of some inputs, each its bytes and its name, and goes to what is shown. */
 function take(inputs) {
   const structures = inputs.flatMap(({ name, bytes }) =>
     structuresIn(bytes).map((it) => new Entry(cimaroly, { ...it, file: name })),
@@ -30,23 +32,25 @@ function take(inputs) {
   tell("");
   document.body.classList.add("has-result");
   list.show(structures);
+  goToResult();
 }
 
 async function takeFiles(files) {
   const inputs = [];
+  const missing = [];
   for (const it of files) {
     try {
       inputs.push({ name: it.name, bytes: new Uint8Array(await it.arrayBuffer()) });
     } catch {
-      tell(`The file ${it.name} couldn’t be read.`);
+      missing.push(shown(it.name));
     }
   }
   forgetLink();
   if (inputs.length > 0) take(inputs);
+  if (missing.length > 0) tell(`Couldn’t read ${missing.join(", ")}: is it a folder?`);
 }
 
 function takeText(text) {
-  if (text.trim() === "") return;
   forgetLink();
   take([{ name: "pasted", bytes: new TextEncoder().encode(text) }]);
 }
@@ -60,7 +64,7 @@ function takeLink() {
   if (location.hash === "") return;
   const found = fromFragment(location.hash);
   if (found === null) {
-    tell("This link holds nothing that can be read. Links never hold private keys.");
+    tell("This link contains nothing that can be read. Links never contain private keys.");
     return;
   }
   document.body.classList.add("has-result");
@@ -68,8 +72,8 @@ function takeLink() {
 }
 
 async function takeSample(name) {
-  const answer = await fetch(`samples/${name}`);
-  if (!answer.ok) {
+  const answer = await fetch(`samples/${name}`).catch(() => null);
+  if (!answer?.ok) {
     tell("The sample couldn’t be loaded.");
     return;
   }
@@ -100,27 +104,21 @@ function listenToFiles() {
     over(0);
     const { files } = event.dataTransfer;
     if (files.length > 0) takeFiles([...files]);
-    else takeText(event.dataTransfer.getData("text"));
+    else takeAnyText(event.dataTransfer.getData("text"));
   });
 }
 
+function takeAnyText(text) {
+  if (text.trim() !== "") takeText(text);
+}
+
 function listenToText() {
-  const form = at("paste");
-  at("paste-open").addEventListener("click", () => {
-    form.hidden = !form.hidden;
-    at("paste-open").setAttribute("aria-expanded", String(!form.hidden));
-    if (!form.hidden) at("pasted").focus();
-  });
-  form.addEventListener("submit", (event) => {
-    event.preventDefault();
-    takeText(at("pasted").value);
-    at("pasted").value = "";
-  });
+  new PasteForm(takeText).listen();
   addEventListener("paste", (event) => {
     if (event.target.closest?.("textarea, input")) return;
     const { files } = event.clipboardData;
     if (files.length > 0) takeFiles([...files]);
-    else takeText(event.clipboardData.getData("text"));
+    else takeAnyText(event.clipboardData.getData("text"));
   });
 }
 
@@ -134,7 +132,7 @@ function listSamples() {
 listenToFiles();
 listenToText();
 at("module").textContent = cimaroly.isLowered
-  ? "This browser has no 64-bit memories, so the module was lowered to 32 bits: a translation that no proof covers."
+  ? "This browser has no 64-bit WebAssembly memory, so a 32-bit translation of the library is used, which the proofs don’t cover."
   : "";
 addEventListener("hashchange", takeLink);
 takeLink();

@@ -65,9 +65,9 @@ function boundary(line, word) {
 // The block that an END line closes: its bytes, or why there are none.
 function closed(open, label) {
   const block = { label: open.label, line: open.line };
-  if (label !== open.label) return { ...block, reason: "the END line has another label than the BEGIN line" };
+  if (label !== open.label) return { ...block, reason: "the labels of the BEGIN and END lines differ" };
   const bytes = fromBase64(open.text.join(""));
-  return bytes ? { ...block, bytes } : { ...block, reason: "the block is no base64" };
+  return bytes ? { ...block, bytes } : { ...block, reason: "invalid base64" };
 }
 
 /**

@@ -7,7 +7,7 @@ import { hexOf } from "./text.mjs";
 
 const SHADES = 4;
 
-// How wide a byte is, and what stands between columns, in characters (page.css).
+// How wide a byte is, and what stands between columns, in characters (style/panes.css).
 const BYTE = 2.75;
 const GAP = 1.2;
 
@@ -69,6 +69,12 @@ export class Bytes {
     this.layout = layout(inner / (character || 8), digits);
     Object.assign(this, { room, digits });
     this.container.style.setProperty("--width", this.layout.width);
+  }
+
+  /** Lays the bytes out where they were out of sight, and brings the one of the cursor into view. */
+  unhide() {
+    this.fit();
+    if (this.bytes !== undefined) this.reveal(this.cursor);
   }
 
   /** Draws all again. */

@@ -1,6 +1,6 @@
 // What is told of the selected field: where it stands, its tag, and its whole value.
 
-import { make } from "./dom.mjs";
+import { make, withTimes } from "./dom.mjs";
 import { headerLength, wholeTagName } from "./elements.mjs";
 import { lineOf } from "./fields.mjs";
 import { previewOf } from "./summary.mjs";
@@ -27,7 +27,7 @@ export class Detail {
     this.container.replaceChildren(
       this.crumbs(field),
       make("p", { class: "facts" }, factsOf(field, bytes)),
-      whole === "" ? "" : make("p", { class: `whole ${value?.kind ?? ""}` }, cut(whole)),
+      whole === "" ? "" : make("p", { class: `whole ${value?.kind ?? ""}` }, ...lines(whole, value)),
     );
   }
 
@@ -46,8 +46,13 @@ function factsOf({ start, end, node }, bytes) {
   const header = headerLength(bytes, start, end);
   const id = node.id === undefined ? "" : ` · ${node.id}`;
   const critical = node.critical === undefined ? "" : node.critical ? " · critical" : " · not critical";
-  const sizes = `${header} of header, ${counted(end - start - header, "byte")} of content`;
+  const sizes = `${header}-byte header, ${counted(end - start - header, "byte")} of content`;
   return `${wholeTagName(bytes, start)} · bytes ${start}..${end}: ${sizes}${id}${critical}`;
+}
+
+// A value as it is shown whole: a time doesn't break, unless it is text of the input.
+function lines(whole, value) {
+  return value?.kind === "text" ? [cut(whole)] : withTimes(cut(whole));
 }
 
 function cut(text) {

@@ -3,43 +3,43 @@
 const SENTENCES = new Map([
   [
     "RSA parameters absent",
-    "The algorithm identifier of an RSA key or signature ends right behind its object identifier; the DER encoding has " +
+    "The algorithm identifier of an RSA key or signature ends right after its object identifier; the DER encoding has " +
       "NULL (05 00) there.",
   ],
   [
     "algorithm parameters absent",
-    "The algorithm identifier ends right behind its object identifier; the DER encoding has NULL (05 00) there.",
+    "The algorithm identifier ends right after its object identifier; the DER encoding has NULL (05 00) there.",
   ],
   [
     "hash parameters absent",
-    "The identifier of the hash algorithm ends right behind its object identifier; the DER encoding has NULL (05 00) there.",
+    "The hash algorithm’s identifier ends right after its object identifier; the DER encoding has NULL (05 00) there.",
   ],
   [
     "salt length too large",
-    "The length of the salt is above 2^64 − 1 and is taken for that number; the DER encoding has 2^64 − 1.",
+    "The salt length is above 2^64 − 1 and is read as that number; the DER encoding has 2^64 − 1.",
   ],
-  ["default version encoded", "Version 1 is written out although it is the default; the DER encoding leaves it out."],
+  ["default version encoded", "Version 1 is spelled out, although it is the default; the DER encoding leaves it out."],
   [
     "empty extensions encoded",
-    "A list of extensions without any is written out; the DER encoding leaves the whole field out.",
+    "There is an empty list of extensions; the DER encoding leaves the whole field out.",
   ],
   [
     "default criticality encoded",
-    "That the extension isn’t critical is written out although it is the default; the DER encoding leaves FALSE out.",
+    "The extension says that it isn’t critical, although that is the default; the DER encoding leaves FALSE out.",
   ],
   [
     "authority key fields repeated or out of order",
-    "A field stands twice, or behind one with a higher tag; the DER encoding has each once, by ascending tags, with the " +
-      "value that stood last.",
+    "A field appears twice, or after one with a higher tag; the DER encoding has each field once, by ascending tag, with " +
+      "its last value.",
   ],
   [
     "general name under the other kind of tag",
-    "The name has an explicit tag where the standard has an implicit one, or the reverse; the DER encoding has the " +
-      "standard’s.",
+    "The name has an explicit tag where the standard calls for an implicit one, or vice versa; the DER encoding follows " +
+      "the standard.",
   ],
   [
     "element skipped behind a private key",
-    "Behind the key stands an element that isn’t understood, and it was skipped; the DER encoding leaves it out.",
+    "An element that isn’t understood follows the key and was skipped; the DER encoding leaves it out.",
   ],
 ]);
 

@@ -54,7 +54,7 @@ export class Entry {
       this.told ??= this.cimaroly.parseReport(this.reportText);
     } catch (error) {
       if (!isFailure(error)) throw error;
-      this.told = { result: "refused", reason: `this can't be read here: ${error.message}` };
+      this.told = { result: "refused", reason: `couldn’t be read in this browser: ${error.message}` };
     }
     return this.told;
   }
@@ -72,7 +72,7 @@ export class Entry {
 
   /** What it is called. */
   get title() {
-    return this.kind === null ? (this.label ?? "No structure") : titleOf(this.kind);
+    return this.kind === null ? (this.label ?? "Unrecognized input") : titleOf(this.kind);
   }
 
   /** Whose it is, or why it isn't read. */

@@ -5,8 +5,8 @@ import { KINDS, fromBase64, isSequence, kindOfLabel, pemBlocks } from "../pem.mj
 /** How many bytes an input may have. */
 export const LONGEST = 1 << 25;
 
-const OTHER = "the label is of no type that is read";
-const NOTHING = "there is no PEM block of a type that is read, no DER and no hexadecimal";
+const OTHER = "this type of PEM block isn’t supported";
+const NOTHING = "no PEM, DER, hexadecimal or base64 that can be read";
 
 function textOf(bytes) {
   const isUtf16 = bytes[0] === 0xff && bytes[1] === 0xfe;
@@ -34,7 +34,7 @@ function pemStructures(text) {
  * or under `reason` why there are none.
  */
 export function structuresIn(bytes) {
-  if (bytes.length > LONGEST) return [{ kind: null, outcome: "refused", reason: "it has more than 32 MB" }];
+  if (bytes.length > LONGEST) return [{ kind: null, outcome: "refused", reason: "larger than 32 MiB" }];
   if (isSequence(bytes)) return [{ bytes, kind: null }];
   const text = textOf(bytes);
   if (text.includes("-----BEGIN ")) {

@@ -1,7 +1,7 @@
 // The structures of what was taken, where they are several.
 
 import { at, make } from "./dom.mjs";
-import { clipped, counted, shown } from "./text.mjs";
+import { clipped, counted, grouped, shown } from "./text.mjs";
 
 const PAGE = 100;
 
@@ -66,9 +66,9 @@ export class List {
       this.build();
     };
     pages.replaceChildren(
-      make("button", { type: "button", disabled: this.from === 0, onclick: turn(-PAGE) }, "Earlier"),
-      ` ${this.from + 1} to ${Math.min(this.from + PAGE, length)} `,
-      make("button", { type: "button", disabled: this.from + PAGE >= length, onclick: turn(PAGE) }, "Later"),
+      make("button", { type: "button", disabled: this.from === 0, onclick: turn(-PAGE) }, "Previous"),
+      ` ${this.from + 1} to ${Math.min(this.from + PAGE, length)} of ${grouped(length)} `,
+      make("button", { type: "button", disabled: this.from + PAGE >= length, onclick: turn(PAGE) }, "Next"),
     );
   }
 }

@@ -3,10 +3,12 @@
 import { Bytes } from "./bytes.mjs";
 import { sentenceOn } from "./deviations.mjs";
 import { Detail } from "./detail.mjs";
-import { at, make, save } from "./dom.mjs";
+import { at, make, save, withTimes } from "./dom.mjs";
 import { headerLength } from "./elements.mjs";
 import { fieldOver, fieldsOf } from "./fields.mjs";
+import { Identifiers } from "./identifiers.mjs";
 import { KINDS, toBase64 } from "../pem.mjs";
+import { Sheet } from "./sheet.mjs";
 import { summaryOf, titleOf } from "./summary.mjs";
 import { clipped, counted, grouped, hexOf, shown } from "./text.mjs";
 import { Tree } from "./tree.mjs";
@@ -19,6 +21,7 @@ const LONGEST_LINK = 200_000;
 export class Result {
   constructor(cimaroly) {
     this.cimaroly = cimaroly;
+    this.identifiers = new Identifiers(cimaroly);
     this.uncovered = new Set();
     this.detail = new Detail(at("detail"), (field) => this.tree.select(field));
     this.tree = new Tree(at("tree"), {
@@ -26,12 +29,13 @@ export class Result {
       uncover: (field) => this.uncover(field),
       isUncovered: (field) => this.uncovered.has(field),
       shownNode: (field) => this.nodeOf(field),
-      hidden: () => this.hiddenHeight(),
+      hidden: () => this.sheet.height,
     });
     this.bytes = new Bytes(at("bytes"), {
       pick: (byte) => this.pick(byte),
       isCovered: (byte) => this.covered[byte] === 1,
     });
+    this.sheet = new Sheet(() => this.bytes.unhide());
     this.listen();
   }
 
@@ -70,13 +74,18 @@ export class Result {
     this.raw = structure.bytes ?? new Uint8Array(0);
     this.fields = fieldsOf(report);
     this.isRead = this.fields.length > 0;
-    if (!this.isRead && !structure.isPrivate) this.fields = elementsOf(this.raw);
+    if (!this.isRead && !structure.isPrivate) this.fields = this.elements();
     this.deviations = report.deviations ?? [];
     this.drawHead(report);
     this.drawSummary(report);
     this.listDeviations(FIRST);
     this.drawRefusal(report);
     this.drawPanes(report);
+  }
+
+  // The elements of what isn't read.
+  elements() {
+    return elementsOf(this.raw, (element) => this.identifiers.of(element));
   }
 
   drawHead(report) {
@@ -100,7 +109,7 @@ export class Result {
     const { structure } = this;
     const others = structure.kinds.filter((it) => it !== structure.kind);
     if (structure.kinds.length < 2 || others.length === 0) return;
-    this.note(`The bytes are also read as: ${others.map((it) => titleOf(it).toLowerCase()).join(", ")}.`);
+    this.note(`These bytes can also be read as: ${others.map((it) => titleOf(it).toLowerCase()).join(", ")}.`);
   }
 
   drawSummary(report) {
@@ -108,7 +117,7 @@ export class Result {
     at("origin").textContent = this.origin();
     at("summary").replaceChildren(
       ...rows.flatMap(({ label, text, at: place }) => {
-        return [make("dt", {}, label), make("dd", {}, this.linkTo(clipped(text, 2000), place))];
+        return [make("dt", {}, label), make("dd", {}, this.linkTo(label, clipped(text, 2000), place))];
       }),
     );
   }
@@ -120,8 +129,9 @@ export class Result {
     return `${size}${shown(file)}${block}`;
   }
 
-  linkTo(text, place) {
-    return make("button", { type: "button", class: "place-link", onclick: () => this.go(place) }, text);
+  linkTo(label, text, place) {
+    const parts = label === "valid" ? withTimes(text) : [text];
+    return make("button", { type: "button", class: "place-link", onclick: () => this.go(place) }, ...parts);
   }
 
   // The deviations by their kinds, in the order in which they are first met.
@@ -134,7 +144,7 @@ export class Result {
     for (const it of deviations.slice(0, most)) kinds.set(it.name, [...(kinds.get(it.name) ?? []), it]);
     at("deviation-list").replaceChildren(...Array.from(kinds, ([name, them]) => this.kindOfDeviation(name, them)));
     at("more-deviations").hidden = deviations.length <= most;
-    at("more-deviations").textContent = `Show more of ${grouped(deviations.length)}`;
+    at("more-deviations").textContent = `Show more (${grouped(deviations.length)} in all)`;
   }
 
   kindOfDeviation(name, deviations) {
@@ -170,7 +180,7 @@ export class Result {
     if (place !== undefined) where.push(`Reading stopped at byte ${grouped(place)} of ${grouped(this.raw.length)}`);
     if (field) where.push(`in ${shown(field).replaceAll(".", " › ")}`);
     const text = where.length > 0 ? `${where.join(", ")}. ` : "";
-    const rest = place === undefined ? "" : "The bytes before it are lit; those behind it were not read.";
+    const rest = place === undefined ? "" : "The highlighted bytes before it were read; the bytes after it were not.";
     at("refusal-text").textContent = text + rest;
   }
 
@@ -258,16 +268,10 @@ export class Result {
     this.light(field, field.start === start && field.end === end ? null : { start, end });
   }
 
-  // How much of the window's bottom the bytes take where they stand below the fields.
-  hiddenHeight() {
-    const raw = document.querySelector(".pane.raw");
-    return getComputedStyle(raw).bottom === "0px" ? raw.getBoundingClientRect().height : 0;
-  }
-
   whyNoLink() {
     const { structure } = this;
-    if (structure.kind === null) return "There is nothing that a link could hold.";
-    if (structure.isPrivate) return "A link never holds a private key.";
+    if (structure.kind === null) return "There is nothing to link to.";
+    if (structure.isPrivate) return "Links never contain private keys.";
     return this.raw.length > LONGEST_LINK ? "This is too large for a link." : "";
   }
 
@@ -278,9 +282,9 @@ export class Result {
     history.replaceState(null, "", `#${structure.kind}=${symbols}`);
     try {
       await navigator.clipboard.writeText(location.href);
-      this.note("The link is copied. It holds the whole structure behind #, which browsers send to no one.");
+      this.note("Link copied. It contains the whole structure, after the #, which browsers never send to a server.");
     } catch {
-      this.note("The link stands in the address bar. It holds the whole structure behind #, which browsers send to no one.");
+      this.note("The link is in the address bar. It contains the whole structure, after the #, which browsers never send to a server.");
     }
   }
 

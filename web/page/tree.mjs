@@ -80,7 +80,7 @@ export class Tree {
     const cell = make("span", { class: "value" });
     if (field.node.critical) cell.append(make("span", { class: "critical" }, "critical"), " ");
     if (field.isSecret && !this.handlers.isUncovered(field)) {
-      cell.append(make("span", { class: "cover" }, `${field.node.hidden} bytes, click to show`));
+      cell.append(make("span", { class: "cover" }, `${field.node.hidden} bytes hidden, click to show`));
       return cell;
     }
     const node = this.handlers.shownNode(field);

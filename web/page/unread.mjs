@@ -18,12 +18,15 @@ function* placesIn(bytes, start, end) {
   }
 }
 
-/** The elements of some bytes, each behind the one that it stands in; of many, the first. */
-export function elementsOf(bytes) {
+/**
+ * The elements of some bytes, each behind the one that it stands in; of many, the first. `identify` tells the `id` and the
+ * `name` of an OBJECT IDENTIFIER's element, or null.
+ */
+export function elementsOf(bytes, identify = () => null) {
   const fields = [];
   const [whole] = placesIn(bytes, 0, bytes.length);
   if (whole === undefined) return fields;
-  const waiting = [new Field({ at: whole, isElement: true }, tagName(bytes, 0), null, 0)];
+  const waiting = [new Field({ at: whole, isElement: true, identify }, tagName(bytes, 0), null, 0)];
   while (waiting.length > 0) {
     const field = waiting.pop();
     field.index = fields.length;
@@ -32,7 +35,7 @@ export function elementsOf(bytes) {
     if (!(tag & 0x20) || field.depth >= DEEPEST) continue;
     for (const place of placesIn(bytes, content, end)) {
       if (fields.length + waiting.length + field.inner.length >= MOST) break;
-      const node = { at: place, isElement: true };
+      const node = { at: place, isElement: true, identify };
       field.inner.push(new Field(node, tagName(bytes, place[0]), field, field.inner.length));
     }
     for (let at = field.inner.length - 1; at >= 0; at -= 1) waiting.push(field.inner[at]);

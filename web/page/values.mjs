@@ -121,13 +121,22 @@ function dotted(content) {
   return arcs.join(".");
 }
 
+// The same by its name, where the library knows it.
+function identified(identify, element, content) {
+  if (content.length === 0 || content[content.length - 1] & 0x80) return null;
+  const known = identify(element);
+  if (known !== null) return identifier(known);
+  return content.length <= LONGEST_IDENTIFIER ? word(dotted(content)) : null;
+}
+
 // The content of an element of what isn't read: text where its tag says so.
-function elementValue({ at: [start, end] }, bytes) {
+function elementValue({ at: [start, end], identify }, bytes) {
   const element = elementAt(bytes, start, end);
   if (element.tag & 0x20) return null;
   if (TEXT_TAGS.has(element.tag) || TIME_TAGS.has(element.tag)) return textValue(decoded(bytes, element));
   const content = bytes.subarray(element.content, end);
-  if (element.tag === 6 && content.length <= LONGEST_IDENTIFIER) return word(dotted(content));
+  const named = element.tag === 6 ? identified(identify, bytes.subarray(start, end), content) : null;
+  if (named !== null) return named;
   const value = octets(hex(content.subarray(0, MOST_BYTES)));
   return content.length > WHOLE ? { ...value, text: `${content.length} bytes, ${shortHex(value.whole)}` } : value;
 }

@@ -8,9 +8,11 @@ import { spawn } from "node:child_process";
 import { mkdirSync, writeFileSync } from "node:fs";
 import { Browser } from "./chromium.mjs";
 import { pathOf } from "./data.mjs";
-import { checks } from "./browser_checks.mjs";
+import { checks as pageChecks } from "./browser_checks.mjs";
+import { useChecks } from "./use_checks.mjs";
 
 const OUT = pathOf("web/out");
+const checks = [...pageChecks, ...useChecks];
 
 // The address of web/ by the server of python3, as README has it.
 async function serve() {

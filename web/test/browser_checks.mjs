@@ -19,7 +19,8 @@ function clean(page, address) {
   for (const it of page.requested) assert.ok(isItsOwn(it), `it asked for ${it}`);
 }
 
-async function withPage({ browser, address }, size, work) {
+/** A new page of a size, with which work is done; it must say nothing and ask for nothing from elsewhere. */
+export async function withPage({ browser, address }, size, work) {
   const page = await browser.open(address, size);
   try {
     const answer = await work(page);
@@ -32,7 +33,7 @@ async function withPage({ browser, address }, size, work) {
 
 // A covered number stands in the program's lines as one that isn't shown.
 function covered(line) {
-  return { ...line, value: line.value.replace(/^(\d+) bytes, (not shown|click to show)$/, "$1 bytes hidden") };
+  return { ...line, value: line.value.replace(/^(\d+) bytes(, not shown| hidden, click to show)$/, "$1 bytes hidden") };
 }
 
 async function sameAsProgram(page, name) {
@@ -206,7 +207,7 @@ async function links(context) {
     assert.equal(await page.run("location.hash"), "");
   });
   const page = await context.browser.open(`${context.address}#private-key=MAA`, TALL);
-  assert.match(await page.run(text("message")), /never hold private keys/);
+  assert.match(await page.run(text("message")), /never contain private keys/);
   await page.close();
 }
 
@@ -311,6 +312,9 @@ async function look({ keep }, page, what, { width, scheme }) {
 async function lookAtAll(context, size) {
   return withPage(context, size, async (page) => {
     const ratios = [await look(context, page, "start", size)];
+    await page.run(click("#paste-open"));
+    ratios.push(await look(context, page, "form", size));
+    await page.run(click("#paste-open"));
     for (const it of LOOKED_AT) {
       await page.drop(`${it}.pem`, sample(`${it}.pem`));
       await page.run("scrollTo(0, 0)");
@@ -329,6 +333,7 @@ async function looks(context) {
   for (const [width, height] of [
     [1280, 900],
     [360, 740],
+    [430, 932],
   ]) {
     for (const scheme of ["light", "dark"]) ratios.push(await lookAtAll(context, { width, height, scheme }));
   }
@@ -338,7 +343,7 @@ async function looks(context) {
 async function wholeScreenshot(context) {
   return withPage(context, { width: 1180, height: 1260 }, async (page) => {
     await page.drop("certificate_deviations.pem", sample("certificate_deviations.pem"));
-    await page.run(`document.querySelectorAll(".deviation")[0].click(); scrollTo(0, 0)`);
+    await page.run(`document.querySelectorAll(".deviation")[0].click(); document.activeElement.blur(); scrollTo(0, 0)`);
     await new Promise((resolve) => setTimeout(resolve, 200));
     await context.keep(page, "page");
   });
@@ -371,6 +376,6 @@ export const checks = [
   ["hostile inputs do no harm", hostile],
   ["reading takes no longer than drawing", times],
   ["both modules are such as the browser takes", bothModules],
-  ["all fits at 1280 and 360 pixels, and contrasts in light and dark", looks],
+  ["all fits at 1280, 430 and 360 pixels, and contrasts in light and dark", looks],
   ["a screenshot for README", wholeScreenshot],
 ];

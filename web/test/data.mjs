@@ -33,7 +33,29 @@ export function run(...words) {
 
 /** The rows of the table that the tests of every binding go over, by the names of their columns. */
 export function table() {
-  const [head, ...lines] = readFileSync(pathOf("bindings/tests/table.tsv"), "utf-8").trimEnd().split("\n");
+  return rowsOf("bindings/tests/table.tsv");
+}
+
+// The rows of a table, by the names in its head.
+function rowsOf(name) {
+  const [head, ...lines] = readFileSync(pathOf(name), "utf-8").trimEnd().split("\n");
   const names = head.split("\t");
   return lines.map((line) => Object.fromEntries(line.split("\t").map((it, index) => [names[index], it])));
+}
+
+// One arc in base 128 (X.690, 8.19.2).
+function base128(arc) {
+  const digits = [arc & 127];
+  for (let rest = Math.floor(arc / 128); rest > 0; rest = Math.floor(rest / 128)) digits.unshift((rest & 127) | 128);
+  return digits;
+}
+
+/** The object identifiers that have names, by the standards: the name and the element of each. */
+export function identifiers() {
+  const rows = [...rowsOf("tools/object_identifiers.tsv"), ...rowsOf("tools/further_names.tsv")];
+  return rows.map(({ arcs, name }) => {
+    const [first, second, ...rest] = arcs.split(".").map(Number);
+    const content = [40 * first + second, ...rest].flatMap(base128);
+    return { name, element: Uint8Array.of(6, content.length, ...content) };
+  });
 }

@@ -82,7 +82,6 @@ export const paste = (text) => `(() => {
   document.getElementById("result").dataset.result = "";
   document.getElementById("pasted").value = ${JSON.stringify(text)};
   document.querySelector("#paste [type=submit]").click();
-  document.getElementById("paste-open").click();
 })()`;
 
 /** Shows a sample. */

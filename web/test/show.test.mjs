@@ -4,10 +4,14 @@ import assert from "node:assert/strict";
 import { test } from "node:test";
 import { parseReport, report, reportText } from "../cimaroly.mjs";
 import { Entry } from "../page/entry.mjs";
+import { lineOf } from "../page/fields.mjs";
+import { Identifiers } from "../page/identifiers.mjs";
 import { structuresIn } from "../page/input.mjs";
 import { summaryOf } from "../page/summary.mjs";
+import { elementsOf } from "../page/unread.mjs";
+import { valueOf } from "../page/values.mjs";
 import * as cimaroly from "../cimaroly.mjs";
-import { DATA, PROGRAM, SAMPLES, run, sample } from "./data.mjs";
+import { DATA, PROGRAM, SAMPLES, identifiers, run, sample } from "./data.mjs";
 import { linesOf, shownOf } from "./shown.mjs";
 
 const NOT_HERE = PROGRAM === null && "the program isn't there: set CIMAROLY, or build dist/cimaroly";
@@ -44,3 +48,51 @@ for (const [name, structure] of read) {
     }
   });
 }
+
+// The OBJECT IDENTIFIERs that the page shows of what it refuses, each by its place and its text.
+function identifiersShown(bytes, names) {
+  const fields = elementsOf(bytes, (element) => names.of(element)).filter((it) => it.label === "OBJECT IDENTIFIER");
+  return fields.map((it) => {
+    const { text, whole } = valueOf(it.label, it.node, bytes);
+    assert.equal(lineOf(it, bytes), text);
+    return [`${it.start}..${it.end}`, whole];
+  });
+}
+
+// Those that the program tells of the same bytes, but for those in elements that it enters and the page doesn't.
+function identifiersTold(text) {
+  const found = text.matchAll(/^ *(\d+\.\.\d+) +OBJECT IDENTIFIER (.*)$/gm);
+  return new Map(Array.from(found, ([, place, value]) => [place, value]));
+}
+
+for (const [name, structure] of read.filter(([, it]) => it.report.result === "refused")) {
+  test(`the identifiers of ${name}`, { skip: NOT_HERE }, () => {
+    const told = identifiersTold(run("tree", `${DATA}/${name}`));
+    for (const [place, whole] of identifiersShown(structure.bytes, new Identifiers(cimaroly))) {
+      assert.equal(told.get(place), whole, place);
+    }
+  });
+}
+
+test("every identifier has the name that its standard gives it", () => {
+  const names = new Identifiers(cimaroly);
+  for (const { name, element } of identifiers()) {
+    const bytes = Uint8Array.of(0x30, element.length, ...element);
+    const [[, whole]] = identifiersShown(bytes, names);
+    assert.ok(whole.startsWith(`${name} (`), `${name}: ${whole}`);
+  }
+});
+
+test("what no identifier is stays as it stands", () => {
+  const names = new Identifiers(cimaroly);
+  const shown = (digits) => {
+    const bytes = Uint8Array.from(Buffer.from(digits, "hex"));
+    return identifiersShown(Uint8Array.of(0x30, bytes.length, ...bytes), names)[0][1];
+  };
+  // (X.690, 8.19: {2 999 3} is its example; a last byte never goes on, and there is one at least)
+  assert.equal(shown("0603883703"), "2.999.3");
+  assert.equal(shown("06028837"), "2.999");
+  assert.equal(shown("06028688"), "86:88");
+  assert.equal(shown("0600"), "0 bytes");
+  assert.equal(shown(`0614${"ff".repeat(19)}7f`), `2.${2n ** 140n - 1n - 80n}`);
+});

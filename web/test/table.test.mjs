@@ -2,6 +2,7 @@
 
 import assert from "node:assert/strict";
 import { test } from "node:test";
+import { runInNewContext } from "node:vm";
 import { KINDS, Refused, check, encode, isLowered, parseReport, read, report, reportText } from "../cimaroly.mjs";
 import { structuresIn } from "../page/input.mjs";
 import { sample, table } from "./data.mjs";
@@ -57,6 +58,10 @@ function refused(row, der) {
   const isThis = (error) =>
     error instanceof Refused && (row.error === "-" || `${error.number}@${error.at}` === row.error);
   for (const call of [check, read, encode]) assert.throws(() => call(der, row.kind), isThis);
+  if (row.field !== "-") {
+    const field = row.field === "none" ? null : row.field;
+    for (const call of [check, read, encode]) assert.throws(() => call(der, row.kind), { field });
+  }
   const told = report(der, row.kind);
   assert.equal(told.result, "refused");
   if (number) assert.equal(`${number}@${told.at}`, row.error);
@@ -105,6 +110,28 @@ test("PEM is taken as text and as bytes", () => {
   assert.throws(() => check("-----BEGIN CERTIFICATE-----\nM\n-----END CERTIFICATE-----\n"), SyntaxError);
 });
 
+test("a refusal reads as the program's does", () => {
+  const message = "malformed time at byte 26 (in tbsCertificate, validity, notBefore)";
+  assert.throws(() => read(sample("refused_month_13.pem")), { message });
+  assert.throws(() => read(fromHex("1f0100")), { message: "wrong tag at byte 0" });
+});
+
+test("what is no input is a TypeError, and no empty input", () => {
+  const wrong = [null, undefined, 7, true, {}, [48, 0], new URL("file:///cert.pem"), Symbol("pem"), () => ""];
+  for (const call of [check, read, encode, report, reportText]) {
+    for (const data of wrong) assert.throws(() => call(data, "name"), { name: "TypeError", message: /^the input must be a Uint8Array/ });
+  }
+  assert.throws(() => read(null), /not null$/);
+  assert.throws(() => read(Promise.resolve("")), /not Promise: await it first$/);
+});
+
+test("bytes are taken from every view of a buffer", () => {
+  const { buffer } = Uint8Array.of(1, 0x30, 0, 1);
+  const elsewhere = runInNewContext("Uint8Array.of(0x30, 0)");
+  const views = [new Uint8Array(buffer, 1, 2), new DataView(buffer, 1, 2), Buffer.from(buffer, 1, 2), elsewhere, elsewhere.buffer];
+  for (const view of views) assert.equal(toHex(read(view, "name").der), "3000");
+});
+
 test("a type that isn't there is told", () => {
   assert.throws(() => check(new Uint8Array(0), "crl"), TypeError);
   assert.equal(KINDS.length, 11);
@@ -112,11 +139,12 @@ test("a type that isn't there is told", () => {
 
 test("a reading keeps its bytes", () => {
   const der = structuresIn(sample("certificate_rsa.pem"))[0].bytes;
-  const given = der.slice();
-  const reading = read(given);
-  given.fill(0);
-  assert.deepEqual(reading.encode(), der);
-  assert.deepEqual(reading.bytes(reading.fields.version), fromHex("a003020102"));
+  for (const given of [der.slice(), Buffer.from(der)]) {
+    const reading = read(given);
+    given.fill(0);
+    assert.deepEqual(reading.encode(), der);
+    assert.deepEqual(reading.bytes(reading.fields.version), fromHex("a003020102"));
+  }
 });
 
 test("secret numbers are told only where they are asked for", () => {

@@ -1,6 +1,7 @@
-// What tsc makes of the types of the package: it must find nothing wrong here.
+// What tsc makes of the types of the package: it must find nothing wrong here, but where it is said that it does.
 
-import { check, encode, read, Refused, report, type Deviation, type Kind, type Span } from "cimaroly";
+import { check, encode, read, Refused, report } from "cimaroly";
+import type { CertificateFields, Deviation, FieldName, Kind, PrivateKeyFields, RequestFields, Span, Structure } from "cimaroly";
 
 export function startOfVersion(pem: string): number | undefined {
   const version: Span | undefined = read(pem).fields["version"];
@@ -11,7 +12,7 @@ export function firstDeviation(der: Uint8Array, kind: Kind): Deviation | undefin
   try {
     return check(der, kind).deviations[0];
   } catch (error) {
-    if (error instanceof Refused) throw new Error(`${error.reason} at ${error.at.toFixed()}`);
+    if (error instanceof Refused) throw new Error(`${error.reason} at ${error.at.toFixed()} in ${error.field?.split(".").join()}`);
     throw error;
   }
 }
@@ -19,3 +20,32 @@ export function firstDeviation(der: Uint8Array, kind: Kind): Deviation | undefin
 export function sizes(der: ArrayBuffer): [number, number, string] {
   return [encode(der).length, report(der, "name", { secrets: true }).length, report(der).result];
 }
+
+type Same<A, B> = (<T>() => T extends A ? 1 : 2) extends <T>() => T extends B ? 1 : 2 ? true : false;
+
+// The fields of each type are known by their names, and those that may be left out may be undefined.
+export function fieldsOfEach(der: Uint8Array, kind: Kind): Span[] {
+  const certificate = read(der);
+  const request = read(der, "request");
+  const key = read(der, "private-key");
+  const areKnown: [
+    Same<typeof certificate.fields, CertificateFields>,
+    Same<typeof request.fields, RequestFields>,
+    Same<typeof key.fields, PrivateKeyFields>,
+    Same<typeof key.kind, "private-key">,
+    Same<typeof certificate.fields.extensions, Span | undefined>,
+  ] = [true, true, true, true, true];
+  // @ts-expect-error A version 1 certificate leaves it out.
+  certificate.fields.version.start;
+  // @ts-expect-error A request has no such field.
+  request.fields.serialNumber;
+  // @ts-expect-error There is no such type.
+  read(der, "crl");
+  const any: Structure = read(der, kind);
+  const names: FieldName[] = ["subjectPKInfo", "skipped", "issuerUniqueID"];
+  const found = names.map((it) => any.fields[it]).filter((it): it is Span => it !== undefined && areKnown[0]);
+  return [certificate.fields.serialNumber, request.fields.attributes, key.fields.privateKey, ...found];
+}
+
+// @ts-expect-error A refusal's field may be null.
+export const lengthOfField = (error: Refused): number => error.field.length;

@@ -1,0 +1,19 @@
+// SPDX-License-Identifier: MIT OR Apache-2.0
+
+// Cimaroly for Node, by `import`: the library that `require` takes too, so that both have the same classes.
+
+import library from "./index.cjs";
+
+export const {
+  DEVIATIONS,
+  KINDS,
+  Refused,
+  Structure,
+  check,
+  encode,
+  isLowered,
+  parseReport,
+  read,
+  report,
+  reportText,
+} = library;
