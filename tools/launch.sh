@@ -1,12 +1,54 @@
 #!/bin/sh
 # Runs a program of the repository: the one in dist/, where that is of the sources that stand here and has its checksum, or
 # else one that was built here of them. Else it is proved and built first, which is said before.
+#
+# Checksums that were found right are taken again only after a file has changed: a record in the user's cache has the names,
+# inodes, sizes and times of all files that they depend on. The time of a file's last change (ctime) can't be set, so it shows a
+# change even where the size and the time of modification are as they were.
 # usage: tools/launch.sh NAME ARGUMENT..
 set -eu
 unset CDPATH
-root=$(dirname "$0")/..
+root=$(cd -P "${0%/*}/.." && pwd)
 name=$1
 shift
+
+# Another machine may share the files and not run the same program, so a record is of one system since its start.
+boot=
+{ read -r boot </proc/sys/kernel/random/boot_id; } 2>/dev/null || true
+cache=${XDG_CACHE_HOME:-${HOME:+$HOME/.cache}}
+case $boot:$cache in
+?*:/*) record=$cache/cimaroly/launch$root/$name ;;
+*) record= ;;
+esac
+
+# How all that the checksums depend on stands now: behind the system, a line for each file and folder. For a subshell alone.
+stamp() {
+    printf '%s\n' "$boot"
+    cd "$root" && exec find -H /lib64/ld-linux-x86-64.so.2 crates.txt crates/*/src crates/*/specs crates/*/out/"$name" \
+        crates/*/out/"$name.sources" "dist/$name" dist/SOURCES dist/SHA256SUMS tools/launch.sh tools/sources.sh \
+        tools/artifacts.txt -printf '%C@ %T@ %s %i %D %m %y %p\n' 2>/dev/null
+}
+
+# A record is the program, and how all stood when it was found right.
+if [ -f "$record" ] && [ -O "$record" ]; then
+    program=
+    read -r program <"$record" || true
+    if { printf '%s\n' "$program" && stamp; } | cmp -s - "$record"; then exec "$root/$program" "$@"; fi
+fi
+
+start=$(date +%s)
+before=$(stamp) || true
+
+# Records a program that was found right, unless something changed a second or two before it was looked for: what changes twice
+# within a tick of the clock may have one time for both.
+keep() {
+    newest=$(printf '%s\n' "$before" | awk 'NR > 1 && $1 > newest { newest = $1 } END { printf "%.0f", int(newest) }')
+    folder=${record%/*}
+    if [ -n "$record" ] && [ "$newest" -gt 0 ] && [ "$newest" -le $((start - 2)) ] && (umask 077 && mkdir -p "$folder") &&
+        [ -O "$folder" ] && new=$(mktemp "$record.XXXXXX"); then
+        { printf '%s\n' "$1" "$before" >"$new" && mv -f "$new" "$record"; } || rm -f "$new"
+    fi
+} 2>/dev/null
 
 sum() { sha256sum <"$1" | cut -d ' ' -f 1; }
 
@@ -23,26 +65,27 @@ runs() {
 
 # shellcheck disable=SC2046
 set -- $(sed -n "s/^$name \([^ ]*\) \(.*\)/\1 \2/p" "$root/tools/artifacts.txt") "$@"
-crate=$1
-built=$root/crates/$crate/$2
+built=crates/$1/$2
+sources=$("$root/tools/sources.sh" "$1")
 shift 2
-shipped=$root/dist/$name
-sources=$("$root/tools/sources.sh" "$crate")
+shipped=dist/$name
 
 if ! has "$root/dist/SOURCES" "$sources  $name"; then
     why="dist/ has none of the sources that stand here"
-elif ! { [ -f "$shipped" ] && has "$root/dist/SHA256SUMS" "$(sum "$shipped")  $name"; }; then
-    why="dist/$name doesn't have the checksum in dist/SHA256SUMS"
-elif [ ! -x "$shipped" ]; then
-    why="dist/$name isn't executable: chmod +x dist/$name mends that"
-elif ! runs "$shipped"; then
-    why="dist/$name doesn't run on this machine, which may have another processor or an older C library"
+elif ! { [ -f "$root/$shipped" ] && has "$root/dist/SHA256SUMS" "$(sum "$root/$shipped")  $name"; }; then
+    why="$shipped doesn't have the checksum in dist/SHA256SUMS"
+elif [ ! -x "$root/$shipped" ]; then
+    why="$shipped isn't executable: chmod +x $shipped mends that"
+elif ! runs "$root/$shipped"; then
+    why="$shipped doesn't run on this machine, which may have another processor or an older C library"
 else
-    exec "$shipped" "$@"
+    keep "$shipped"
+    exec "$root/$shipped" "$@"
 fi
-if ! { [ -f "$built" ] && has "$built.sources" "$sources $(sum "$built")"; }; then
+if ! { [ -f "$root/$built" ] && has "$root/$built.sources" "$sources $(sum "$root/$built")"; }; then
     echo "$name: $why. So it is proved and built first, from these sources, which can take an hour: a program is built only" \
         "of what is proved, and all libraries below it are proved anew. Later runs start at once." >&2
     "$root/tools/dist.sh" --build "$name" </dev/null >/dev/null || exit 126
 fi
-exec "$built" "$@"
+keep "$built"
+exec "$root/$built" "$@"

@@ -1,9 +1,10 @@
 #!/bin/sh
 # Installs Debian's packages that the gate uses beside the toolchain, where they are missing and can be installed: binaryen, whose
-# wasm-opt makes the web page's module of 32 bits, and chromium, in which the page is tested. What stays missing is said.
+# wasm-opt makes the web page's module of 32 bits, chromium, in which the page is tested, lintian, which checks the package for
+# Debian, and node-typescript, whose tsc checks the types for JavaScript. What stays missing is said.
 set -eu
 missing=
-for it in wasm-opt:binaryen chromium:chromium; do
+for it in wasm-opt:binaryen chromium:chromium lintian:lintian tsc:node-typescript; do
     command -v "${it%:*}" >/dev/null || missing="$missing ${it#*:}"
 done
 [ -n "$missing" ] || exit 0

@@ -41,14 +41,13 @@ def path_of(row, folder):
 
 @NEEDS_LIBRARY
 class BindingTest(unittest.TestCase):
-    """What a command prints, which must be there and end well."""
+    """What a command prints, which must end well; where it isn't there, the test isn't run."""
 
     # Variables that a command isn't to see, as a newcomer's shell has none of them.
     hidden = ()
 
     def ran(self, *words, folder=ROOT, status=0, **variables):
-        if not shutil.which(words[0]):
-            self.fail(f"there is no {words[0]}")
+        self.needs(words[0])
         environment = {**os.environ, "CIMAROLY_LIB_DIR": LIBRARY, **variables}
         for it in self.hidden:
             environment.pop(it, None)
@@ -57,6 +56,11 @@ class BindingTest(unittest.TestCase):
         )
         self.assertEqual(ran.returncode, status, f"{' '.join(words)}\n{ran.stdout[-4000:]}{ran.stderr[-4000:]}")
         return ran.stdout
+
+    def needs(self, *names):
+        for it in names:
+            if not shutil.which(it):
+                self.skipTest(f"there is no {it}")
 
     def folder(self):
         room = tempfile.TemporaryDirectory(prefix="bindings-")
@@ -67,16 +71,13 @@ class BindingTest(unittest.TestCase):
 class C(BindingTest):
     def test_calls(self):
         """Every row of the table, under ASan and UBSan, and under valgrind where it is there; and the header in C++."""
-        for it in ("cc", "g++"):
-            if not shutil.which(it):
-                self.fail(f"there is no {it}")
+        self.needs("make", "cc", "g++")
         printed = self.ran("make", "-C", f"{BINDINGS}/c", "test")
         self.assertRegex(printed, r"\d+ passed, 0 failed")
 
     def test_installed(self):
         """What is installed builds the example with what pkg-config tells, which prints what OpenSSL does."""
-        if not shutil.which("pkg-config"):
-            self.skipTest("there is no pkg-config")
+        self.needs("make", "cc", "pkg-config")
         place = self.folder()
         self.ran("make", "-C", f"{BINDINGS}/c", "install", f"PREFIX={place}")
         flags = self.ran("pkg-config", "--cflags", "--libs", "cimaroly", PKG_CONFIG_PATH=f"{place}/lib/pkgconfig").split()
@@ -93,6 +94,7 @@ class C(BindingTest):
 
     def test_example(self):
         """It prints deviations and refusals with their places."""
+        self.needs("make", "cc")
         place = self.folder()
         self.ran("make", "-C", f"{BINDINGS}/c", "out/inspect")
         for row in table():
@@ -129,8 +131,7 @@ class Python(BindingTest):
         self.ran(sys.executable, "-m", "unittest", folder=f"{BINDINGS}/python")
 
     def test_types(self):
-        if not shutil.which("mypy"):
-            self.skipTest("there is no mypy")
+        self.needs("mypy")
         self.ran("mypy", "cimaroly", "build_backend", "tests", folder=f"{BINDINGS}/python", MYPY_CACHE_DIR=self.folder())
 
     def test_dask(self):
@@ -171,6 +172,10 @@ class InstalledPython(BindingTest):
 
 
 class Rust(BindingTest):
+    def setUp(self):
+        # (cargo links with cc)
+        self.needs("cargo", "cc")
+
     def cargo(self, command, *words, **variables):
         return self.ran("cargo", command, "--offline", *words, folder=f"{BINDINGS}/rust", **variables)
 
@@ -180,9 +185,7 @@ class Rust(BindingTest):
             self.assertGreater(sum(map(int, re.findall(r"(\d+) passed; 0 failed", printed))), 10)
 
     def test_lints(self):
-        for it in ("cargo-clippy", "cargo-fmt"):
-            if not shutil.which(it):
-                self.skipTest(f"there is no {it}")
+        self.needs("cargo-clippy", "cargo-fmt")
         self.cargo("clippy", "--all-targets", "--", "-D", "warnings")
         self.ran("cargo", "fmt", "--check", folder=f"{BINDINGS}/rust")
         self.cargo("doc", "--quiet", RUSTDOCFLAGS="-D warnings")
@@ -224,8 +227,7 @@ class Snippets(BindingTest):
         self.assertEqual(printed, "RSA parameters absent 13 26\nRSA parameters absent 106 119\n3000 deviations\n")
 
     def test_javascript(self):
-        if not shutil.which("node"):
-            self.skipTest("there is no node")
+        self.needs("node")
         if not os.path.isfile(f"{ROOT}/web/cimaroly.wasm"):
             self.skipTest("there is no web/cimaroly.wasm")
         os.symlink(f"{ROOT}/web", f"{self.place}/web")
@@ -234,6 +236,7 @@ class Snippets(BindingTest):
         self.assertEqual(printed, "RSA parameters absent 13 26\nRSA parameters absent 106 119\ndeviations\n")
 
     def test_rust(self):
+        self.needs("cargo", "cc")
         program = f"fn main() -> Result<(), Box<dyn std::error::Error>> {{\n{snippet('rust')}Ok(())\n}}\n"
         manifest = f'[package]\nname = "snippet"\nedition = "2021"\n[dependencies]\ncimaroly.path = "{BINDINGS}/rust"\n'
         self.write("src/main.rs", program.encode())

@@ -41,8 +41,8 @@ class ShippedTest(unittest.TestCase):
         self.assertEqual(ran.returncode, 0, ran.stdout)
 
 
-class DistTest(unittest.TestCase):
-    """The scripts, in a repository of three crates, of which the program stands on one."""
+class Repository(unittest.TestCase):
+    """A repository of three crates, of which the program stands on one."""
 
     def setUp(self):
         room = tempfile.TemporaryDirectory(prefix="dist-")
@@ -83,6 +83,10 @@ class DistTest(unittest.TestCase):
 
     def is_built(self):
         return os.path.exists(self.log)
+
+
+class DistTest(Repository):
+    """The scripts."""
 
     def test_the_shipped_program_runs_at_once(self):
         shutil.rmtree(f"{self.root}/crates/x509_tool/out")

@@ -4,12 +4,26 @@ import os
 import re
 import shutil
 import subprocess
+import sys
 import tempfile
 import unittest
 
 HERE = os.path.dirname(os.path.abspath(__file__))
 ROOT = os.path.dirname(os.path.dirname(HERE))
 WEB = f"{ROOT}/web"
+
+sys.path.insert(0, f"{ROOT}/tools")
+import make_commonjs  # noqa: E402
+
+# The fields that cimaroly.h calls by other words than the RFCs.
+WORDS = {"subjectPKInfo": "subject_public_key_info", "issuerUniqueID": "issuer_unique_id", "subjectUniqueID": "subject_unique_id"}
+
+# The types that have named fields: as the module, cimaroly.d.ts and cimaroly.h call them.
+WITH_FIELDS = (
+    ("certificate", "CertificateFields", "cimaroly_certificate"),
+    ("request", "RequestFields", "cimaroly_request"),
+    ("private_key", "PrivateKeyFields", "cimaroly_private_key"),
+)
 
 # How many seconds the tests may take: browsers are slow on machines with much else to do.
 PATIENCE = 2400
@@ -59,6 +73,25 @@ class Files(unittest.TestCase):
             listed = [it for it in re.findall(r'"(.*?)"', theirs) if it]
             self.assertEqual([it for it in re.findall(r'"(.*?)"', mine) if it], listed)
 
+    def test_commonjs(self):
+        for name, text in make_commonjs.made():
+            self.assertEqual(text_of(f"{WEB}/node/{name}"), text, f"{name}: run tools/make_commonjs.py")
+
+    def test_fields(self):
+        # the types and the module have the fields of the C library, and may be without those that C says may be none
+        header = text_of(f"{ROOT}/bindings/c/cimaroly.h")
+        types = text_of(f"{WEB}/cimaroly.d.ts")
+        for kind, interface, struct in WITH_FIELDS:
+            body = re.search(rf"^struct {struct} \{{\n(.*?)^\}};", header, re.S | re.M).group(1)
+            members = re.findall(r"struct cimaroly_span (\w+);(.*)", body)
+            declared = re.search(rf"^export interface {interface} \{{\n(.*?)^\}}", types, re.S | re.M).group(1)
+            fields = re.findall(r"^  (\w+)(\??): Span;", declared, re.M)
+            names = [(WORDS.get(it) or re.sub("[A-Z]", lambda found: "_" + found[0].lower(), it)) for it, _ in fields]
+            self.assertEqual(names, [name for name, _ in members])
+            self.assertEqual([mark == "?" for _, mark in fields], ["or none" in comment for _, comment in members])
+            listed = re.search(rf'"cimaroly_{kind}_fields",\s+names: \[(.*?)\]', text_of(f"{WEB}/core.mjs"), re.S).group(1)
+            self.assertEqual(re.findall(r'"(\w+)"', listed), [name for name, _ in fields])
+
     def test_policy(self):
         # nothing is loaded from elsewhere, and nothing of an input becomes markup
         page = text_of(f"{WEB}/index.html")
@@ -69,9 +102,16 @@ class Files(unittest.TestCase):
             self.assertNotRegex(code, r"innerHTML|outerHTML|insertAdjacentHTML|document\.write|\beval\(|new Function", path)
             self.assertNotRegex(code, r"https?://", path)
 
+    def test_styles(self):
+        linked = re.findall(r'<link rel="stylesheet" href="(style/[^"]+)">', text_of(f"{WEB}/index.html"))
+        self.assertEqual(sorted(linked), sorted(f"style/{it}" for it in os.listdir(f"{WEB}/style")))
+        for name in linked:
+            self.assertNotRegex(text_of(f"{WEB}/{name}"), r"url\(|@import|https?://", name)
+
     def test_sizes(self):
         self.assertLessEqual(os.path.getsize(f"{ROOT}/docs/page.png"), 200_000)
-        for path in sources():
+        styles = [f"{WEB}/style/{it}" for it in os.listdir(f"{WEB}/style")]
+        for path in (*sources(), *styles, *(f"{WEB}/node/{it}" for it in os.listdir(f"{WEB}/node"))):
             self.assertLess(text_of(path).count("\n"), 500, path)
 
 
@@ -95,10 +135,11 @@ class Runs(unittest.TestCase):
             os.symlink(WEB, f"{room}/node_modules/cimaroly")
             with open(f"{room}/package.json", "w", encoding="utf-8") as file:
                 file.write('{"type": "module"}')
-            shutil.copy(f"{WEB}/test/types.ts", room)
             words = ["--noEmit", "--strict", "--module", "nodenext", "--moduleResolution", "nodenext", "--target", "es2022"]
-            out, status = run("tsc", *words, f"{room}/types.ts")
-            self.assertEqual((out, status), ("", 0))
+            for name in ("types.ts", "types.cts"):
+                shutil.copy(f"{WEB}/test/{name}", room)
+                out, status = run("tsc", *words, f"{room}/{name}")
+                self.assertEqual((out, status), ("", 0), name)
 
     @unittest.skipUnless(os.environ.get("X509_LONG_TESTS"), "it takes a minute or two: X509_LONG_TESTS=1 runs it")
     def test_page(self):

@@ -1,0 +1,45 @@
+#!/usr/bin/env python3
+"""Writes what `require` loads in web/node/ from the ES modules of web/, and their types: a test compares them.
+
+Run it after a change of core.mjs, names.mjs, pem.mjs or cimaroly.d.ts in web/, and commit what it writes.
+"""
+import pathlib
+import re
+
+WEB = pathlib.Path(__file__).resolve().parent.parent / "web"
+MODULES = ("core", "names", "pem")
+HEAD = "// This file is written by tools/make_commonjs.py from web/{}.\n\n"
+
+IMPORT = re.compile(r'^import (\{[^}]*\}) from "\./(\w+)\.mjs";$', re.M)
+EXPORT_LIST = re.compile(r"^export \{([^}]*)\};\n\n?", re.M)
+EXPORT = re.compile(r"^export ((?:class|const|function\*?) (\w+))", re.M)
+
+
+def behind_licence(head, text):
+    """The text with a head behind the line that says its licence, if it has one."""
+    licence, rest = re.fullmatch(r"(// SPDX-License-Identifier: [^\n]*\n)?\n?(.*)", text, re.S).groups()
+    return (licence or "") + head + rest
+
+
+def common(name, text):
+    """The CommonJS module of an ES module."""
+    listed = [it.strip() for found in EXPORT_LIST.findall(text) for it in found.split(",")]
+    exported = sorted([*(it for it in listed if it), *(name for _, name in EXPORT.findall(text))])
+    text = IMPORT.sub(r'const \1 = require("./\2.cjs");', text)
+    text = EXPORT.sub(r"\1", EXPORT_LIST.sub("", text))
+    lines = "".join(f"  {it},\n" for it in exported)
+    head = HEAD.format(f"{name}.mjs") + '"use strict";\n\n'
+    return behind_licence(head, f"{text}\nmodule.exports = {{\n{lines}}};\n")
+
+
+def made():
+    """What is written: the name of each file in web/node/, and its text."""
+    for name in MODULES:
+        yield f"{name}.cjs", common(name, (WEB / f"{name}.mjs").read_text(encoding="utf-8"))
+    types = (WEB / "cimaroly.d.ts").read_text(encoding="utf-8")
+    yield "index.d.cts", behind_licence(HEAD.format("cimaroly.d.ts"), types)
+
+
+if __name__ == "__main__":
+    for file, content in made():
+        (WEB / "node" / file).write_text(content, encoding="utf-8")
