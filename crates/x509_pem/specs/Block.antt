@@ -1,9 +1,10 @@
 -- What a block holds, and what a line does to it.
-use Rattle.std.specs.Prelude.{◌≡◌, ℕ, zero, suc, List, [], ◌++◌, ◌⊎◌, Option, Some, Bool, true, false, Ok}
+use Rattle.std.specs.Prelude.{◌≡◌, ℕ, zero, suc, List, [], ◌++◌, ◌∷◌, ◌≤◌, length, take, ◌⊎◌, Option, Some, Bool, true, false, if◌then◌else◌, Ok}
 use Rattle.base64.specs.Engines.{standard}
-use Rattle.base64.specs.GeneralPurpose.{decode_of}
+use Rattle.base64.specs.GeneralPurpose.{decode_of, encode_of}
 use Rattle.x509_pem.specs.Line.{IsBegin, IsEnd, Trimmed}
 use Rattle.x509_pem.specs.declared.block.Block.{Block}
+use Rattle.std.specs.Io.KnownBytes.{Keeps, Consumes}
 use Rattle.std.specs.Io.BufRead.{take_through, drop_through}
 
 pub record State : Type 0 where
@@ -12,8 +13,16 @@ pub record State : Type 0 where
   pub text : List ℕ
   pub bytes : List ℕ
 
+-- The text of lines that were decoded as they came isn't kept. Since base64 spells bytes in one way, it is what encodes them. While
+-- the block is open its bytes aren't all there, and count for none.
 abbrev pub state_of : {A : Type 0} → Block A → State
-state_of b = record { is_open = b.is_open; label = b.label.items; text = b.text.items; bytes = b.bytes.items }
+state_of b =
+    record {
+      is_open = b.is_open;
+      label = b.label.items;
+      text = encode_of standard b.bytes.items ++ b.text.items;
+      bytes = if b.is_open then [] else b.bytes.items;
+    }
 
 abbrev pub limit_of : {A : Type 0} → Block A → ℕ
 limit_of b = b.limit
@@ -28,6 +37,26 @@ Opens label new = (new.is_open ≡ true) × (new.label ≡ label) × (new.text �
 -- the symbols stand behind those that came before
 abbrev pub Adds : List ℕ → State → State → Type 0
 Adds symbols old new = (new.is_open ≡ old.is_open) × (new.label ≡ old.label) × (new.text ≡ old.text ++ symbols)
+
+-- a full line of symbols, which is decoded by itself
+abbrev pub IsFull : List ℕ → Type 0
+IsFull line = (length line ≡ 64) × ((bytes : List ℕ) × (line ≡ encode_of standard bytes))
+
+-- whether a line was taken as a full one; where it wasn't, nothing happened
+abbrev pub Decodes : Bool → List ℕ → State → State → Type 0
+Decodes true line old new = IsFull line × Adds line old new
+Decodes false line old new = new ≡ old
+
+-- whether a full line and a line feed were taken from the front of some bytes
+abbrev pub DecodesFront : Bool → List ℕ → State → State → Type 0
+DecodesFront true bytes old new =
+    (line : List ℕ) × (65 ≤ length bytes) × (take 65 bytes ≡ line ++ 10 ∷ []) × IsFull line × Adds line old new
+DecodesFront false bytes old new = new ≡ old
+
+-- the same of what a reader has left
+abbrev pub TakesFull : Bool → Option (List ℕ) → Option (List ℕ) → State → State → Type 0
+TakesFull true before after old new = (line : List ℕ) × Consumes before after (line ++ 10 ∷ []) × IsFull line × Adds line old new
+TakesFull false before after old new = Keeps before after × (new ≡ old)
 
 -- the line ends the block, whose bytes are what its text stands for
 abbrev pub Ends : List ℕ → State → State → Type 0

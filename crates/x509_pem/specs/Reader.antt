@@ -1,5 +1,4 @@
 -- What a reader of blocks has: its input, and the state of its block.
-use Rattle.std.specs.Prelude.{ℕ}
 use Rattle.x509_pem.specs.Block.{State, state_of}
 use Rattle.x509_pem.specs.declared.reader.PemReader.{PemReader}
 

@@ -1,12 +1,14 @@
 //! A block that is read line by line.
 
-ghost use Rattle.std.specs.Prelude.{◌≡◌, ◌≢◌, ◌↔◌, ◌≤◌, ◌<◌, ◌+◌, ◌++◌, ℕ, List, [], true, false, length, codes, OnOk, OnErr, IfOk, MatchOption, IsErrOf};
+ghost use Rattle.std.specs.Prelude.{◌≡◌, ◌≢◌, ◌↔◌, ◌≤◌, ◌<◌, ◌+◌, ◌*◌, ◌/◌, ◌%◌, ◌++◌, ℕ, List, [], true, false, length, codes, OnOk, OnErr, IfOk, MatchOption, IsErrOf};
 ghost use Rattle.std.specs.Str.{IsTrimAsciiEnd};
+ghost use Rattle.base64.specs.GeneralPurpose.{IsBytes};
 ghost use Rattle.x509_pem.specs.Line.{IsBoundary, Trimmed};
 
 use crate::fault::Fault;
+use crate::full_line::decode_line;
+use crate::rest::decode_rest;
 use base64::DecodeAllocError;
-use base64::engine::general_purpose::STANDARD;
 use memchr::memchr;
 use std::alloc::{Allocator, Global};
 
@@ -48,12 +50,16 @@ fn label_behind<'a>(front: &[u8], line: &'a [u8]) -> Option<&'a [u8]>
 #[derive(Drop)]
 pub struct Block<A: Allocator = Global> {
     label: Vec<u8, A>,
+    // The text that isn't decoded yet. A full line is decoded as it comes, unless other lines stand here already, whose
+    // groups may go on in it.
     text: Vec<u8, A>,
     bytes: Vec<u8, A>,
     is_open: bool,
     is_new: bool,
     limit: usize,
-    ghost fits: { length text.items ≤ limit },
+    ghost octets: { is_open ≡ true → IsBytes bytes.items },
+    ghost groups: { is_open ≡ true → length bytes.items % 3 ≡ 0 },
+    ghost fits: { is_open ≡ true → length bytes.items / 3 * 4 + length text.items ≤ limit },
 }
 
 impl<A: Allocator + Copy> Block<A> {
@@ -76,7 +82,7 @@ impl<A: Allocator + Copy> Block<A> {
 }
 
 impl<A: Allocator> Block<A> {
-    ghost use Rattle.x509_pem.specs.Block.{state_of, limit_of, IsWhole, Opens, Adds, Goes};
+    ghost use Rattle.x509_pem.specs.Block.{state_of, limit_of, IsWhole, Opens, Adds, Decodes, DecodesFront, Goes};
 
     /// The label, such as `CERTIFICATE`: the bytes between `-----BEGIN ` and `-----`, whatever they are.
     pub fn label(&self) -> &[u8]
@@ -85,10 +91,13 @@ impl<A: Allocator> Block<A> {
         self.label.as_slice()
     }
 
-    /// The bytes.
+    /// The bytes: none before a line has ended the block.
     pub fn bytes(&self) -> &[u8]
         ensures { result.now ≡ (state_of self.now).bytes }
     {
+        if self.is_open {
+            return b"".as_slice();
+        }
         self.bytes.as_slice()
     }
 
@@ -104,10 +113,20 @@ impl<A: Allocator> Block<A> {
         self.is_new
     }
 
+    /// Forgets what was read of a block.
+    fn forget(&mut self)
+        ensures bytes { self.new.bytes.items ≡ [] }
+        ensures text { self.new.text.items ≡ [] }
+    {
+        self.text.clear();
+        self.bytes.clear();
+    }
+
     /// Gives up a block whose end never came.
     pub(crate) fn give_up(&mut self)
         ensures { (state_of self.new).is_open ≡ false }
     {
+        self.forget();
         self.is_open = false;
     }
 
@@ -119,10 +138,9 @@ impl<A: Allocator> Block<A> {
         ensures ok { OnOk result (Opens label.now (state_of self.new)) }
         ensures err { OnErr result ((state_of self.new).is_open ≡ false) }
     {
-        self.label.clear();
-        self.text.clear();
-        self.bytes.clear();
+        self.forget();
         self.is_open = false;
+        self.label.clear();
         if self.label.extend_from_slice(label).is_err() {
             return Err(Fault::OutOfMemory);
         }
@@ -131,17 +149,62 @@ impl<A: Allocator> Block<A> {
         Ok(())
     }
 
+    /// How many symbols may still come.
+    fn room(&self) -> usize
+        requires { (state_of self.now).is_open ≡ true }
+        ensures { result + length ((state_of self.now).text) ≡ limit_of self.now }
+    {
+        self.limit - (self.bytes.len() / 3 * 4 + self.text.len())
+    }
+
+    /// Takes a full line of symbols and decodes it, and answers whether it did: where it didn't, the block is as it was.
+    pub(crate) fn add_full(&mut self, line: &[u8; 64]) -> bool
+        ensures { Decodes result line.now (state_of self.old) (state_of self.new) }
+    {
+        if !self.is_open || !self.text.is_empty() || self.room() < 64 {
+            return false;
+        }
+        match decode_line(line) {
+            Some(bytes) => self.bytes.extend_from_slice(bytes.as_slice()).is_ok(),
+            None => false,
+        }
+    }
+
+    /// As `add_full`, where the bytes begin with a line of 64 symbols and a line feed.
+    pub(crate) fn add_front(&mut self, bytes: &[u8]) -> bool
+        ensures { DecodesFront result bytes.now (state_of self.old) (state_of self.new) }
+    {
+        if bytes.len() <= 64 || bytes[64] != b'\n' {
+            return false;
+        }
+        match bytes.first_chunk::<64>() {
+            Some(line) => self.add_full(line),
+            None => false,
+        }
+    }
+
+    /// As `add_full`, where the line has 64 symbols.
+    fn add_if_full(&mut self, line: &[u8]) -> bool
+        ensures { Decodes result line.now (state_of self.old) (state_of self.new) }
+    {
+        match line.as_array::<64>() {
+            Some(line) => self.add_full(line),
+            None => false,
+        }
+    }
+
     /// Takes a line of base64 text.
     ///
     /// # Errors
     /// `TooLong`, exactly where the text would be longer than the limit; else memory is refused. No block is open then.
     fn add(&mut self, symbols: &[u8]) -> Result<(), Fault>
+        requires { (state_of self.old).is_open ≡ true }
         ensures ok { OnOk result (Adds symbols.now (state_of self.old) (state_of self.new)) }
         ensures too_long { IsErrOf result Fault.TooLong
             ↔ (limit_of self.old < length ((state_of self.old).text) + length symbols.now) }
         ensures err { OnErr result ((state_of self.new).is_open ≡ false) }
     {
-        if symbols.len() > self.limit.saturating_sub(self.text.len()) {
+        if symbols.len() > self.room() {
             self.is_open = false;
             return Err(Fault::TooLong);
         }
@@ -152,12 +215,13 @@ impl<A: Allocator> Block<A> {
         Ok(())
     }
 
-    /// Ends the block, and decodes its text.
+    /// Ends the block, and decodes what is left of its text.
     ///
     /// # Errors
     /// `LabelMismatch`, exactly where the label is another; else the text is no base64, or memory is refused. No block
     /// is open in any case.
     fn close(&mut self, label: &[u8]) -> Result<(), Fault>
+        requires { (state_of self.old).is_open ≡ true }
         ensures ok { OnOk result (((state_of self.old).label ≡ label.now) × IsWhole (state_of self.new)) }
         ensures kept { ((state_of self.new).label ≡ (state_of self.old).label)
             × ((state_of self.new).text ≡ (state_of self.old).text) }
@@ -168,9 +232,11 @@ impl<A: Allocator> Block<A> {
         if self.label.as_slice() != label {
             return Err(Fault::LabelMismatch);
         }
-        self.bytes.clear();
-        match STANDARD.decode_vec(self.text.as_slice(), &mut self.bytes) {
-            Ok(()) => Ok(()),
+        match decode_rest(self.text.as_slice(), &mut self.bytes) {
+            Ok(()) => {
+                self.text.clear();
+                Ok(())
+            }
             Err(DecodeAllocError::OutOfMemory) => Err(Fault::OutOfMemory),
             Err(DecodeAllocError::DecodeError(_)) => Err(Fault::BadBase64),
         }
@@ -201,6 +267,20 @@ impl<A: Allocator> Block<A> {
         Ok(false)
     }
 
+    /// Takes a line inside of a block, most of which are full lines of symbols.
+    ///
+    /// # Errors
+    /// Those of `take_inner`.
+    fn take_open(&mut self, line: &[u8]) -> Result<bool, Fault>
+        requires { (state_of self.old).is_open ≡ true }
+        ensures { IfOk result (λ ends. Goes ends line.now (state_of self.old) (state_of self.new)) }
+    {
+        if self.add_if_full(line) {
+            return Ok(false);
+        }
+        self.take_inner(line)
+    }
+
     /// Takes a line outside of blocks.
     ///
     /// # Errors
@@ -224,10 +304,15 @@ impl<A: Allocator> Block<A> {
     {
         let line = trimmed(line);
         self.is_new = false;
-        if self.is_open {
-            self.take_inner(line)
+        let taken = if self.is_open {
+            self.take_open(line)
         } else {
             self.take_outer(line)
+        };
+        // Of a block with a fault no bytes are shown.
+        if taken.is_err() {
+            self.forget();
         }
+        taken
     }
 }

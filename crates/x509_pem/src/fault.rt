@@ -10,7 +10,7 @@ pub enum Fault {
     #[error("the END line has another label than the BEGIN line")]
     LabelMismatch,
     /// The text isn't base64 with its padding (RFC 4648, 4).
-    #[error("the block is no base64")]
+    #[error("invalid base64")]
     BadBase64,
     /// Another block begins, or the input ends, before the block does.
     #[error("the block has no END line")]

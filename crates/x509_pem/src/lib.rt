@@ -3,8 +3,11 @@
 
 mod block;
 mod fault;
+mod full_line;
 mod lines;
 mod reader;
+mod rest;
+mod table;
 #[cfg(test)]
 mod tests;
 

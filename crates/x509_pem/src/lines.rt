@@ -4,10 +4,14 @@ ghost use Rattle.std.specs.Prelude.{◌≡◌, ◌≤◌, ◌<◌, ◌++◌, [],
 ghost use Rattle.std.specs.Io.BufRead.{take_through, DropsThrough};
 ghost use Rattle.x509_pem.specs.Part.{IsPart};
 
+use crate::block::Block;
 use crate::fault::{Fault, PemError};
 use memchr::memchr;
 use std::alloc::Allocator;
 use std::io::{BufRead, ErrorKind};
+
+/// The length of a full line: 64 symbols and a line feed.
+const FULL_LINE: usize = 65;
 
 /// How many bytes of a chunk belong to its first line, and whether that line ends there.
 fn line_part(chunk: &[u8]) -> (usize, bool)
@@ -47,6 +51,7 @@ pub(crate) struct Lines<R: BufRead + Drop, A: Allocator> {
 }
 
 impl<R: BufRead + Drop, A: Allocator> Lines<R, A> {
+    ghost use Rattle.x509_pem.specs.Block.{TakesFull, state_of};
     ghost use Rattle.x509_pem.specs.Part.{Fills};
 
     /// Lines of at most `limit` bytes. None was read yet.
@@ -128,5 +133,32 @@ impl<R: BufRead + Drop, A: Allocator> Lines<R, A> {
             }
         }
         Err(self.fault_here(Fault::TooLong))
+    }
+
+    /// Takes the next line into a block, where it is a full line of symbols that the reader shows whole: it is decoded
+    /// right where the reader holds it. Answers whether it was taken.
+    ///
+    /// # Errors
+    /// The input failed. A read that was interrupted hasn't failed.
+    pub(crate) fn take_full(&mut self, block: &mut Block<A>) -> Result<bool, PemError>
+        ensures { IfOk result (λ taken. TakesFull taken (R.remaining self.old.input) (R.remaining self.new.input)
+            (state_of block.old) (state_of block.new)) }
+    {
+        let chunk = match self.input.fill_buf() {
+            Ok(chunk) => chunk,
+            Err(error) => {
+                return if error.kind() == ErrorKind::Interrupted {
+                    Ok(false)
+                } else {
+                    Err(PemError::Input(error))
+                };
+            }
+        };
+        let is_taken = block.add_front(chunk);
+        if is_taken {
+            self.input.consume(FULL_LINE);
+            self.count = self.count.saturating_add(1);
+        }
+        Ok(is_taken)
     }
 }

@@ -56,7 +56,7 @@ impl<R: BufRead + Drop, A: Allocator + Copy> PemReader<R, A> {
 impl<R: BufRead + Drop, A: Allocator> PemReader<R, A> {
     ghost use Rattle.x509_pem.specs.Block.{state_of, Goes, Reads};
     ghost use Rattle.x509_pem.specs.Reader.{input_of, block_of};
-    ghost use Rattle.x509_pem.specs.Step.{Steps};
+    ghost use Rattle.x509_pem.specs.Step.{Skips, Steps};
     ghost use Rattle.x509_pem.specs.Whole.{NextBlock};
 
     /// The block that was read last.
@@ -101,11 +101,25 @@ impl<R: BufRead + Drop, A: Allocator> PemReader<R, A> {
         }
     }
 
+    /// Takes a full line of symbols inside of a block, where the reader shows one, and answers whether it did.
+    ///
+    /// # Errors
+    /// That of `Lines::take_full`.
+    fn take_full(&mut self) -> Result<bool, PemError>
+        ensures { IfOk result (λ taken. IfSome (R.remaining self.old.lines.input) (λ text. Skips taken text
+            (state_of self.old.block) (R.remaining self.new.lines.input) (state_of self.new.block))) }
+    {
+        if !self.block.is_open() {
+            return Ok(false);
+        }
+        self.lines.take_full(&mut self.block)
+    }
+
     /// Reads a line and takes it.
     ///
     /// # Errors
     /// Those of `Lines::fill` and `take_held`.
-    fn step(&mut self) -> Result<Step, PemError>
+    fn read_line(&mut self) -> Result<Step, PemError>
         ensures { IfOk result (λ step. IfSome (R.remaining self.old.lines.input) (λ text. Steps step text
             (state_of self.old.block) (R.remaining self.new.lines.input) (state_of self.new.block))) }
     {
@@ -117,6 +131,20 @@ impl<R: BufRead + Drop, A: Allocator> PemReader<R, A> {
         } else {
             Ok(Step::Other)
         }
+    }
+
+    /// Takes a line, right from the reader where it can.
+    ///
+    /// # Errors
+    /// Those of `take_full` and `read_line`.
+    fn step(&mut self) -> Result<Step, PemError>
+        ensures { IfOk result (λ step. IfSome (R.remaining self.old.lines.input) (λ text. Steps step text
+            (state_of self.old.block) (R.remaining self.new.lines.input) (state_of self.new.block))) }
+    {
+        if self.take_full()? {
+            return Ok(Step::Other);
+        }
+        self.read_line()
     }
 
     /// Ends the reading at the end of the input.

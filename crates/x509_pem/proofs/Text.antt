@@ -1,0 +1,111 @@
+-- The text of a block: what encodes the bytes of the lines that were decoded, and the symbols behind them.
+use Rattle.std.proofs.Common.{◌≡◌, ℕ, ◌+◌, ◌*◌, ◌/◌, ◌%◌, ◌≤◌, Bool, true, List, [], ◌++◌, take, drop, length, refl, sym, ap, subst, ◌∙◌, arith, Result, Ok, Err, is_ok, if◌then◌else◌}
+use Rattle.std.proofs.lemmas.List.{append-nil, length-append, take-append-drop}
+use Rattle.base64.specs.Engines.{standard}
+use Rattle.base64.specs.GeneralPurpose.{IsBytes, decode_of, encode_of, engine_symbols}
+use Rattle.base64.proofs.EngineFacts.{encode_of-nil, encode_of-append, decode_of_strict, decode_of-encode_of}
+use Rattle.base64.proofs.RoundTrip.{length-encode_symbols}
+use Rattle.std.specs.Result.{OnOk}
+use Rattle.x509_pem.specs.Block.{State, Decodes}
+use Rattle.x509_pem.specs.Rest.{IsDecoded}
+use Rattle.x509_pem.proofs.FullLine.{bytes_append, encode_of_whole}
+
+-- the text of a block
+abbrev pub text_of : List ℕ → List ℕ → List ℕ
+text_of bytes text = encode_of standard bytes ++ text
+
+pub no_text : (bytes text : List ℕ) → bytes ≡ [] → text ≡ [] → text_of bytes text ≡ []
+no_text bytes text none empty =
+    ap (λ b. text_of b text) none ∙ ap (λ l. l ++ text) (encode_of-nil standard) ∙ empty
+
+-- its length, where whole groups were decoded
+pub length_text : (bytes text : List ℕ) → length bytes % 3 ≡ 0 → length (text_of bytes text) ≡ length bytes / 3 * 4 + length text
+length_text bytes text whole =
+    let symbols = length-encode_symbols (engine_symbols standard) bytes in
+    let spelled : length (encode_of standard bytes) ≡ length bytes / 3 * 4 =
+    ap length (encode_of_whole bytes whole) ∙ (symbols ∙ omega (arith, whole)) in
+    length-append (encode_of standard bytes) text ∙ ap (λ n. n + length text) spelled
+
+-- a full line behind whole groups
+pub text_full : (bytes text line more new : List ℕ) → length bytes % 3 ≡ 0 → text ≡ [] → line ≡ encode_of standard more
+    → new ≡ bytes ++ more → text_of new text ≡ text_of bytes text ++ line
+text_full bytes text line more new whole empty is joined =
+    let before : text_of bytes text ≡ encode_of standard bytes =
+    ap (λ l. encode_of standard bytes ++ l) empty ∙ append-nil (encode_of standard bytes) in
+    let after : text_of new text ≡ encode_of standard new =
+    ap (λ l. encode_of standard new ++ l) empty ∙ append-nil (encode_of standard new) in
+    after ∙ ap (λ l. encode_of standard l) joined ∙ encode_of-append standard bytes more whole
+    ∙ ap (λ l. encode_of standard bytes ++ l) (sym is) ∙ ap (λ l. l ++ line) (sym before)
+
+-- the rest of the text is decoded behind whole groups
+pub text_kept : (bytes text new tail : List ℕ) → length bytes % 3 ≡ 0 → IsDecoded text bytes new → tail ≡ []
+    → text_of new tail ≡ text_of bytes text
+text_kept bytes text new tail whole rest empty =
+    ap (λ l. encode_of standard new ++ l) empty ∙ append-nil (encode_of standard new)
+    ∙ ap (λ l. encode_of standard l) rest.1 ∙ encode_of-append standard bytes rest.0 whole
+    ∙ ap (λ l. encode_of standard bytes ++ l) (sym rest.2)
+
+pub text_decodes : (bytes text new tail : List ℕ) → IsBytes bytes → IsDecoded text bytes new → tail ≡ []
+    → decode_of standard (text_of new tail) ≡ Ok new
+text_decodes bytes text new tail octets rest empty =
+    let all : IsBytes new = subst IsBytes (sym rest.1) (bytes_append bytes rest.0 octets rest.3) in
+    ap (λ l. decode_of standard (encode_of standard new ++ l)) empty
+    ∙ ap (λ l. decode_of standard l) (append-nil (encode_of standard new))
+    ∙ decode_of-encode_of standard new refl all
+
+-- what was decoded, from what the decoder says
+pub decoded_rest : {E : Type 0} → (r : Result (Unit {0}) E) (text old new : List ℕ) (n : ℕ) → n ≡ length old → IsBytes text
+    → OnOk r (decode_of standard text ≡ Ok (drop n new)) → OnOk r (take n new ≡ old) → OnOk r (IsBytes (drop n new))
+    → OnOk r (IsDecoded text old new)
+decoded_rest (Err e) text old new n len fits decodes front bytes = tt
+decoded_rest (Ok u) text old new n len fits decodes front bytes = (
+  drop n new,
+  sym (take-append-drop n new) ∙ ap (λ l. l ++ drop n new) front,
+  decode_of_strict standard text (drop n new) (refl, refl) fits decodes,
+  bytes,
+)
+
+-- what a block keeps while it is open
+pub record Kept (is_open : Bool) (bytes text : List ℕ) (limit : ℕ) : Type 0 where
+  pub octets : is_open ≡ true → IsBytes bytes
+  pub groups : is_open ≡ true → length bytes % 3 ≡ 0
+  pub fits : is_open ≡ true → length bytes / 3 * 4 + length text ≤ limit
+
+-- a full line was tried, and is there if there was memory
+pub full_kept : {T E : Type 0} → (r : Result T E) (is_open : Bool) (bytes text more new : List ℕ) (limit room : ℕ) → is_open ≡ true
+    → Kept is_open bytes text limit → room + length (text_of bytes text) ≡ limit → 64 ≤ room → length more ≡ 48 → IsBytes more
+    → new ≡ (if is_ok r then bytes ++ more else bytes) → Kept is_open new text limit
+full_kept (Err e) is_open bytes text more new limit room is kept left wide len octets grown =
+    let P : List ℕ → Type 0 = λ b. Kept is_open b text limit in subst P (sym grown) kept
+full_kept (Ok u) is_open bytes text more new limit room is kept left wide len octets grown =
+    let P : List ℕ → Type 0 = λ b. Kept is_open b text limit in
+    let n : length (bytes ++ more) ≡ length bytes + length more = length-append bytes more in
+    let before = length_text bytes text (kept.groups is) in
+    let whole = kept.groups is in
+    subst P (sym grown) (record {
+      octets = λ o. bytes_append bytes more (kept.octets is) octets;
+      groups = λ o. omega (arith, n, len, whole);
+      fits = λ o. omega (arith, n, len, whole, before, left, wide);
+    })
+
+-- the state of a block by its parts
+abbrev pub state : Bool → List ℕ → List ℕ → List ℕ → State
+state is_open label bytes text =
+    record { is_open = is_open; label = label; text = text_of bytes text; bytes = if is_open then [] else bytes }
+
+pub full_decodes : {T E : Type 0} → (r : Result T E) (taken is_open : Bool) (label bytes text line more new : List ℕ) → taken ≡ is_ok r
+    → length bytes % 3 ≡ 0 → text ≡ [] → length line ≡ 64 → line ≡ encode_of standard more
+    → new ≡ (if is_ok r then bytes ++ more else bytes)
+    → Decodes taken line (state is_open label bytes text) (state is_open label new text)
+full_decodes (Err e) taken is_open label bytes text line more new was whole empty len is grown =
+    let P : Bool → Type 0 = λ b. Decodes b line (state is_open label bytes text) (state is_open label new text) in
+    subst P (sym was) (ap (λ b. state is_open label b text) grown)
+full_decodes (Ok u) taken is_open label bytes text line more new was whole empty len is grown =
+    let P : Bool → Type 0 = λ b. Decodes b line (state is_open label bytes text) (state is_open label new text) in
+    subst P (sym was) ((len, (more, is)), (refl, refl, text_full bytes text line more new whole empty is grown))
+
+-- what is appended if there is memory makes a list no longer than that
+pub grown_by : {T E : Type 0} → (r : Result T E) (old more new : List ℕ) → new ≡ (if is_ok r then old ++ more else old)
+    → length new ≤ length old + length more
+grown_by (Err e) old more new grown = omega (arith, ap length grown)
+grown_by (Ok u) old more new grown = omega (arith, ap length grown, length-append old more)
