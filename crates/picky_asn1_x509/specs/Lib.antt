@@ -93,6 +93,7 @@ pub mod Certificates
 pub mod LookUps
 pub mod OlderCertificates
 pub mod Requests
+pub mod SignedParts
 pub mod TbsCertificates
 pub mod Types
 pub mod facts

@@ -1,4 +1,6 @@
 -- The part of a certificate that is signed (RFC 5280, 4.1.2).
+use Rattle.x509_der.specs.Items.{no_items}
+use Rattle.x509_der.specs.Optional.{brief_if}
 use Rattle.std.specs.Prelude.{◌≡◌, ℕ, Bool, true, false, ◌&&◌, List, [], ◌∷◌, ◌++◌, Option, Some, None}
 use Rattle.x509_der.specs.Types.{Deviation, ReadError}
 use Rattle.x509_der.specs.Types.deviation
@@ -202,3 +204,28 @@ fields_bytes f = (optional version_field).strict f.0 ++ (required_bytes f.1.0 ++
 
 abbrev pub tbs_bytes : {A : Type 0} → TbsCertificate A → List ℕ
 tbs_bytes v = element 48 (fields_bytes (tbs_back v))
+
+-- what is kept of the fields that are gone past: the version, which identifiers are there, and whether the list is empty
+abbrev pub EndsBrief : Type 0
+EndsBrief = Option (Unit {0}) × (Option (Unit {0}) × Option Bool)
+
+abbrev pub tbs_brief : {A : Type 0} → TbsFields A → Option Version × (Unit {0} × EndsBrief)
+tbs_brief f = (brief_if (λ v. v) f.0, (tt, (brief_if (λ b. tt) f.1.1.0, (brief_if (λ b. tt) f.1.1.1.0, brief_if no_items f.1.1.1.1))))
+
+-- no extension, or an empty list of them
+abbrev pub gone_empty : Option Bool → Bool
+gone_empty None = true
+gone_empty (Some e) = e
+
+abbrev pub gone_fit : Version → Option Bool → Bool
+gone_fit V1 e = gone_empty e
+gone_fit V2 e = gone_empty e
+gone_fit V3 e = true
+
+abbrev pub gone_kinds : Option Bool → List Deviation
+gone_kinds None = []
+gone_kinds (Some true) = deviation.EmptyExtensionsSpelled ∷ []
+gone_kinds (Some false) = []
+
+abbrev pub tbs_fits : Option Version → EndsBrief → Bool
+tbs_fits v e = ids_fit (version_in v) e.0 e.1.0 && gone_fit (version_in v) e.1.1

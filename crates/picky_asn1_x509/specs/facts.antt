@@ -12,4 +12,5 @@ pub mod LookUps
 pub mod OlderCertificates
 pub mod Refusals
 pub mod Requests
+pub mod TbsBriefs
 pub mod TbsCertificates

@@ -1,23 +1,24 @@
 //! Certificates.
 
 ghost use Rattle.std.specs.Prelude.{◌≡◌, refl, IfOk, IfErr, MatchOption, None, Some};
-ghost use Rattle.x509_der.specs.Calls.{NoWhole};
+ghost use Rattle.x509_der.specs.Calls.{NoWhole, NoValue};
 ghost use Rattle.x509_der.specs.FirstField.{FirstPart, StartsContent};
 ghost use Rattle.x509_der.specs.laws.Structure.{structure_lawful, structure_element};
 ghost use Rattle.picky_asn1_x509_parts.specs.Extensions.{subject_key_arcs, authority_key_arcs, constraints_arcs};
 ghost use Rattle.picky_asn1_x509.specs.Certificates.{signature_fields, certificate_parts, certificate_base, certificate, certificate_bytes};
 ghost use Rattle.picky_asn1_x509.specs.LookUps.{first_of, held_by, subject_key_in, authority_key_in, constraints_in};
+ghost use Rattle.picky_asn1_x509.specs.SignedParts.{SignedPartOf};
 ghost use Rattle.picky_asn1_x509.specs.TbsCertificates.{tbs_certificate};
-ghost use Rattle.picky_asn1_x509.specs.facts.Certificates.{certificate_same, certificate_agrees};
+ghost use Rattle.picky_asn1_x509.specs.facts.Certificates.{certificate_from, certificate_same, certificate_agrees};
 
-use crate::signed_read::SignedRead;
+use crate::signed_read::{SignedPart, SignedRead};
 pub use crate::tbs_certificate::TbsCertificate;
-use crate::three::{put_three, read_three};
+use crate::three::{pass_three, put_three, read_three};
 use picky_asn1_x509_parts::{AuthorityKeyIdentifier, BasicConstraints, Extension, ExtensionView};
 use std::alloc::{Allocator, Global};
 use x509_der::parts::{
     Field, Join, One, Output, Reader, Ref, SEQUENCE_TAG, Sequence, Structure, Tagged,
-    read_first_field,
+    check_first_field, read_first_field,
 };
 use x509_der::{BitStringAsn1, CloneEq, FromDer, ReadError, ToDer, TooLong};
 use x509_keys::AlgorithmIdentifier;
@@ -124,6 +125,30 @@ impl<A: Allocator + Copy> Certificate<A> {
             outside: read.outside,
         })
     }
+
+    /// Checks a certificate as `check` does, over the whole of the bytes, and answers the bytes of
+    /// `tbs_certificate`, which the signature covers. The deviations inside those bytes are counted apart from
+    /// the others: where there are none inside, the bytes are the DER encoding of `tbs_certificate`, and else
+    /// they aren't. It builds no value and takes no memory.
+    ///
+    /// # Errors
+    /// Refused exactly where the bytes encode no certificate; never for memory.
+    pub fn check_signed_part(alloc: A, bytes: &[u8]) -> Result<SignedPart<'_>, ReadError>
+        ensures ok { IfOk result (λ r. SignedPartOf (certificate_parts {A = A}) tbs_certificate signature_fields bytes.now r.signed.now
+            r.inside r.outside) }
+        ensures start { IfOk result (λ r. StartsContent bytes.now r.start) }
+        ensures err { IfErr result (NoValue (certificate {A = A}) bytes.now) }
+    {
+        match check_first_field::<Self, TbsCertificate<A>, Signature<A>, A>(alloc, bytes) {
+            Ok(checked) => Ok(SignedPart {
+                signed: checked.slice,
+                start: checked.start,
+                inside: checked.inside,
+                outside: checked.outside,
+            }),
+            Err(error) => Err(error),
+        }
+    }
 }
 
 impl<A: Allocator + Copy> CloneEq for Certificate<A> {
@@ -168,9 +193,15 @@ impl<A: Allocator> Structure<Inner<A>> for Certificate<A> {
     }
 
     ghost same = { certificate_same };
+
+    ghost made = { λ f. (certificate_from f, refl) };
 }
 
 impl<A: Allocator + Copy> Field<A> for Certificate<A> {
+    type Brief = ();
+
+    ghost brief = { λ v. tt };
+
     ghost shape = { certificate };
 
     ghost lawful = { λ h. structure_lawful certificate_parts certificate_base certificate_same
@@ -193,6 +224,12 @@ impl<A: Allocator + Copy> Field<A> for Certificate<A> {
 
     fn read(alloc: A, reader: &mut Reader<'_, A>) -> Result<Self, ReadError> {
         read_three::<Self, TbsCertificate<A>, AlgorithmIdentifier<A>, One<BitStringAsn1<A>>, A>(
+            alloc, reader,
+        )
+    }
+
+    fn pass(alloc: A, reader: &mut Reader<'_, A>) -> Result<(), ReadError> {
+        pass_three::<Self, TbsCertificate<A>, AlgorithmIdentifier<A>, One<BitStringAsn1<A>>, A>(
             alloc, reader,
         )
     }

@@ -1,25 +1,26 @@
 //! Requests for certificates.
 
 ghost use Rattle.std.specs.Prelude.{◌≡◌, ◌++◌, ◌∷◌, [], refl, IfOk, IfErr, OnOk, OnErr};
-ghost use Rattle.x509_der.specs.Calls.{NoWhole};
+ghost use Rattle.x509_der.specs.Calls.{NoWhole, NoValue};
 ghost use Rattle.x509_der.specs.FirstField.{FirstPart, StartsContent};
 ghost use Rattle.x509_der.specs.Items.{items};
-ghost use Rattle.x509_der.specs.Reading.{Ready, Reads};
+ghost use Rattle.x509_der.specs.Reading.{Ready, Reads, Passes, thrifty};
 ghost use Rattle.x509_der.specs.Tagged.{tagged};
 ghost use Rattle.x509_der.specs.laws.Structure.{structure_lawful, structure_element};
 ghost use Rattle.picky_asn1_x509.specs.Certificates.{signature_fields};
 ghost use Rattle.picky_asn1_x509.specs.Requests.{request_attributes, request_attributes_bytes, info_parts, info_base, request_info, info_bytes, new_info, with_attributes, request_parts, request_base, request, request_bytes};
-ghost use Rattle.picky_asn1_x509.specs.facts.Requests.{request_attributes_agree, info_same, info_agrees, request_same, request_agrees};
+ghost use Rattle.picky_asn1_x509.specs.SignedParts.{SignedPartOf};
+ghost use Rattle.picky_asn1_x509.specs.facts.Requests.{request_attributes_agree, info_from, info_same, info_agrees, request_from, request_same, request_agrees};
 
 use crate::certificate::Signature;
-use crate::signed_read::SignedRead;
-use crate::three::{put_four, put_three, read_three};
+use crate::signed_read::{SignedPart, SignedRead};
+use crate::three::{pass_three, put_four, put_three, read_three};
 use picky_asn1_x509_parts::{Attribute, Attributes};
 use std::alloc::{AllocError, Allocator, Global};
 use std::marker::Model;
 use x509_der::parts::{
     ContextConstructed, Field, Join, One, Output, Reader, Ref, SEQUENCE_TAG, Sequence, Structure,
-    Tag, Tagged, clone_three, known_items, read_first_field,
+    Tag, Tagged, check_first_field, clone_three, known_items, pass_only, read_first_field,
 };
 use x509_der::{Asn1SequenceOf, BitStringAsn1, CloneEq, FromDer, ReadError, ToDer, TooLong};
 use x509_keys::{AlgorithmIdentifier, SubjectPublicKeyInfo};
@@ -103,7 +104,25 @@ fn read_list<T: FromDer<A>, A: Allocator + Copy>(
     Ok(list.into_inner())
 }
 
+/// Goes past a list under the tag A0.
+///
+/// # Errors
+/// As `read_list`, but never for memory where no places are carried.
+fn pass_list<T: FromDer<A>, A: Allocator + Copy>(
+    alloc: A,
+    reader: &mut Reader<'_, A>,
+) -> Result<(), ReadError>
+    requires { Ready reader.old }
+    ensures { Passes (thrifty (tagged 160 (items T.shape))) (λ v. tt) reader.old reader.new result }
+{
+    pass_only::<ListNest<Asn1SequenceOf<T, A>>, A>(alloc, reader)
+}
+
 impl<A: Allocator + Copy> Field<A> for OpenSslAttributes<A> {
+    type Brief = ();
+
+    ghost brief = { λ v. tt };
+
     ghost shape = { request_attributes };
 
     ghost lawful = { λ h. ⟦<ListNest<Attributes<A>> as Field<A>>⟧.lawful (tt, tt) };
@@ -122,6 +141,10 @@ impl<A: Allocator + Copy> Field<A> for OpenSslAttributes<A> {
 
     fn read(alloc: A, reader: &mut Reader<'_, A>) -> Result<Self, ReadError> {
         Ok(OpenSslAttributes(read_list(alloc, reader)?))
+    }
+
+    fn pass(alloc: A, reader: &mut Reader<'_, A>) -> Result<(), ReadError> {
+        pass_list::<Attribute<A>, A>(alloc, reader)
     }
 }
 
@@ -248,9 +271,15 @@ impl<A: Allocator> Structure<InfoInner<A>> for CertificationRequestInfo<A> {
     }
 
     ghost same = { info_same };
+
+    ghost made = { λ f. (info_from f, refl) };
 }
 
 impl<A: Allocator + Copy> Field<A> for CertificationRequestInfo<A> {
+    type Brief = ();
+
+    ghost brief = { λ v. tt };
+
     ghost shape = { request_info };
 
     ghost lawful = { λ h. structure_lawful info_parts info_base info_same
@@ -274,6 +303,10 @@ impl<A: Allocator + Copy> Field<A> for CertificationRequestInfo<A> {
 
     fn read(alloc: A, reader: &mut Reader<'_, A>) -> Result<Self, ReadError> {
         read_three::<Self, u8, Name<A>, InfoEnd<A>, A>(alloc, reader)
+    }
+
+    fn pass(alloc: A, reader: &mut Reader<'_, A>) -> Result<(), ReadError> {
+        pass_three::<Self, u8, Name<A>, InfoEnd<A>, A>(alloc, reader)
     }
 }
 
@@ -323,6 +356,32 @@ impl<A: Allocator + Copy> CertificationRequest<A> {
             outside: read.outside,
         })
     }
+
+    /// Checks a request as `check` does, over the whole of the bytes, and answers the bytes of
+    /// `certification_request_info`, which the signature covers. The deviations inside those bytes are counted apart from
+    /// the others: where there are none inside, the bytes are the DER encoding of `certification_request_info`, and else
+    /// they aren't. It builds no value and takes no memory.
+    ///
+    /// # Errors
+    /// Refused exactly where the bytes encode no request; never for memory.
+    pub fn check_signed_part(alloc: A, bytes: &[u8]) -> Result<SignedPart<'_>, ReadError>
+        ensures ok { IfOk result (λ r. SignedPartOf (request_parts {A = A}) request_info signature_fields bytes.now r.signed.now
+            r.inside r.outside) }
+        ensures start { IfOk result (λ r. StartsContent bytes.now r.start) }
+        ensures err { IfErr result (NoValue (request {A = A}) bytes.now) }
+    {
+        match check_first_field::<Self, CertificationRequestInfo<A>, Signature<A>, A>(
+            alloc, bytes,
+        ) {
+            Ok(checked) => Ok(SignedPart {
+                signed: checked.slice,
+                start: checked.start,
+                inside: checked.inside,
+                outside: checked.outside,
+            }),
+            Err(error) => Err(error),
+        }
+    }
 }
 
 impl<A: Allocator + Copy> CloneEq for CertificationRequest<A> {
@@ -364,9 +423,15 @@ impl<A: Allocator> Structure<RequestInner<A>> for CertificationRequest<A> {
     }
 
     ghost same = { request_same };
+
+    ghost made = { λ f. (request_from f, refl) };
 }
 
 impl<A: Allocator + Copy> Field<A> for CertificationRequest<A> {
+    type Brief = ();
+
+    ghost brief = { λ v. tt };
+
     ghost shape = { request };
 
     ghost lawful = { λ h. structure_lawful request_parts request_base request_same
@@ -389,6 +454,16 @@ impl<A: Allocator + Copy> Field<A> for CertificationRequest<A> {
 
     fn read(alloc: A, reader: &mut Reader<'_, A>) -> Result<Self, ReadError> {
         read_three::<
+            Self,
+            CertificationRequestInfo<A>,
+            AlgorithmIdentifier<A>,
+            One<BitStringAsn1<A>>,
+            A,
+        >(alloc, reader)
+    }
+
+    fn pass(alloc: A, reader: &mut Reader<'_, A>) -> Result<(), ReadError> {
+        pass_three::<
             Self,
             CertificationRequestInfo<A>,
             AlgorithmIdentifier<A>,

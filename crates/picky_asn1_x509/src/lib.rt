@@ -28,7 +28,7 @@ pub use crate::certificate::Certificate;
 pub use crate::certification_request::{
     CertificationRequest, CertificationRequestInfo, OpenSslAttributes,
 };
-pub use crate::signed_read::SignedRead;
+pub use crate::signed_read::{SignedPart, SignedRead};
 pub use crate::tbs_certificate::TbsCertificate;
 pub use picky_asn1_x509_parts::{
     Attribute, AttributeValues, Attributes, AuthorityKeyIdentifier, BasicConstraints,
@@ -40,9 +40,10 @@ pub use picky_asn1_x509_parts::{
 pub use x509_der::parts::Field;
 pub use x509_der::{
     Asn1RawDer, Asn1SequenceOf, Asn1SetOf, BitString, BitStringAsn1, BitStringAsn1Container,
-    CloneEq, Deviation, Deviations, FromDer, IntegerAsn1, ObjectIdentifier, ObjectIdentifierAsn1,
-    OctetStringAsn1, OctetStringAsn1Container, OidError, Place, RawIn, ReadError, Refused, SameEq,
-    SliceError, Tags, ToDer, TooLong, WriteError, encoded_len, from_bytes, read_counted,
+    CloneEq, Deviation, Deviations, FromDer, IntegerAsn1, Magnitude, ObjectIdentifier,
+    ObjectIdentifierAsn1, OctetStringAsn1, OctetStringAsn1Container, OidError, Place, RawIn,
+    ReadError, Refused, SameEq, SliceError, Tags, ToDer, TooLong, WriteError, check,
+    check_explained, check_located, check_metered, encoded_len, from_bytes, read_counted,
     read_explained, read_located, read_metered, to_vec, write_to_slice,
 };
 

@@ -49,6 +49,10 @@ impl<A: Allocator> ToDer for RequiredFields<A> {
 }
 
 impl<A: Allocator + Copy> Field<A> for RequiredFields<A> {
+    type Brief = ();
+
+    ghost brief = { λ v. tt };
+
     ghost shape = { required_fields };
 
     ghost lawful = { λ h. ⟦<RequiredParts<A> as Content<A>>⟧.content_lawful (
@@ -93,6 +97,11 @@ impl<A: Allocator + Copy> Field<A> for RequiredFields<A> {
 
     fn read(alloc: A, reader: &mut Reader<'_, A>) -> Result<Self, ReadError> {
         Ok(RequiredFields(RequiredParts::read_content(alloc, reader)?))
+    }
+
+    fn pass(alloc: A, reader: &mut Reader<'_, A>) -> Result<(), ReadError> {
+        let _brief = RequiredParts::<A>::pass_content(alloc, reader)?;
+        Ok(())
     }
 }
 

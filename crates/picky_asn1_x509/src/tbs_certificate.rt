@@ -1,20 +1,20 @@
 //! The part of a certificate that is signed.
 
-ghost use Rattle.std.specs.Prelude.{◌≡◌, ◌++◌, refl, Err, IfErr};
+ghost use Rattle.std.specs.Prelude.{◌≡◌, ◌++◌, refl, true, false, Err, IfOk, IfErr};
 ghost use Rattle.x509_der.specs.Element.{element};
 ghost use Rattle.x509_der.specs.Optional.{optional, optional_strict};
 ghost use Rattle.x509_der.specs.Types.read_error.{OutOfMemory};
 ghost use Rattle.x509_der.specs.View.{if_found, kinds_in, meant};
 ghost use Rattle.x509_der.specs.laws.Meaning.{seen_lawful, seen_element};
-ghost use Rattle.picky_asn1_x509.specs.TbsCertificates.{version_field, issuer_id_field, subject_id_field, extensions_field, tbs_base, version_in, written_version, version_kinds, list_in, written_list, list_kinds, is_absent, is_nil, ids_fit, extensions_fit, is_fitting, refusal_where, tbs_means, tbs_meaning, tbs_refusal, tbs_certificate, id_bytes, end_bytes, tbs_back, tbs_bytes};
+ghost use Rattle.picky_asn1_x509.specs.TbsCertificates.{tbs_brief, gone_fit, gone_kinds, tbs_fits, version_field, issuer_id_field, subject_id_field, extensions_field, tbs_base, version_in, written_version, version_kinds, list_in, written_list, list_kinds, is_absent, is_nil, ids_fit, extensions_fit, is_fitting, refusal_where, tbs_means, tbs_meaning, tbs_refusal, tbs_certificate, id_bytes, end_bytes, tbs_back, tbs_bytes};
 ghost use Rattle.picky_asn1_x509.specs.facts.TbsCertificates.{version_apart, issuer_id_apart, subject_id_apart, tbs_is, tbs_keeps, tbs_agrees};
 
 use crate::required_fields::{RequiredFields, WrittenRequired, clone_required, from_required};
-use crate::three::{put_three, read_three_meanings};
+use crate::three::{pass_three_meanings, put_three, read_three_meanings};
 use picky_asn1_x509_parts::Extensions;
 use std::alloc::{AllocError, Allocator, Global};
 use x509_der::parts::{
-    BorrowedBits, Content, ContextConstructed, ContextPrimitive, Field, Join, One, Optional,
+    BorrowedBits, Content, ContextConstructed, ContextPrimitive, Field, Join, Judge, One, Optional,
     Output, Reader, Ref, SEQUENCE_TAG, Sequence, Tag, Tagged, ToContent, View, WholeDeviations,
     clone_three,
 };
@@ -389,7 +389,78 @@ fn known_extensions<A: Allocator + Copy>(extensions: &Extensions<A>)
     let _empty = is_empty(extensions);
 }
 
+/// What is kept of the fields behind those that every certificate has.
+type EndsBrief = (Option<()>, (Option<()>, Option<bool>));
+
+/// Whether the version has the unique identifiers that are there.
+fn allows_ids(version: Version, issuer: Option<()>, subject: Option<()>) -> bool
+    ensures { result ≡ ids_fit version issuer subject }
+{
+    match version {
+        Version::V1 => is_left_out(&issuer) && is_left_out(&subject),
+        Version::V2 | Version::V3 => true,
+    }
+}
+
+/// Whether the version has the extensions, of which this is kept.
+fn allows_list(version: Version, extensions: Option<bool>) -> bool
+    ensures { result ≡ gone_fit version extensions }
+{
+    match version {
+        Version::V1 | Version::V2 => extensions.unwrap_or(true),
+        Version::V3 => true,
+    }
+}
+
+/// The deviation of an empty list that is encoded, of which this is kept.
+fn gone_empty(extensions: Option<bool>) -> Option<Deviation>
+    ensures { if_found result ≡ gone_kinds extensions }
+{
+    match extensions {
+        Some(true) => Some(Deviation::EmptyExtensionsSpelled),
+        Some(false) | None => None,
+    }
+}
+
+/// What the fields mean, of which this is kept.
+fn judged(version: Option<Version>, ends: EndsBrief) -> Result<WholeDeviations, ReadError>
+    ensures ok { IfOk result (λ w. (tbs_fits version ends ≡ true)
+        × (kinds_in w ≡ version_kinds version ++ gone_kinds ends.1.1)) }
+    ensures err { IfErr result (λ e. (tbs_fits version ends ≡ false) × (e ≡ OutOfMemory → ⊥)) }
+{
+    let (issuer, (subject, extensions)) = ends;
+    let number = version_of(version);
+    if !allows_ids(number, issuer, subject) {
+        return Err(ReadError::UniqueIdNeedsV2);
+    }
+    if !allows_list(number, extensions) {
+        return Err(ReadError::ExtensionsNeedV3);
+    }
+    Ok(WholeDeviations::of_two(spelled_first(version), gone_empty(extensions)))
+}
+
+impl<A: Allocator + Copy> Judge<Fields<A>, A> for TbsCertificate<A> {
+    type Glimpse = (Option<Version>, ((), EndsBrief));
+
+    type Kept = ();
+
+    ghost glimpse = { tbs_brief };
+
+    ghost kept = { λ v. tt };
+
+    fn judge(
+        brief: (Option<Version>, ((), EndsBrief)),
+    ) -> Result<((), WholeDeviations), ReadError> {
+        let found = judged(brief.0, brief.1.1)?;
+        Ok(((), found))
+    }
+}
+
 impl<A: Allocator + Copy> Field<A> for TbsCertificate<A> {
+    type Brief = ();
+
+    ghost brief = { λ v. tt };
+
     ghost shape = { tbs_certificate };
 
     ghost lawful = { λ h. seen_lawful tbs_meaning tbs_base ⟦<TbsCertificate<A> as View<Fields<A>, A>>⟧.keeps };
@@ -417,6 +488,10 @@ impl<A: Allocator + Copy> Field<A> for TbsCertificate<A> {
 
     fn read(alloc: A, reader: &mut Reader<'_, A>) -> Result<Self, ReadError> {
         read_three_meanings::<Self, SpelledVersion, RequiredFields<A>, Ends<A>, A>(alloc, reader)
+    }
+
+    fn pass(alloc: A, reader: &mut Reader<'_, A>) -> Result<(), ReadError> {
+        pass_three_meanings::<Self, SpelledVersion, RequiredFields<A>, Ends<A>, A>(alloc, reader)
     }
 }
 

@@ -1,9 +1,9 @@
 //! A SEQUENCE of three or four parts, over any such, of which the last is a content: a proof about it doesn't have all that stands in them.
 
-ghost use Rattle.std.specs.Prelude.{◌++◌, ℕ, List};
+ghost use Rattle.std.specs.Prelude.{◌≡◌, ◌++◌, ℕ, List};
 ghost use Rattle.x509_der.specs.Element.{element};
 ghost use Rattle.x509_der.specs.Join.{join, Apart};
-ghost use Rattle.x509_der.specs.Reading.{Ready, Reads};
+ghost use Rattle.x509_der.specs.Reading.{Ready, Reads, Passes, thrifty};
 ghost use Rattle.x509_der.specs.Structure.{structure};
 ghost use Rattle.x509_der.specs.Tagged.{tagged};
 ghost use Rattle.x509_der.specs.Tally.{Tally};
@@ -11,8 +11,8 @@ ghost use Rattle.x509_der.specs.View.{seen};
 
 use std::alloc::Allocator;
 use x509_der::parts::{
-    Content, Field, Join, Output, Reader, Ref, SEQUENCE_TAG, Sequence, Structure, Tagged,
-    ToContent, View, put_element, read_sequence, read_viewed,
+    Content, Field, Join, Judge, Output, Reader, Ref, SEQUENCE_TAG, Sequence, Structure, Tagged,
+    ToContent, View, pass_sequence, pass_viewed, put_element, read_sequence, read_viewed,
 };
 use x509_der::{ReadError, ToDer, TooLong};
 
@@ -100,4 +100,52 @@ pub(crate) fn read_three_meanings<
         (join (λ j. j.0) (λ j. j.1) G.shape H.content_shape)))) reader.old reader.new result }
 {
     read_viewed::<T, Tagged<Sequence, Join<F, Join<G, H>>>, A>(alloc, reader)
+}
+
+/// Goes past a value by way of the SEQUENCE of its two fields and a content.
+///
+/// # Errors
+/// As the fields; also where another element stands there, or its content has bytes behind them.
+pub(crate) fn pass_three<
+    T: Structure<Join<F, Join<G, H>>> + Drop,
+    F: Field<A> + Drop,
+    G: Field<A> + Drop,
+    H: Content<A>,
+    A: Allocator + Copy,
+>(alloc: A, reader: &mut Reader<'_, A>) -> Result<(), ReadError>
+    requires ready { Ready reader.old }
+    requires fits { F.fits × (G.fits × H.content_fits × Apart G.shape H.content_shape)
+        × Apart F.shape (join (λ (j : G × H). j.0) (λ j. j.1) G.shape H.content_shape) }
+    ensures { Passes (thrifty (structure T.fields (tagged 48 (join (λ j. j.0) (λ j. j.1) F.shape
+        (join (λ j. j.0) (λ j. j.1) G.shape H.content_shape))))) (λ v. tt) reader.old reader.new result }
+{
+    pass_sequence::<T, Join<F, Join<G, H>>, A>(alloc, reader)
+}
+
+/// Goes past a value by way of what the two fields and the content in a SEQUENCE mean.
+///
+/// # Errors
+/// As the fields; also where another element stands there, or its content has bytes behind them, and by the name that
+/// `meaning` gives, where they mean nothing.
+pub(crate) fn pass_three_meanings<
+    T: Judge<
+        Tagged<Sequence, Join<F, Join<G, H>>>,
+        A,
+        Glimpse = (F::Brief, (G::Brief, H::ContentBrief)),
+    >,
+    F: Field<A> + Drop,
+    G: Field<A> + Drop,
+    H: Content<A> + Drop,
+    A: Allocator + Copy,
+>(alloc: A, reader: &mut Reader<'_, A>) -> Result<T::Kept, ReadError>
+    requires ready { Ready reader.old }
+    requires fits { F.fits × (G.fits × H.content_fits × Apart G.shape H.content_shape)
+        × Apart F.shape (join (λ (j : G × H). j.0) (λ j. j.1) G.shape H.content_shape) }
+    requires base { (b : F × (G × H)) (p : List ℕ) (y : Tally) → (tagged 48 (join (λ j. j.0) (λ j. j.1) F.shape
+        (join (λ j. j.0) (λ j. j.1) G.shape H.content_shape))).spelled b p y → T.base.spelled b p y }
+    requires brief { (b : F × (G × H)) → T.glimpse b ≡ (F.brief b.0, (G.brief b.1.0, H.content_brief b.1.1)) }
+    ensures { Passes (thrifty (seen T.view (tagged 48 (join (λ j. j.0) (λ j. j.1) F.shape
+        (join (λ j. j.0) (λ j. j.1) G.shape H.content_shape))))) T.kept reader.old reader.new result }
+{
+    pass_viewed::<T, Tagged<Sequence, Join<F, Join<G, H>>>, A>(alloc, reader)
 }

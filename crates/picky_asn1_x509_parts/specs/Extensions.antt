@@ -1,5 +1,6 @@
 -- Extensions: an object identifier, which says what the value is, whether the extension is critical, and the value in an
 -- OCTET STRING (RFC 5280, 4.2).
+use Rattle.picky_asn1_x509_parts.specs.declared.extension_value.ExtensionKey.{ExtensionKey}
 use Rattle.std.specs.Prelude.{◌≡◌, ℕ, ◌+◌, length, Bool, true, false, if◌then◌else◌, List, [], ◌∷◌, ◌++◌, Option, Some, None}
 use Rattle.std.proofs.Common.{eqb}
 use Rattle.x509_der.specs.Types.{Deviation}
@@ -189,6 +190,10 @@ Fields A = Key × ExtensionValue A
 -- extnID OBJECT IDENTIFIER, critical BOOLEAN DEFAULT FALSE
 abbrev pub key : Shape Key
 key = join (λ k. k.0) (λ k. k.1) (tagged 6 oids) (optional (tagged 1 booleans))
+
+-- what is kept of them
+abbrev pub key_kept : Key → ExtensionKey
+key_kept k = record { value = kind_of k.0; critical = k.1 }
 
 -- and the value of the kind that the identifier says
 abbrev pub inner : {A : Type 0} → Shape (Fields A)

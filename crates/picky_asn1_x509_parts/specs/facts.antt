@@ -10,3 +10,5 @@ pub mod ExtensionListFacts
 pub mod ExtensionOctets
 pub mod FirstExtensions
 pub mod KeyUsages
+pub mod ExtensionKeys
+pub mod AuthorityOrder

@@ -1,18 +1,18 @@
 //! Attributes of requests and of signed messages.
 
 ghost use Rattle.std.specs.Prelude.{◌≡◌, ◌∷◌, [], true, false, refl, Err, IfOk, IsOkAnd, MatchResult};
-ghost use Rattle.x509_der.specs.Reading.{Ready, Reads};
+ghost use Rattle.x509_der.specs.Reading.{Ready, Reads, Passes, thrifty};
 ghost use Rattle.x509_der.specs.laws.Structure.{structure_lawful, structure_element};
 ghost use Rattle.picky_asn1_x509_parts.specs.Attribute.{extension_request_arcs, content_type_arcs, message_digest_arcs, signing_time_arcs, data_arcs, kind_of as kind_by, value_bytes, IsValue, by_kind, attribute_parts, attribute_base, attribute, attribute_bytes};
-ghost use Rattle.picky_asn1_x509_parts.specs.facts.AttributeSame.{attribute_same};
+ghost use Rattle.picky_asn1_x509_parts.specs.facts.AttributeSame.{attribute_of, attribute_same};
 ghost use Rattle.picky_asn1_x509_parts.specs.declared.attribute.AttributeValues.TheVariants as value;
 
 use crate::extension::Extension;
 use crate::extensions::Extensions;
 use std::alloc::{AllocError, Allocator, Global};
 use x509_der::parts::{
-    AnyDefinedBy, DefinedBy, Field, One, Output, Reader, Ref, SEQUENCE_TAG, Sequence, Structure,
-    Tagged, read_fields,
+    AnyDefinedBy, DefinedBy, Field, OidRef, One, Output, Reader, Ref, SEQUENCE_TAG, Sequence,
+    Structure, Tagged, pass_fields, pass_oid, pass_only, read_fields,
 };
 use x509_der::{
     Asn1RawDer, Asn1SequenceOf, Asn1SetOf, CloneEq, FromDer, ObjectIdentifier,
@@ -65,7 +65,7 @@ impl<A: Allocator> SameEq for AttributeValues<A> {
 
 /// What an object identifier says of the values.
 #[derive(Debug, Drop, Clone, Copy, PartialEq, Eq)]
-enum AttributeKind {
+pub enum AttributeKind {
     /// Lists of extensions.
     Extensions,
     /// Identifiers.
@@ -83,10 +83,9 @@ enum AttributeKind {
 /// The kind that an object identifier says. Contents are compared, and no arcs are decoded: `0x2A, 0x86, 0x48, 0x86,
 /// 0xF7, 0x0D, 1, 9` spells 1.2.840.113549.1.9.
 #[tactic(auto, unfolding(x509_der::specs::ObjectIdentifier::numbers_from))]
-fn kind_of<A: Allocator>(identifier: &ObjectIdentifierAsn1<A>) -> AttributeKind
+fn kind_of(identifier: &OidRef<'_>) -> AttributeKind
     ensures { result ≡ kind_by identifier.now }
 {
-    let identifier = &identifier.0;
     if identifier.is_content(&[0x2A, 0x86, 0x48, 0x86, 0xF7, 0x0D, 1, 9, 14]) {
         AttributeKind::Extensions
     } else if identifier.is_content(&[0x2A, 0x86, 0x48, 0x86, 0xF7, 0x0D, 1, 9, 3]) {
@@ -163,10 +162,47 @@ fn read_as<A: Allocator + Copy>(
     }
 }
 
+/// Goes past a value of a kind.
+///
+/// # Errors
+/// Refused where no value of the kind stands there.
+fn pass_as<A: Allocator + Copy>(
+    alloc: A,
+    kind: AttributeKind,
+    reader: &mut Reader<'_, A>,
+) -> Result<(), ReadError>
+    requires { Ready reader.old }
+    ensures { Passes (thrifty (by_kind {A = A} kind)) (λ v. tt) reader.old reader.new result }
+{
+    match kind {
+        AttributeKind::Extensions => pass_only::<Asn1SetOf<Extensions<A>, A>, A>(alloc, reader),
+        AttributeKind::ContentType => pass_only::<Asn1SetOf<ObjectIdentifierAsn1<A>, A>, A>(
+            alloc, reader,
+        ),
+        AttributeKind::SpcStatementType => pass_only::<
+            Asn1SetOf<Asn1SequenceOf<ObjectIdentifierAsn1<A>, A>, A>,
+            A,
+        >(alloc, reader),
+        AttributeKind::MessageDigest => pass_only::<Asn1SetOf<OctetStringAsn1<A>, A>, A>(
+            alloc, reader,
+        ),
+        AttributeKind::SigningTime => pass_only::<Asn1SetOf<UtcTimeAsn1, A>, A>(alloc, reader),
+        AttributeKind::Custom => pass_only::<Asn1RawDer<A>, A>(alloc, reader),
+    }
+}
+
 impl<A: Allocator + Copy> AnyDefinedBy<ObjectIdentifierAsn1<A>, A> for AttributeValues<A> {
     ghost use Rattle.picky_asn1_x509_parts.specs.facts.AttributeFacts.{HoldLaws, value_family, value_agrees};
 
+    type Kind = AttributeKind;
+
+    type BriefBehind = ();
+
     ghost shapes = { λ arcs. by_kind (kind_by arcs) };
+
+    ghost kind = { kind_by };
+
+    ghost brief_behind = { λ v. tt };
 
     ghost starts = { λ b. true };
 
@@ -195,7 +231,20 @@ impl<A: Allocator + Copy> AnyDefinedBy<ObjectIdentifierAsn1<A>, A> for Attribute
         ty: &ObjectIdentifierAsn1<A>,
         reader: &mut Reader<'_, A>,
     ) -> Result<Self, ReadError> {
-        read_as(alloc, kind_of(ty), reader)
+        read_as(alloc, kind_of(&ty.0.lent()), reader)
+    }
+
+    fn pass_key(_alloc: A, reader: &mut Reader<'_, A>) -> Result<AttributeKind, ReadError> {
+        let identifier = pass_oid(reader)?;
+        Ok(kind_of(&identifier))
+    }
+
+    fn pass_behind(
+        alloc: A,
+        chosen: AttributeKind,
+        reader: &mut Reader<'_, A>,
+    ) -> Result<(), ReadError> {
+        pass_as(alloc, chosen, reader)
     }
 }
 
@@ -359,12 +408,18 @@ impl<A: Allocator> Structure<Fields<A>> for Attribute<A> {
     }
 
     ghost same = { attribute_same };
+
+    ghost made = { λ f. (attribute_of f, refl) };
 }
 
 impl<A: Allocator + Copy> Field<A> for Attribute<A> {
     ghost use Rattle.picky_asn1_x509_parts.specs.facts.AttributeFacts.{attribute_agrees};
 
+    type Brief = ();
+
     ghost shape = { attribute };
+
+    ghost brief = { λ v. tt };
 
     ghost lawful = { λ h. structure_lawful attribute_parts attribute_base attribute_same
         (⟦<Fields<A> as Field<A>>⟧.lawful (tt, λ c h. refl)) };
@@ -385,6 +440,10 @@ impl<A: Allocator + Copy> Field<A> for Attribute<A> {
 
     fn read(alloc: A, reader: &mut Reader<'_, A>) -> Result<Self, ReadError> {
         read_fields::<Self, Fields<A>, A>(alloc, reader)
+    }
+
+    fn pass(alloc: A, reader: &mut Reader<'_, A>) -> Result<(), ReadError> {
+        pass_fields::<Self, Fields<A>, A>(alloc, reader)
     }
 }
 

@@ -1,21 +1,22 @@
 //! Which key signed a certificate.
 
-ghost use Rattle.std.specs.Prelude.{◌≡◌, ◌<◌, Option, IfOk, IfSome, IfNone, None, refl};
+ghost use Rattle.std.specs.Prelude.{◌≡◌, ◌&&◌, ℕ, nat_le, ◌<◌, Option, IfOk, IfSome, IfNone, None, refl};
 ghost use Rattle.std.specs.Option.{option_copied};
 ghost use Rattle.x509_der.specs.Items.{items};
+ghost use Rattle.x509_der.specs.Reading.{Ready, Passes, thrifty};
 ghost use Rattle.x509_der.specs.Lasts.{ascends};
 ghost use Rattle.x509_der.specs.View.{if_found};
 ghost use Rattle.x509_der.specs.laws.Meaning.{sequence_keeps, seen_lawful, seen_element};
-ghost use Rattle.picky_asn1_x509_parts.specs.AuthorityKeyIdentifier.{part, number, order_kinds, authority_of, authority_base, authority_meaning, authority_key_identifier, authority_bytes, with_part};
+ghost use Rattle.picky_asn1_x509_parts.specs.AuthorityKeyIdentifier.{Part, part, number, order_kinds, authority_of, authority_base, authority_meaning, authority_key_identifier, authority_bytes, with_part};
 ghost use Rattle.picky_asn1_x509_parts.specs.facts.AuthorityKeyIdentifierFacts.{parts_apart, issuer_apart, authority_is, one_kind, authority_agrees};
 
 use crate::key_identifier::KeyIdentifier;
 use std::alloc::{Allocator, Global};
 use std::marker::Model;
 use x509_der::parts::{
-    Choice, Content, ContextConstructed, ContextPrimitive, Field, Items, Join, One, Optional,
-    Output, Reader, Ref, SEQUENCE_TAG, Sequence, Tagged, View, WholeDeviations, known_there,
-    read_viewed,
+    Choice, Content, ContextConstructed, ContextPrimitive, Field, Items, Join, Judge, One,
+    Optional, Output, Reader, Ref, SEQUENCE_TAG, Sequence, Side, Tagged, ToContent, View,
+    WholeDeviations, known_there, pass_side, pass_viewed, read_viewed,
 };
 use x509_der::{
     CloneEq, Deviation, FromDer, IntegerAsn1, OctetStringAsn1, ReadError, SameEq, ToDer, TooLong,
@@ -151,8 +152,121 @@ type Part<A> = Choice<
     >,
 >;
 
+/// The fields under the tags behind the first.
+type OtherPart<A> = Choice<
+    Tagged<ContextConstructed<1>, One<GeneralName<A>>>,
+    Tagged<ContextPrimitive<2>, IntegerAsn1<A>>,
+>;
+
+/// Items under tags with numbers.
+trait Numbered<A: Allocator>: Field<A> {
+    /// The number of an item's tag.
+    ghost number: { Self → ℕ };
+
+    /// Goes past an item, and keeps the number of its tag.
+    ///
+    /// # Errors
+    /// As the item.
+    fn pass_numbered(alloc: A, reader: &mut Reader<'_, A>) -> Result<u8, ReadError>
+        requires ready { Ready reader.old }
+        requires fits { Self.fits }
+        ensures passes { Passes (thrifty Self.shape) number reader.old reader.new result }
+        ensures few { IfOk result (λ n. n < 3) };
+}
+
+impl<A: Allocator + Copy> Numbered<A> for Part<A> {
+    ghost number = { number };
+
+    fn pass_numbered(alloc: A, reader: &mut Reader<'_, A>) -> Result<u8, ReadError> {
+        match pass_side::<Tagged<ContextPrimitive<0>, KeyIdentifier<A>>, OtherPart<A>, A>(
+            alloc, reader,
+        )? {
+            Side::First(()) => Ok(0),
+            Side::Second(true) => Ok(1),
+            Side::Second(false) => Ok(2),
+        }
+    }
+}
+
+/// Goes past items up to the end of a content, and says whether the numbers of their tags are strictly ascending.
+///
+/// # Errors
+/// As an item.
+fn pass_ascending<T: Numbered<A>, A: Allocator + Copy>(
+    alloc: A,
+    reader: &mut Reader<'_, A>,
+) -> Result<bool, ReadError>
+    requires ready { Ready reader.old }
+    requires fits { T.fits × T.alone }
+    ensures { Passes (thrifty (items T.shape)) (ascends T.number) reader.old reader.new result }
+{
+    let mut least: u8 = 0;
+    let mut sorted = true;
+    'items: while !reader.is_empty() {
+        let number = T::pass_numbered(alloc, reader)?;
+        sorted = both(sorted, least, number);
+        least = number + 1;
+    }
+    Ok(sorted)
+}
+
+/// Whether the numbers ascend with one more.
+fn both(sorted: bool, least: u8, number: u8) -> bool
+    ensures { result ≡ (sorted && nat_le least number) }
+{
+    sorted && least <= number
+}
+
 /// The fields that are read, in their order.
-type Inner<A> = Items<Part<A>, A>;
+#[derive(Drop)]
+struct Inner<A: Allocator>(Items<Part<A>, A>);
+
+impl<A: Allocator> Model for Inner<A> {
+    ghost use Rattle.std.specs.Prelude.{List};
+    ghost use Rattle.picky_asn1_x509_parts.specs.AuthorityKeyIdentifier.{Part};
+
+    ghost Value = { List (Part A) };
+
+    ghost view = { λ p. p.0 };
+}
+
+impl<A: Allocator> ToContent for Inner<A> {
+    ghost content = { λ v. (items part).strict v };
+
+    fn put_content<O: Output>(&self, out: &mut [u8], at: usize) -> Result<usize, TooLong> {
+        self.0.put_content::<O>(out, at)
+    }
+}
+
+impl<A: Allocator + Copy> Content<A> for Inner<A> {
+    type ContentBrief = bool;
+
+    ghost content_shape = { items part };
+
+    ghost content_brief = { ascends number };
+
+    ghost content_lawful = { λ h. ⟦<Items<Part<A>, A> as Content<A>>⟧.content_lawful (
+      (
+        (tt, ((tt, tt), ((tt, tt), issuer_apart))),
+        ((tt, (tt, tt)), parts_apart),
+      ),
+      (tt, (tt, tt)),
+    ) };
+
+    ghost content_agrees = { λ v. refl };
+
+    fn known_content(&self) {
+        self.0.known_content();
+    }
+
+    fn read_content(alloc: A, reader: &mut Reader<'_, A>) -> Result<Self, ReadError> {
+        Ok(Inner(Items::read_content(alloc, reader)?))
+    }
+
+    fn pass_content(alloc: A, reader: &mut Reader<'_, A>) -> Result<bool, ReadError> {
+        pass_ascending::<Part<A>, A>(alloc, reader)
+    }
+}
 
 /// The fields in the SEQUENCE.
 type Fields<A> = Tagged<Sequence, Inner<A>>;
@@ -245,23 +359,39 @@ impl<A: Allocator + Copy> View<Fields<A>, A> for AuthorityKeyIdentifier<A> {
     ghost view = { authority_meaning };
 
     ghost keeps = { sequence_keeps authority_meaning (items part)
-        (⟦<Inner<A> as Content<A>>⟧.content_lawful (
-          (
-            (tt, ((tt, tt), ((tt, tt), issuer_apart))),
-            ((tt, (tt, tt)), parts_apart),
-          ),
-          (tt, (tt, tt)),
-        )) authority_is one_kind };
+        (⟦<Inner<A> as Content<A>>⟧.content_lawful tt) authority_is one_kind };
 
     fn meaning(_alloc: A, parts: Fields<A>) -> Result<(Self, WholeDeviations), ReadError> {
-        let Items(fields) = parts.into_inner();
+        let Inner(Items(fields)) = parts.into_inner();
         let found = WholeDeviations::of(disorder(fields.as_slice()));
         Ok((last_of_each(fields), found))
     }
 }
 
+impl<A: Allocator + Copy> Judge<Fields<A>, A> for AuthorityKeyIdentifier<A> {
+    type Glimpse = bool;
+
+    type Kept = ();
+
+    ghost glimpse = { ascends number };
+
+    ghost kept = { λ v. tt };
+
+    fn judge(brief: bool) -> Result<((), WholeDeviations), ReadError> {
+        if brief {
+            Ok(((), WholeDeviations::Nothing))
+        } else {
+            Ok(((), WholeDeviations::One(Deviation::AuthorityKeyFieldOrder)))
+        }
+    }
+}
+
 impl<A: Allocator + Copy> Field<A> for AuthorityKeyIdentifier<A> {
+    type Brief = ();
+
     ghost shape = { authority_key_identifier };
+
+    ghost brief = { λ v. tt };
 
     ghost lawful = { λ h. seen_lawful authority_meaning authority_base ⟦<AuthorityKeyIdentifier<A> as View<Fields<A>, A>>⟧.keeps };
 
@@ -282,6 +412,10 @@ impl<A: Allocator + Copy> Field<A> for AuthorityKeyIdentifier<A> {
 
     fn read(alloc: A, reader: &mut Reader<'_, A>) -> Result<Self, ReadError> {
         read_viewed::<Self, Fields<A>, A>(alloc, reader)
+    }
+
+    fn pass(alloc: A, reader: &mut Reader<'_, A>) -> Result<(), ReadError> {
+        pass_viewed::<Self, Fields<A>, A>(alloc, reader)
     }
 }
 

@@ -3,13 +3,13 @@
 ghost use Rattle.std.specs.Prelude.{◌≡◌, refl};
 ghost use Rattle.x509_der.specs.laws.Structure.{structure_lawful, structure_element};
 ghost use Rattle.picky_asn1_x509_parts.specs.BasicConstraints.{constraints_parts, constraints_base, basic_constraints};
-ghost use Rattle.picky_asn1_x509_parts.specs.facts.BasicConstraints.{constraints_same, pathlen_apart};
+ghost use Rattle.picky_asn1_x509_parts.specs.facts.BasicConstraints.{constraints_of, constraints_same, pathlen_apart};
 
 use std::alloc::Allocator;
 use std::marker::Model;
 use x509_der::parts::{
     Field, Join, One, Optional, Output, Reader, Ref, SEQUENCE_TAG, Sequence, Structure, Tagged,
-    known_there, read_fields,
+    known_there, pass_fields, read_fields,
 };
 use x509_der::{CloneEq, FromDer, ReadError, SameEq, ToDer, TooLong};
 
@@ -115,10 +115,16 @@ impl Structure<Fields> for BasicConstraints {
     }
 
     ghost same = { constraints_same };
+
+    ghost made = { λ f. (constraints_of f, refl) };
 }
 
 impl<A: Allocator + Copy> Field<A> for BasicConstraints {
+    type Brief = ();
+
     ghost shape = { basic_constraints };
+
+    ghost brief = { λ v. tt };
 
     ghost lawful = { λ h. structure_lawful constraints_parts constraints_base constraints_same
         (⟦<Fields as Field<A>>⟧.lawful ((tt, tt), (tt, tt), pathlen_apart)) };
@@ -139,6 +145,10 @@ impl<A: Allocator + Copy> Field<A> for BasicConstraints {
 
     fn read(alloc: A, reader: &mut Reader<'_, A>) -> Result<Self, ReadError> {
         read_fields::<Self, Fields, A>(alloc, reader)
+    }
+
+    fn pass(alloc: A, reader: &mut Reader<'_, A>) -> Result<(), ReadError> {
+        pass_fields::<Self, Fields, A>(alloc, reader)
     }
 }
 

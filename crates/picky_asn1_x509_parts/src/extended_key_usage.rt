@@ -5,6 +5,7 @@ ghost use Rattle.std.specs.Iterator.Adapters.{IterYieldsInOrder};
 ghost use Rattle.std.specs.List.{flat_map};
 ghost use Rattle.std.specs.Slice.Iter.{iter_rest};
 ghost use Rattle.x509_der.specs.Element.{element};
+ghost use Rattle.x509_der.specs.Items.{no_items};
 ghost use Rattle.picky_asn1_x509_parts.specs.ExtendedKeyUsage.{key_purpose, extended_key_usage};
 
 use std::alloc::{Allocator, Global};
@@ -117,7 +118,11 @@ impl<A: Allocator> ToDer for ExtendedKeyUsage<A> {
 }
 
 impl<A: Allocator + Copy> Field<A> for ExtendedKeyUsage<A> {
+    type Brief = bool;
+
     ghost shape = { extended_key_usage };
+
+    ghost brief = { no_items };
 
     ghost lawful = { λ h. ⟦<Purposes<A> as Field<A>>⟧.lawful (tt, tt) };
 
@@ -135,6 +140,10 @@ impl<A: Allocator + Copy> Field<A> for ExtendedKeyUsage<A> {
 
     fn read(alloc: A, reader: &mut Reader<'_, A>) -> Result<Self, ReadError> {
         Ok(ExtendedKeyUsage(Asn1SequenceOf::read(alloc, reader)?))
+    }
+
+    fn pass(alloc: A, reader: &mut Reader<'_, A>) -> Result<bool, ReadError> {
+        Purposes::<A>::pass(alloc, reader)
     }
 }
 

@@ -4,20 +4,20 @@ ghost use Rattle.std.specs.Prelude.{◌≡◌, ◌↔◌, true, false, Contains,
 ghost use Rattle.x509_der.specs.View.{if_found};
 ghost use Rattle.x509_der.specs.laws.Meaning.{sequence_keeps, seen_lawful, seen_element};
 ghost use Rattle.picky_asn1_x509_parts.specs.declared.extension_value.ExtensionValue.TheVariants as value;
-ghost use Rattle.picky_asn1_x509_parts.specs.Extensions.{authority_key_arcs, subject_key_arcs, key_usage_arcs, subject_name_arcs, issuer_name_arcs, constraints_arcs, extended_usage_arcs, crl_number_arcs, any_usage_arcs, kind_of as kind_by, kind_in, critical_of, critical_kinds, inner, fields_bytes, extension_back, extension_base, extension_meaning, extension_bytes, extension, made, viewed, with_critical};
+ghost use Rattle.picky_asn1_x509_parts.specs.Extensions.{key_kept, authority_key_arcs, subject_key_arcs, key_usage_arcs, subject_name_arcs, issuer_name_arcs, constraints_arcs, extended_usage_arcs, crl_number_arcs, any_usage_arcs, kind_of as kind_by, kind_in, critical_of, critical_kinds, inner, fields_bytes, extension_back, extension_base, extension_meaning, extension_bytes, extension, made, viewed, with_critical};
 
 use crate::authority_key_identifier::AuthorityKeyIdentifier;
 use crate::basic_constraints::BasicConstraints;
 use crate::extended_key_usage::ExtendedKeyUsage;
-use crate::extension_value::{ExtensionValue, Key, KeyNest, known_value};
+use crate::extension_value::{ExtensionKey, ExtensionValue, Key, KeyNest, known_value};
 pub use crate::extension_view::ExtensionView;
 use crate::key_identifier::KeyIdentifier;
 use crate::key_usage::KeyUsage;
 use std::alloc::{AllocError, Allocator, Global};
 use std::marker::Model;
 use x509_der::parts::{
-    Content, DefinedBy, Field, Join, One, Optional, Output, Reader, Ref, SEQUENCE_TAG, Sequence,
-    Tagged, ToContent, View, WholeDeviations, clone_both, read_viewed,
+    Content, DefinedBy, Field, Join, Judge, One, Optional, Output, Reader, Ref, SEQUENCE_TAG,
+    Sequence, Tagged, ToContent, View, WholeDeviations, clone_both, pass_viewed, read_viewed,
 };
 use x509_der::{
     CloneEq, Deviation, FromDer, IntegerAsn1, ObjectIdentifier, ObjectIdentifierAsn1,
@@ -56,7 +56,11 @@ impl<A: Allocator> ToContent for MatchingFields<A> {
 impl<A: Allocator + Copy> Content<A> for MatchingFields<A> {
     ghost use Rattle.picky_asn1_x509_parts.specs.facts.ExtensionFacts.{key_apart, inner_agrees};
 
+    type ContentBrief = (ExtensionKey, ());
+
     ghost content_shape = { inner };
+
+    ghost content_brief = { λ f. (key_kept f.0, tt) };
 
     ghost content_lawful = { λ h. ⟦<Inner<A> as Field<A>>⟧.lawful (tt, key_apart) };
 
@@ -69,6 +73,10 @@ impl<A: Allocator + Copy> Content<A> for MatchingFields<A> {
     fn read_content(alloc: A, reader: &mut Reader<'_, A>) -> Result<Self, ReadError> {
         let fields = Inner::<A>::read(alloc, reader)?;
         Ok(MatchingFields(fields))
+    }
+
+    fn pass_content(alloc: A, reader: &mut Reader<'_, A>) -> Result<(ExtensionKey, ()), ReadError> {
+        Inner::<A>::pass(alloc, reader)
     }
 }
 
@@ -450,10 +458,28 @@ impl<A: Allocator + Copy> View<Fields<A>, A> for Extension<A> {
     }
 }
 
+impl<A: Allocator + Copy> Judge<Fields<A>, A> for Extension<A> {
+    type Glimpse = (ExtensionKey, ());
+
+    type Kept = ();
+
+    ghost glimpse = { λ f. (key_kept f.0, tt) };
+
+    ghost kept = { λ v. tt };
+
+    fn judge(brief: (ExtensionKey, ())) -> Result<((), WholeDeviations), ReadError> {
+        Ok(((), WholeDeviations::of(spelled_false(brief.0.critical))))
+    }
+}
+
 impl<A: Allocator + Copy> Field<A> for Extension<A> {
     ghost use Rattle.picky_asn1_x509_parts.specs.facts.ExtensionFacts.{extension_is, extension_one, extension_agrees};
 
+    type Brief = ();
+
     ghost shape = { extension };
+
+    ghost brief = { λ v. tt };
 
     ghost lawful = { λ h. seen_lawful extension_meaning extension_base ⟦<Extension<A> as View<Fields<A>, A>>⟧.keeps };
 
@@ -473,6 +499,10 @@ impl<A: Allocator + Copy> Field<A> for Extension<A> {
 
     fn read(alloc: A, reader: &mut Reader<'_, A>) -> Result<Self, ReadError> {
         read_viewed::<Self, Fields<A>, A>(alloc, reader)
+    }
+
+    fn pass(alloc: A, reader: &mut Reader<'_, A>) -> Result<(), ReadError> {
+        pass_viewed::<Self, Fields<A>, A>(alloc, reader)
     }
 }
 

@@ -2,9 +2,9 @@
 
 ghost use Rattle.std.specs.Prelude.{◌≡◌, ◌++◌, Option, true, false, refl};
 ghost use Rattle.std.proofs.Common.{eqb};
-ghost use Rattle.x509_der.specs.Optional.{optional_strict};
-ghost use Rattle.x509_der.specs.Reading.{Ready, Reads};
-ghost use Rattle.picky_asn1_x509_parts.specs.Extensions.{kind_of as kind_by, value_bytes, IsValue, by_kind};
+ghost use Rattle.x509_der.specs.Optional.{optional_strict, brief_if};
+ghost use Rattle.x509_der.specs.Reading.{Ready, Reads, Passes, thrifty};
+ghost use Rattle.picky_asn1_x509_parts.specs.Extensions.{kind_of as kind_by, value_bytes, IsValue, by_kind, key_kept};
 
 use crate::authority_key_identifier::AuthorityKeyIdentifier;
 use crate::basic_constraints::BasicConstraints;
@@ -14,8 +14,8 @@ use crate::key_usage::KeyUsage;
 use std::alloc::{Allocator, Global};
 use std::marker::Model;
 use x509_der::parts::{
-    AnyDefinedBy, BOOLEAN_TAG, Content, Field, Join, OBJECT_IDENTIFIER_TAG, OCTET_STRING_TAG, One,
-    Optional, Output, Reader, ToContent,
+    AnyDefinedBy, BOOLEAN_TAG, Content, Field, Join, OBJECT_IDENTIFIER_TAG, OCTET_STRING_TAG,
+    OidRef, One, Optional, Output, Reader, ToContent, pass_oid, pass_only,
 };
 use x509_der::{
     CloneEq, IntegerAsn1, ObjectIdentifierAsn1, OctetStringAsn1, OctetStringAsn1Container,
@@ -69,7 +69,7 @@ impl<A: Allocator> SameEq for ExtensionValue<A> {
 
 /// What an object identifier says of the value.
 #[derive(Debug, Drop, Clone, Copy, PartialEq, Eq)]
-enum ExtensionKind {
+pub enum ExtensionKind {
     /// An authority key identifier.
     AuthorityKeyIdentifier,
     /// A subject key identifier.
@@ -92,10 +92,9 @@ enum ExtensionKind {
 
 /// The kind that an object identifier says. Contents are compared, and no arcs are decoded: `0x55, 0x1D` spells 2.5.29.
 #[tactic(auto, unfolding(x509_der::specs::ObjectIdentifier::numbers_from))]
-fn kind_of<A: Allocator>(identifier: &ObjectIdentifierAsn1<A>) -> ExtensionKind
+fn kind_of(identifier: &OidRef<'_>) -> ExtensionKind
     ensures { result ≡ kind_by identifier.now }
 {
-    let identifier = &identifier.0;
     if identifier.is_content(&[0x55, 0x1D, 35]) {
         ExtensionKind::AuthorityKeyIdentifier
     } else if identifier.is_content(&[0x55, 0x1D, 14]) {
@@ -217,7 +216,11 @@ type KeyFields<A> = Join<ObjectIdentifierAsn1<A>, One<Optional<bool>>>;
 impl<A: Allocator + Copy> Field<A> for Key<A> {
     ghost use Rattle.picky_asn1_x509_parts.specs.Extensions.{key};
 
+    type Brief = ((), Option<bool>);
+
     ghost shape = { key };
+
+    ghost brief = { λ k. (tt, brief_if (λ b. b) k.1) };
 
     ghost lawful = { λ h. ⟦<KeyFields<A> as Content<A>>⟧.content_lawful (tt, (tt, tt), λ c h. refl) };
 
@@ -238,12 +241,78 @@ impl<A: Allocator + Copy> Field<A> for Key<A> {
     fn read(alloc: A, reader: &mut Reader<'_, A>) -> Result<Self, ReadError> {
         Ok(KeyNest(Join::read_content(alloc, reader)?))
     }
+
+    fn pass(alloc: A, reader: &mut Reader<'_, A>) -> Result<((), Option<bool>), ReadError> {
+        KeyFields::<A>::pass_content(alloc, reader)
+    }
+}
+
+/// What is kept of what stands in front of a value.
+#[derive(Debug, Drop, Clone, Copy)]
+pub struct ExtensionKey {
+    /// The kind of the value.
+    pub value: ExtensionKind,
+    /// Whether it is critical, where that is spelled.
+    pub critical: Option<bool>,
+}
+
+/// Goes past a value of a kind.
+///
+/// # Errors
+/// Refused where no value of the kind stands there.
+fn pass_as<A: Allocator + Copy>(
+    alloc: A,
+    kind: ExtensionKind,
+    reader: &mut Reader<'_, A>,
+) -> Result<(), ReadError>
+    requires { Ready reader.old }
+    ensures { Passes (thrifty (by_kind {A = A} kind)) (λ v. tt) reader.old reader.new result }
+{
+    match kind {
+        ExtensionKind::AuthorityKeyIdentifier => pass_only::<
+            OctetStringAsn1Container<AuthorityKeyIdentifier<A>>,
+            A,
+        >(alloc, reader),
+        ExtensionKind::SubjectKeyIdentifier => pass_only::<
+            OctetStringAsn1Container<SubjectKeyIdentifier<A>>,
+            A,
+        >(alloc, reader),
+        ExtensionKind::KeyUsage => pass_only::<OctetStringAsn1Container<KeyUsage<A>>, A>(
+            alloc, reader,
+        ),
+        ExtensionKind::SubjectAltName => pass_only::<OctetStringAsn1Container<GeneralNames<A>>, A>(
+            alloc, reader,
+        ),
+        ExtensionKind::IssuerAltName => pass_only::<OctetStringAsn1Container<GeneralNames<A>>, A>(
+            alloc, reader,
+        ),
+        ExtensionKind::BasicConstraints => pass_only::<
+            OctetStringAsn1Container<BasicConstraints>,
+            A,
+        >(alloc, reader),
+        ExtensionKind::ExtendedKeyUsage => pass_only::<
+            OctetStringAsn1Container<ExtendedKeyUsage<A>>,
+            A,
+        >(alloc, reader),
+        ExtensionKind::Generic => pass_only::<OctetStringAsn1<A>, A>(alloc, reader),
+        ExtensionKind::CrlNumber => pass_only::<OctetStringAsn1Container<IntegerAsn1<A>>, A>(
+            alloc, reader,
+        ),
+    }
 }
 
 impl<A: Allocator + Copy> AnyDefinedBy<Key<A>, A> for ExtensionValue<A> {
     ghost use Rattle.picky_asn1_x509_parts.specs.facts.ExtensionFacts.{HoldLaws, value_family, value_agrees};
 
+    type Kind = ExtensionKey;
+
+    type BriefBehind = ();
+
     ghost shapes = { λ key. by_kind (kind_by key.0) };
+
+    ghost kind = { key_kept };
+
+    ghost brief_behind = { λ v. tt };
 
     ghost starts = { λ b. eqb b 4 };
 
@@ -269,6 +338,21 @@ impl<A: Allocator + Copy> AnyDefinedBy<Key<A>, A> for ExtensionValue<A> {
     }
 
     fn read_behind(alloc: A, key: &Key<A>, reader: &mut Reader<'_, A>) -> Result<Self, ReadError> {
-        read_as(alloc, kind_of(&key.0.0), reader)
+        read_as(alloc, kind_of(&key.0.0.0.lent()), reader)
+    }
+
+    fn pass_key(alloc: A, reader: &mut Reader<'_, A>) -> Result<ExtensionKey, ReadError> {
+        let identifier = pass_oid(reader)?;
+        let value = kind_of(&identifier);
+        let critical = Optional::<bool>::pass(alloc, reader)?;
+        Ok(ExtensionKey { value, critical })
+    }
+
+    fn pass_behind(
+        alloc: A,
+        chosen: ExtensionKey,
+        reader: &mut Reader<'_, A>,
+    ) -> Result<(), ReadError> {
+        pass_as(alloc, chosen.value, reader)
     }
 }

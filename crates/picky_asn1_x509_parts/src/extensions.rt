@@ -1,6 +1,7 @@
 //! Lists of extensions.
 
 ghost use Rattle.std.specs.Prelude.{◌≡◌, MatchOption, None, Some};
+ghost use Rattle.x509_der.specs.Items.{no_items};
 ghost use Rattle.picky_asn1_x509_parts.specs.ExtensionLists.{extensions, extensions_bytes};
 ghost use Rattle.picky_asn1_x509_parts.specs.FirstExtensions.{has_identifier, first_of};
 
@@ -94,7 +95,11 @@ impl<A: Allocator> ToDer for Extensions<A> {
 impl<A: Allocator + Copy> Field<A> for Extensions<A> {
     ghost use Rattle.picky_asn1_x509_parts.specs.facts.ExtensionListFacts.{extensions_agree};
 
+    type Brief = bool;
+
     ghost shape = { extensions };
+
+    ghost brief = { no_items };
 
     ghost lawful = { λ h. ⟦<Asn1SequenceOf<Extension<A>, A> as Field<A>>⟧.lawful (tt, tt) };
 
@@ -112,6 +117,10 @@ impl<A: Allocator + Copy> Field<A> for Extensions<A> {
 
     fn read(alloc: A, reader: &mut Reader<'_, A>) -> Result<Self, ReadError> {
         Ok(Extensions(Asn1SequenceOf::read(alloc, reader)?))
+    }
+
+    fn pass(alloc: A, reader: &mut Reader<'_, A>) -> Result<bool, ReadError> {
+        Asn1SequenceOf::<Extension<A>, A>::pass(alloc, reader)
     }
 }
 

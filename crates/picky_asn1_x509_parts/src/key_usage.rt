@@ -279,7 +279,11 @@ impl<A: Allocator> ToDer for KeyUsage<A> {
 }
 
 impl<A: Allocator + Copy> Field<A> for KeyUsage<A> {
+    type Brief = ();
+
     ghost shape = { key_usage };
+
+    ghost brief = { λ v. tt };
 
     ghost lawful = { λ h. ⟦<BitStringAsn1<A> as Field<A>>⟧.lawful tt };
 
@@ -295,6 +299,10 @@ impl<A: Allocator + Copy> Field<A> for KeyUsage<A> {
 
     fn read(alloc: A, reader: &mut Reader<'_, A>) -> Result<Self, ReadError> {
         Ok(KeyUsage(BitStringAsn1::read(alloc, reader)?))
+    }
+
+    fn pass(alloc: A, reader: &mut Reader<'_, A>) -> Result<(), ReadError> {
+        BitStringAsn1::<A>::pass(alloc, reader)
     }
 }
 

@@ -5,6 +5,8 @@ use Rattle.x509_der_parts.specs.Shape.{Shape}
 use Rattle.x509_der_parts.specs.PrimitiveContent.{itself}
 pub use Rattle.x509_der_parts.specs.Element.{AreBytes}
 use Rattle.x509_der_parts.specs.Element.{base256}
+use Rattle.x509_der.specs.declared.integer.Magnitude.{Magnitude}
+use Rattle.x509_der.specs.declared.integer.Magnitude.TheVariants as magnitudes
 
 -- the number whose digits in base 256 the bytes are, the highest first
 abbrev pub unsigned_value : List ℕ → ℕ
@@ -20,6 +22,20 @@ signed_value (b ∷ r) = pos (b % 128 * 256 ^ length r + unsigned_value r) -ℤ 
 abbrev pub sign_bit : List ℕ → Bool
 sign_bit [] = false
 sign_bit (b ∷ r) = nat_le 128 b
+
+-- the number is below 2^64
+abbrev pub is_within : List ℕ → Bool
+is_within c = nat_lt (unsigned_value c) 18446744073709551616
+
+-- how large a number is that isn't negative: itself, where it is one byte
+abbrev pub unsigned_magnitude : List ℕ → Magnitude
+unsigned_magnitude [] = magnitudes.Small
+unsigned_magnitude (a ∷ []) = magnitudes.Byte a
+unsigned_magnitude (a ∷ b ∷ r) = if is_within (a ∷ b ∷ r) then magnitudes.Small else magnitudes.Large
+
+-- how large the number is
+abbrev pub magnitude : List ℕ → Magnitude
+magnitude c = if sign_bit c then magnitudes.Negative else unsigned_magnitude c
 
 -- the first byte says nothing, since its bits are all as the next byte's first bit is
 abbrev pub pads : ℕ → ℕ → Bool

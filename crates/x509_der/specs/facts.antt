@@ -29,3 +29,4 @@ pub mod Integer
 pub mod IntegerUnique
 pub mod NaturalNumber
 pub mod Under
+pub mod Magnitudes

@@ -15,3 +15,5 @@ pub use Rattle.x509_der_parts.specs.reads.Optional
 pub use Rattle.x509_der_parts.specs.reads.Join
 pub use Rattle.x509_der_parts.specs.reads.View
 pub use Rattle.x509_der_parts.specs.reads.WholeInput
+pub use Rattle.x509_der_parts.specs.reads.Passing
+pub use Rattle.x509_der_parts.specs.reads.PassingItems

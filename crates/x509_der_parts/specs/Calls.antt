@@ -84,3 +84,32 @@ pub record RefusesAll {V : Type 0} (s : Shape V) (old new : Cursor) (e : ReadErr
 abbrev pub ReadsAll : {V : Type 0} → Shape V → Cursor → Cursor → Result V ReadError → Type 0
 ReadsAll s old new (Ok v) = TakesAll s old new v
 ReadsAll s old new (Err e) = RefusesAll s old new e
+
+-- the string is spelled with no value, and it isn't for memory that it was refused
+abbrev pub NoValue : {V : Type 0} → Shape V → List ℕ → ReadError → Type 0
+NoValue {V} s string e = (e ≡ OutOfMemory → ⊥) × ((v : V) (y : Tally) → s.spelled v string y → ⊥)
+
+-- a whole input that was gone past: it is spelled with some value, of which the ten counts are known; or with none
+abbrev pub CheckedRead : {V : Type 0} → Shape V → List ℕ → Result (List ℕ) ReadError → Type 0
+CheckedRead {V} s string (Ok counts) = (v : V) × Counted s string v counts
+CheckedRead s string (Err e) = NoValue s string e
+
+-- the same, and how far it got
+abbrev pub ExplainedCheck : {V : Type 0} → Shape V → List ℕ → Result (List ℕ) Refused → Type 0
+ExplainedCheck {V} s string (Ok counts) = (v : V) × Counted s string v counts
+ExplainedCheck s string (Err r) = NoValue s string r.error × GotTo s string r.error r.at
+
+-- the same, and how many headers were decoded: on accepted input those of the spelling, at least the total of deviations; on refused input at least what is owed
+abbrev pub MeteredCheck : {V : Type 0} → Shape V → List ℕ → Result (List ℕ) Refused → ℕ → Type 0
+MeteredCheck {V} s string (Ok counts) headers = (v : V) × Counted s string v counts × MeteredRead s string (Ok (v, counts)) headers
+MeteredCheck s string (Err r) headers = NoValue s string r.error × GotTo s string r.error r.at × ((n : ℕ) → s.min_headers string n → n ≤ headers)
+
+-- the places of the marks; memory is refused for them alone
+abbrev pub LocatedCheck : {V : Type 0} → Shape V → List ℕ → Result (List Mark) ReadError → Type 0
+LocatedCheck {V} s string (Ok places) = (v : V) × Located s string v places
+LocatedCheck {V} s string (Err e) = NoWhole s string e × ((v : V) (y : Tally) → s.spelled v string y → y.marks ≡ [] → ⊥)
+
+-- going past all that is left
+abbrev pub PassesAll : {V : Type 0} → Shape V → Cursor → Cursor → Result (Unit {0}) ReadError → Type 0
+PassesAll {V} s old new (Ok u) = (v : V) × TakesAll s old new v
+PassesAll s old new (Err e) = RefusesAll s old new e

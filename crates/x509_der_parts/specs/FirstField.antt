@@ -51,3 +51,8 @@ pub record BothTaken {V W : Type 0} (a : Shape V) (b : Shape W) (old new : Curso
 abbrev pub TakesBoth : {V W : Type 0} → Shape V → Shape W → Cursor → Cursor → Result ((V × W) × ℕ × List ℕ) ReadError → Type 0
 TakesBoth a b old new (Ok r) = BothTaken a b old new r.0.0 r.0.1 r.1 r.2
 TakesBoth a b old new (Err e) = Refuses (both_fields a b) old new e
+
+-- the same, of values that were gone past
+abbrev pub PassesBoth : {V W : Type 0} → Shape V → Shape W → Cursor → Cursor → Result (ℕ × List ℕ) ReadError → Type 0
+PassesBoth {V} {W} a b old new (Ok r) = (v : V) × (w : W) × BothTaken a b old new v w r.0 r.1
+PassesBoth a b old new (Err e) = Refuses (both_fields a b) old new e

@@ -100,6 +100,31 @@ abbrev pub Reads : {V : Type 0} → Shape V → Cursor → Cursor → Result V R
 Reads s old new (Ok v) = Accepts s old new v
 Reads s old new (Err e) = Refuses s old new e
 
+-- the same shape, where what goes past it takes no memory but for places
+abbrev pub thrifty : {V : Type 0} → Shape V → Shape V
+thrifty s = record {
+  spelled = s.spelled;
+  strict = s.strict;
+  valid = s.valid;
+  readable = s.readable;
+  starts = s.starts;
+  avoids = s.avoids;
+  min_headers = s.min_headers;
+  frugal = Unit {0};
+  parts = s.parts;
+}
+
+-- a value was read, of which this alone is kept
+pub record Passed {V B : Type 0} (s : Shape V) (brief : V → B) (old new : Cursor) (b : B) : Type 0 where
+  pub value : V
+  pub accepts : Accepts s old new value
+  pub kept : brief value ≡ b
+
+-- what going past a shape gives
+abbrev pub Passes : {V B : Type 0} → Shape V → (V → B) → Cursor → Cursor → Result B ReadError → Type 0
+Passes s brief old new (Ok b) = Passed s brief old new b
+Passes s brief old new (Err e) = Refuses s old new e
+
 -- the string begins with an element: its tag, its content and what comes behind it
 pub record IsFirst (string : List ℕ) (t : ℕ) (content after : List ℕ) : Type 0 where
   pub bytes : string ≡ element t content ++ after

@@ -2,6 +2,7 @@
 use Rattle.std.proofs.Common.{List, [], ◌∷◌, Option, Some, None, Result, Ok, Err, ◌≡◌, ℕ, ◌+◌, ◌≤◌, length}
 use Rattle.x509_der_parts.specs.declared.deviation.Deviation.{Deviation}
 use Rattle.x509_der_parts.specs.declared.errors.ReadError.{ReadError}
+use Rattle.x509_der_parts.specs.declared.errors.ReadError.TheVariants.{OutOfMemory}
 use Rattle.x509_der_parts.specs.declared.viewed.WholeDeviations.{WholeDeviations}
 use Rattle.x509_der_parts.specs.declared.viewed.WholeDeviations.TheVariants.{Nothing, One, Two}
 use Rattle.x509_der_parts.specs.Shape.{Shape}
@@ -82,3 +83,8 @@ pub record IsView {B V : Type 0} (of : B → Option (V × List Deviation)) (back
 
 abbrev pub IsSeen : {B V : Type 0} → Meaning B V → Shape B → Type 0
 IsSeen m s = IsView m.of m.back m.valid m.readable s
+
+-- what is said of fields by what was kept of them: the deviations over the whole and what is kept of the value; or that they mean nothing
+abbrev pub Judged : {V B : Type 0} → (V → B) → Option (V × List Deviation) → Result (B × WholeDeviations) ReadError → Type 0
+Judged {V} kept o (Ok w) = (v : V) × (o ≡ Some (v, kinds_in w.1)) × (kept v ≡ w.0)
+Judged kept o (Err e) = (o ≡ None) × (e ≡ OutOfMemory → ⊥)

@@ -6,6 +6,7 @@ pub mod Counts
 pub mod DefinedBy
 pub mod Header
 pub mod FirstField
+pub mod FirstSlice
 pub mod FirstElement
 pub mod Items
 pub mod Structure
@@ -15,3 +16,6 @@ pub mod Optional
 pub mod Join
 pub mod View
 pub mod WholeInput
+pub mod Passing
+pub mod PassingItems
+pub mod PassingWhole

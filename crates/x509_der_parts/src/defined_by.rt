@@ -47,7 +47,11 @@ impl<K: ToDer, V: ToDer> ToDer for DefinedBy<K, V> {
 }
 
 impl<A: Allocator + Copy, K: Field<A> + Drop, V: AnyDefinedBy<K, A>> Field<A> for DefinedBy<K, V> {
+    type Brief = (V::Kind, V::BriefBehind);
+
     ghost shape = { defined_by (λ c. c.0) (λ c. c.1) K.shape V.shapes V.starts V.avoids };
+
+    ghost brief = { λ c. (V.kind c.0, V.brief_behind c.1) };
 
     ghost fits = { K.fits × KeyApart K.shape V.starts };
 
@@ -76,6 +80,19 @@ impl<A: Allocator + Copy, K: Field<A> + Drop, V: AnyDefinedBy<K, A>> Field<A> fo
         let behind = reader.spot();
         match V::read_behind(alloc, &key, reader) {
             Ok(value) => Ok(DefinedBy(key, value)),
+            Err(error) => {
+                stand_at_key(error, reader, spot, behind);
+                Err(error)
+            }
+        }
+    }
+
+    fn pass(alloc: A, reader: &mut Reader<'_, A>) -> Result<Self::Brief, ReadError> {
+        let spot = reader.spot();
+        let kind = V::pass_key(alloc, reader)?;
+        let behind = reader.spot();
+        match V::pass_behind(alloc, kind, reader) {
+            Ok(brief) => Ok((kind, brief)),
             Err(error) => {
                 stand_at_key(error, reader, spot, behind);
                 Err(error)

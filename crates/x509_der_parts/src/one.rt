@@ -27,7 +27,11 @@ impl<F: ToDer> ToContent for One<F> {
 }
 
 impl<A: Allocator + Copy, F: Field<A>> Content<A> for One<F> {
+    type ContentBrief = F::Brief;
+
     ghost content_shape = { F.shape };
+
+    ghost content_brief = { λ v. F.brief v };
 
     ghost content_fits = { F.fits };
 
@@ -42,5 +46,9 @@ impl<A: Allocator + Copy, F: Field<A>> Content<A> for One<F> {
     fn read_content(alloc: A, reader: &mut Reader<'_, A>) -> Result<Self, ReadError> {
         let field = F::read(alloc, reader)?;
         Ok(One(field))
+    }
+
+    fn pass_content(alloc: A, reader: &mut Reader<'_, A>) -> Result<Self::ContentBrief, ReadError> {
+        F::pass(alloc, reader)
     }
 }

@@ -9,7 +9,7 @@ ghost use Rattle.x509_der_parts.specs.laws.Tagged.{tagged_lawful, tagged_element
 use crate::errors::{ReadError, TooLong};
 use crate::output::Output;
 use crate::reader::Reader;
-use crate::tagged::{Tagged, put_element, read_element};
+use crate::tagged::{Tagged, pass_element, put_element, read_element};
 use crate::traits::{Field, FromContent, FromDer, OneTag, OwnTag, Tag, TagOf, ToDer};
 use std::alloc::Allocator;
 
@@ -22,7 +22,11 @@ impl<T: OwnTag> ToDer for T {
 }
 
 impl<A: Allocator + Copy, T: OwnTag + FromContent<A>> Field<A> for T {
+    type Brief = T::ContentBrief;
+
     ghost shape = { tagged T.Tag.BYTE T.content_shape };
+
+    ghost brief = { λ v. T.content_brief v };
 
     ghost fits = { T.content_fits };
 
@@ -42,6 +46,10 @@ impl<A: Allocator + Copy, T: OwnTag + FromContent<A>> Field<A> for T {
 
     fn read(alloc: A, reader: &mut Reader<'_, A>) -> Result<Self, ReadError> {
         read_element(alloc, T::Tag::BYTE, reader)
+    }
+
+    fn pass(alloc: A, reader: &mut Reader<'_, A>) -> Result<Self::Brief, ReadError> {
+        pass_element::<A, T>(alloc, T::Tag::BYTE, reader)
     }
 }
 

@@ -2,6 +2,8 @@
 use Rattle.std.specs.Prelude.{◌≡◌, ℕ, Bool, true, false, ◌==◌, List, [], ◌∷◌, Option}
 use Rattle.x509_keys_parts.specs.declared.ec_parameters.EcParameters.{EcParameters}
 use Rattle.x509_keys.specs.declared.ec_private_key.ECPrivateKey.{ECPrivateKey}
+use Rattle.x509_der.specs.declared.integer.Magnitude.{Magnitude}
+use Rattle.x509_der.specs.declared.integer.Magnitude.TheVariants as magnitudes
 use Rattle.x509_der.specs.Types.{Deviation}
 use Rattle.x509_der.specs.Shape.{Shape}
 use Rattle.x509_der.specs.Tagged.{tagged}
@@ -57,6 +59,13 @@ abbrev pub is_one : List ℕ → Bool
 is_one [] = false
 is_one (a ∷ []) = a == 1
 is_one (a ∷ b ∷ r) = false
+
+-- the same, by how large the number is
+abbrev pub is_byte_one : Magnitude → Bool
+is_byte_one magnitudes.Negative = false
+is_byte_one (magnitudes.Byte n) = n == 1
+is_byte_one magnitudes.Small = false
+is_byte_one magnitudes.Large = false
 
 -- version INTEGER { ecPrivkeyVer1(1) } (ecPrivkeyVer1): keys of other versions aren't read
 abbrev pub ec_key_means : {A : Type 0} → EcFields A → Option (ECPrivateKey A × List Deviation)

@@ -14,7 +14,7 @@ use Rattle.x509_keys.specs.declared.rsa_private_key.RsaPrivateKey.{RsaPrivateKey
 use Rattle.x509_keys.specs.declared.rsa_public_key.RsaPublicKey.{RsaPublicKey}
 use Rattle.x509_keys.specs.declared.subject_public_key_info.SubjectPublicKeyInfo.{SubjectPublicKeyInfo}
 use Rattle.x509_keys.specs.EcPrivateKeys.{ec_curve, ec_point}
-use Rattle.x509_keys.specs.KeyKinds.{key_kind}
+use Rattle.x509_keys_parts.specs.KeyKinds.{key_kind}
 use Rattle.x509_keys.specs.PrivateKeyInfos.{skipped, info_public_key}
 use Rattle.x509_keys.specs.PrivateKeyValues.{private_by_kind}
 use Rattle.x509_keys.specs.PublicKeys.{public_by_kind}

@@ -19,7 +19,7 @@ use Rattle.x509_der.specs.DefinedBy.{defined_by}
 use Rattle.x509_der.specs.View.{Meaning, seen}
 use Rattle.x509_keys_parts.specs.AlgorithmKinds.{ec_public_key_algorithm}
 use Rattle.x509_keys_parts.specs.AlgorithmIdentifier.{Algorithm, identified, algorithm_identifier, algorithm_bytes, written_fields}
-use Rattle.x509_keys.specs.KeyKinds.{rsa_encryption, key_kind}
+use Rattle.x509_keys_parts.specs.KeyKinds.{rsa_encryption, key_kind}
 use Rattle.x509_keys.specs.PrivateKeyValues.{private_by_kind, private_key_bytes}
 use Rattle.x509_keys.specs.ReadIf.{read_if}
 use Rattle.x509_der.specs.Types.deviation

@@ -1,6 +1,6 @@
 -- The private key of an algorithm, which its object identifier chooses.
 use Rattle.std.specs.Prelude.{ℕ, List}
-use Rattle.x509_keys.specs.declared.key_kind.KeyKind.{KeyKind}
+use Rattle.x509_keys_parts.specs.declared.key_kind.KeyKind.{KeyKind}
 use Rattle.x509_keys.specs.declared.private_key_value.PrivateKeyValue.{PrivateKeyValue}
 use Rattle.x509_keys.specs.declared.rsa_private_key.RsaPrivateKey.{RsaPrivateKey}
 use Rattle.x509_keys.specs.declared.ec_private_key.ECPrivateKey.{ECPrivateKey}
@@ -11,7 +11,7 @@ use Rattle.x509_der.specs.PrimitiveContent.{octets}
 use Rattle.x509_der.specs.Variant.{variant, no_variant}
 use Rattle.x509_keys.specs.RsaPrivateKeys.{rsa_private_key}
 use Rattle.x509_keys.specs.EcPrivateKeys.{ec_private_key}
-use Rattle.x509_keys.specs.declared.key_kind.KeyKind.TheVariants as kinds
+use Rattle.x509_keys_parts.specs.declared.key_kind.KeyKind.TheVariants as kinds
 use Rattle.x509_keys.specs.declared.private_key_value.PrivateKeyValue.TheVariants as key
 
 -- OCTET STRING (CONTAINING RSAPrivateKey)

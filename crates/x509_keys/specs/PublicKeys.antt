@@ -1,6 +1,6 @@
 -- The public key of an algorithm, which its object identifier chooses.
 use Rattle.std.specs.Prelude.{ℕ, Bool, List, ◌∷◌}
-use Rattle.x509_keys.specs.declared.key_kind.KeyKind.{KeyKind}
+use Rattle.x509_keys_parts.specs.declared.key_kind.KeyKind.{KeyKind}
 use Rattle.x509_keys.specs.declared.public_key.PublicKey.{PublicKey}
 use Rattle.x509_keys.specs.declared.rsa_public_key.RsaPublicKey.{RsaPublicKey}
 use Rattle.x509_der.specs.Element.{element}
@@ -10,7 +10,7 @@ use Rattle.x509_der.specs.Prefixed.{prefixed}
 use Rattle.x509_der.specs.BitString.{bit_strings, bit_content}
 use Rattle.x509_der.specs.Variant.{variant, no_variant}
 use Rattle.x509_keys.specs.RsaPublicKeys.{rsa_public_key}
-use Rattle.x509_keys.specs.declared.key_kind.KeyKind.TheVariants as kinds
+use Rattle.x509_keys_parts.specs.declared.key_kind.KeyKind.TheVariants as kinds
 use Rattle.x509_keys.specs.declared.public_key.PublicKey.TheVariants as key
 
 -- BIT STRING (CONTAINING RSAPublicKey), with no unused bits

@@ -10,7 +10,7 @@ use Rattle.x509_der.specs.DefinedBy.{defined_by}
 use Rattle.x509_der.specs.Structure.{structure}
 use Rattle.x509_keys_parts.specs.AlgorithmIdentifier.{Algorithm, identified, algorithm_identifier, algorithm_bytes, written_fields}
 use Rattle.x509_keys_parts.specs.AlgorithmKinds.{ec_public_key_algorithm}
-use Rattle.x509_keys.specs.KeyKinds.{rsa_encryption, key_kind}
+use Rattle.x509_keys_parts.specs.KeyKinds.{rsa_encryption, key_kind}
 use Rattle.x509_keys.specs.PublicKeys.{public_by_kind, public_key_bytes}
 use Rattle.x509_keys.specs.declared.rsa_public_key.RsaPublicKey.{RsaPublicKey}
 use Rattle.x509_keys.specs.declared.public_key.PublicKey.TheVariants as key

@@ -1,20 +1,25 @@
 //! Elliptic curve private keys.
 
 ghost use Rattle.std.specs.Prelude.{◌≡◌, Err, IfErr, refl};
+ghost use Rattle.x509_der.specs.Integer.{magnitude};
+ghost use Rattle.x509_der.specs.Optional.{brief_if};
 ghost use Rattle.x509_der.specs.Types.read_error.{BadVersion, OutOfMemory};
 ghost use Rattle.x509_der.specs.View.{meant};
 ghost use Rattle.x509_der.specs.laws.Meaning.{sequence_keeps, seen_lawful, seen_element};
-ghost use Rattle.x509_keys.specs.EcPrivateKeys.{OptionalFields, optional_parts, ec_key_optional, ec_key_parts, ec_key_inner, ec_key_base, is_one, ec_key_meaning, ec_private_key};
+ghost use Rattle.x509_keys.specs.EcPrivateKeys.{OptionalFields, optional_parts, ec_key_optional, ec_key_parts, ec_key_inner, ec_key_base, is_one, is_byte_one, ec_key_meaning, ec_private_key};
 ghost use Rattle.x509_keys.specs.facts.EcPrivateKeys.{ec_key_is, ec_key_one, point_apart};
 
 use crate::public_key::EncapsulatedEcPoint;
 use std::alloc::{Allocator, Global};
 use std::marker::Model;
 use x509_der::parts::{
-    Content, ContextConstructed, Field, Join, One, Optional, Output, Reader, Ref, SEQUENCE_TAG,
-    Sequence, Tagged, ToContent, View, WholeDeviations, known_there, put_element, read_viewed,
+    Content, ContextConstructed, Field, Join, Judge, One, Optional, Output, Reader, Ref,
+    SEQUENCE_TAG, Sequence, Tagged, ToContent, View, WholeDeviations, known_there, pass_viewed,
+    put_element, read_viewed,
 };
-use x509_der::{CloneEq, FromDer, IntegerAsn1, OctetStringAsn1, ReadError, SameEq, ToDer, TooLong};
+use x509_der::{
+    CloneEq, FromDer, IntegerAsn1, Magnitude, OctetStringAsn1, ReadError, SameEq, ToDer, TooLong,
+};
 use x509_keys_parts::EcParameters;
 
 /// The private key of an elliptic curve, and perhaps the curve and the public key. They aren't looked into.
@@ -164,7 +169,40 @@ impl<A: Allocator + Copy> View<Fields<A>, A> for ECPrivateKey<A> {
     }
 }
 
+/// Whether a version that is so large is 1.
+fn is_byte_one(version: Magnitude) -> bool
+    ensures { result ≡ is_byte_one version }
+{
+    match version {
+        Magnitude::Byte(byte) => byte == 1,
+        Magnitude::Negative | Magnitude::Small | Magnitude::Large => false,
+    }
+}
+
+impl<A: Allocator + Copy> Judge<Fields<A>, A> for ECPrivateKey<A> {
+    type Glimpse = (Magnitude, ((), (Option<()>, Option<()>)));
+
+    type Kept = ();
+
+    ghost glimpse = { λ f. (magnitude f.0, (tt, (brief_if (λ p. tt) f.1.1.0, brief_if (λ b. tt) f.1.1.1))) };
+
+    ghost kept = { λ v. tt };
+
+    fn judge(brief: Self::Glimpse) -> Result<((), WholeDeviations), ReadError> {
+        let (version, _rest) = brief;
+        if is_byte_one(version) {
+            Ok(((), WholeDeviations::Nothing))
+        } else {
+            Err(ReadError::BadVersion)
+        }
+    }
+}
+
 impl<A: Allocator + Copy> Field<A> for ECPrivateKey<A> {
+    type Brief = ();
+
+    ghost brief = { λ v. tt };
+
     ghost shape = { ec_private_key };
 
     ghost lawful = { λ h. seen_lawful ec_key_meaning ec_key_base ⟦<ECPrivateKey<A> as View<Fields<A>, A>>⟧.keeps };
@@ -187,6 +225,10 @@ impl<A: Allocator + Copy> Field<A> for ECPrivateKey<A> {
 
     fn read(alloc: A, reader: &mut Reader<'_, A>) -> Result<Self, ReadError> {
         read_viewed::<Self, Fields<A>, A>(alloc, reader)
+    }
+
+    fn pass(alloc: A, reader: &mut Reader<'_, A>) -> Result<(), ReadError> {
+        pass_viewed::<Self, Fields<A>, A>(alloc, reader)
     }
 }
 

@@ -2,13 +2,13 @@
 
 ghost use Rattle.std.specs.Prelude.{◌≡◌, [], ◌∷◌, Option, Some, None, Err, IfOk, IfErr, refl};
 ghost use Rattle.x509_der.specs.Element.{element};
-ghost use Rattle.x509_der.specs.Optional.{optional, optional_strict};
+ghost use Rattle.x509_der.specs.Optional.{brief_if, optional, optional_strict};
 ghost use Rattle.x509_der.specs.Types.read_error.{BadVersion, OutOfMemory};
 ghost use Rattle.x509_der.specs.View.{if_found, meant};
 ghost use Rattle.x509_der.specs.laws.Meaning.{sequence_keeps, seen_lawful, seen_element};
 ghost use Rattle.x509_keys.specs.PrivateKeyInfos.{is_version, is_skipped, skipped_kinds, info_public_key, info_inner, info_base, info_meaning, private_key_info, info_bytes, curve_unless, version_with, info_with, rsa_info, ec_info, ed_info};
 ghost use Rattle.x509_keys.specs.EcPrivateKeys.{ec_key_with};
-ghost use Rattle.x509_keys.specs.KeyKinds.{rsa_encryption};
+ghost use Rattle.x509_keys_parts.specs.KeyKinds.{key_kind, rsa_encryption};
 ghost use Rattle.x509_keys_parts.specs.AlgorithmIdentifier.{identified};
 ghost use Rattle.x509_keys_parts.specs.declared.algorithm_parameters.AlgorithmIdentifierParameters.TheVariants as parameters;
 ghost use Rattle.x509_keys.specs.facts.PrivateKeyInfos.{info_is, info_one, info_agrees, public_key_apart};
@@ -19,14 +19,16 @@ use crate::rsa_private_key::RsaPrivateKey;
 use crate::skipping::{PassedOver, Skipping, read_skipping};
 use std::alloc::{AllocError, Allocator, Global};
 use x509_der::parts::{
-    AnyDefinedBy, BorrowedBits, Content, ContextConstructed, DefinedBy, Field, Join, One, Optional,
-    Output, Reader, Ref, SEQUENCE_TAG, Sequence, Tag, Tagged, View, WholeDeviations, clone_three,
+    AnyDefinedBy, BorrowedBits, Content, ContextConstructed, DefinedBy, Field, Join, Judge, One,
+    Optional, Output, Reader, Ref, SEQUENCE_TAG, Sequence, Tag, Tagged, View, WholeDeviations,
+    clone_three, pass_viewed,
 };
 use x509_der::{
     BitString, BitStringAsn1, CloneEq, Deviation, FromDer, IntegerAsn1, ObjectIdentifier,
     OctetStringAsn1, OctetStringAsn1Container, RawIn, ReadError, SameEq, Tags, ToDer, TooLong,
 };
 use x509_keys_parts::algorithm_identifier::new_unchecked;
+use x509_keys_parts::key_kind::KeyKind;
 use x509_keys_parts::{
     AesParameters, AlgorithmIdentifier, AlgorithmIdentifierParameters, EcParameters, HashAlgorithm,
     MaskGenAlgorithm, RsassaPssParams,
@@ -344,6 +346,16 @@ fn deviation_of(skipped: &Option<PassedOver<'_>>) -> Option<Deviation>
     }
 }
 
+/// The same of one that is held.
+fn deviation_of_held<A: Allocator>(skipped: &Option<RawIn<SkippedTags, A>>) -> Option<Deviation>
+    ensures { if_found result ≡ skipped_kinds skipped.now }
+{
+    match skipped {
+        Some(_) => Some(Deviation::SkippedKeyElement),
+        None => None,
+    }
+}
+
 /// The bits of a public key, where there is one.
 fn bits_in<A: Allocator>(key: Option<BitStringAsn1<A>>) -> Option<BitString<A>>
     ensures { result ≡ key }
@@ -374,6 +386,9 @@ type Inner<A> = Join<
     u8,
     Join<Key<A>, Join<Optional<RawIn<SkippedTags, A>>, One<PublicKeyField<A>>>>,
 >;
+
+/// The fields in their SEQUENCE, all of them owned: those that are gone past, of which none is held.
+type Whole<A> = Tagged<Sequence, Inner<A>>;
 
 /// The fields that are read.
 type Fields<'a, A> = Skipping<'a, u8, Key<A>, PublicKeyField<A>>;
@@ -418,12 +433,67 @@ impl<'a, A: Allocator + Copy> View<Fields<'a, A>, A> for PrivateKeyInfo<A> {
     }
 }
 
+impl<A: Allocator + Copy> View<Whole<A>, A> for PrivateKeyInfo<A> {
+    ghost base = { info_base };
+
+    ghost view = { info_meaning };
+
+    ghost keeps = { ⟦<PrivateKeyInfo<A> as View<Fields<'static, A>, A>>⟧.keeps };
+
+    fn meaning(_alloc: A, parts: Whole<A>) -> Result<(Self, WholeDeviations), ReadError>
+        ensures meaning { info_meaning.of parts ≡ meant result }
+        ensures refusal { result ≡ Err OutOfMemory → ⊥ }
+        ensures name { IfErr result (λ e. e ≡ BadVersion) }
+    {
+        let Join(version, Join(key, Join(Optional(skipped), One(public_key)))) = parts.into_inner();
+        let found = WholeDeviations::of(deviation_of_held(&skipped));
+        let DefinedBy(private_key_algorithm, private_key) = key;
+        let info = PrivateKeyInfo {
+            version,
+            private_key_algorithm,
+            private_key,
+            public_key: bits_in(public_key.into_value()),
+        };
+        if is_version(version) {
+            Ok((info, found))
+        } else {
+            drop(info);
+            Err(ReadError::BadVersion)
+        }
+    }
+}
+
+impl<A: Allocator + Copy> Judge<Whole<A>, A> for PrivateKeyInfo<A> {
+    type Glimpse = (u8, ((KeyKind, ()), (Option<()>, Option<()>)));
+
+    type Kept = ();
+
+    ghost glimpse = { λ f. (f.0, ((key_kind f.1.0.0.algorithm, tt), (brief_if (λ e. tt) f.1.1.0, brief_if (λ b. tt) f.1.1.1))) };
+
+    ghost kept = { λ v. tt };
+
+    fn judge(brief: Self::Glimpse) -> Result<((), WholeDeviations), ReadError> {
+        let (version, (_key, (skipped, _public_key))) = brief;
+        if !is_version(version) {
+            return Err(ReadError::BadVersion);
+        }
+        match skipped {
+            Some(()) => Ok(((), WholeDeviations::One(Deviation::SkippedKeyElement))),
+            None => Ok(((), WholeDeviations::Nothing)),
+        }
+    }
+}
+
 impl<A: Allocator + Copy> Field<A> for PrivateKeyInfo<A> {
+    type Brief = ();
+
+    ghost brief = { λ v. tt };
+
     ghost shape = { private_key_info };
 
     ghost lawful = { λ h. seen_lawful info_meaning info_base ⟦<PrivateKeyInfo<A> as View<Fields<'static, A>, A>>⟧.keeps };
 
-    ghost elements = { λ h. seen_element info_meaning info_base (⟦<Tagged<Sequence, Inner<A>> as Field<A>>⟧.elements tt)
+    ghost elements = { λ h. seen_element info_meaning info_base (⟦<Whole<A> as Field<A>>⟧.elements tt)
         info_is };
 
     ghost agrees = { info_agrees };
@@ -441,6 +511,10 @@ impl<A: Allocator + Copy> Field<A> for PrivateKeyInfo<A> {
 
     fn read(alloc: A, reader: &mut Reader<'_, A>) -> Result<Self, ReadError> {
         read_skipping::<Self, u8, Key<A>, SkippedTags, PublicKeyField<A>, A>(alloc, reader)
+    }
+
+    fn pass(alloc: A, reader: &mut Reader<'_, A>) -> Result<(), ReadError> {
+        pass_viewed::<Self, Whole<A>, A>(alloc, reader)
     }
 }
 

@@ -2,18 +2,18 @@
 
 ghost use Rattle.std.specs.Prelude.{false};
 ghost use Rattle.std.proofs.Common.{eqb};
-ghost use Rattle.x509_der.specs.Reading.{Ready, Reads};
-ghost use Rattle.x509_keys.specs.KeyKinds.{key_kind as kind_by};
+ghost use Rattle.x509_der.specs.Reading.{Ready, Reads, Passes, thrifty};
+ghost use Rattle.x509_keys_parts.specs.KeyKinds.{key_kind as kind_by};
 ghost use Rattle.x509_keys.specs.PrivateKeyValues.{private_key_bytes, IsPrivateKey, private_by_kind};
 
 use crate::ec_private_key::ECPrivateKey;
-use crate::key_kind::{KeyKind, key_kind};
 use crate::rsa_private_key::RsaPrivateKey;
 use std::alloc::{Allocator, Global};
 use x509_der::parts::{AnyDefinedBy, Field, OCTET_STRING_TAG, Output, Reader};
 use x509_der::{
     CloneEq, OctetStringAsn1, OctetStringAsn1Container, ReadError, SameEq, ToDer, TooLong,
 };
+use x509_keys_parts::key_kind::{KeyKind, key_kind};
 use x509_keys_parts::{AlgorithmIdentifier, EcParameters};
 
 /// A secret of Ed25519, X25519, Ed448 or X448, in octets (RFC 8410, 7). They aren't looked into.
@@ -93,8 +93,36 @@ fn read_as<A: Allocator + Copy>(
     }
 }
 
+/// Goes past a key of a kind.
+///
+/// # Errors
+/// Refused where the kind has no private keys or no key of it stands there.
+fn pass_as<A: Allocator + Copy>(
+    alloc: A,
+    kind: KeyKind,
+    reader: &mut Reader<'_, A>,
+) -> Result<(), ReadError>
+    requires { Ready reader.old }
+    ensures { Passes (thrifty (private_by_kind {A = A} kind)) (λ v. tt) reader.old reader.new result }
+{
+    match kind {
+        KeyKind::Rsa => OctetStringAsn1Container::<RsaPrivateKey<A>>::pass(alloc, reader),
+        KeyKind::Ec => OctetStringAsn1Container::<ECPrivateKey<A>>::pass(alloc, reader),
+        KeyKind::Ed => OctetStringAsn1Container::<EncapsulatedEcSecret<A>>::pass(alloc, reader),
+        KeyKind::Mldsa | KeyKind::Unknown => Err(ReadError::Unsupported),
+    }
+}
+
 impl<A: Allocator + Copy> AnyDefinedBy<AlgorithmIdentifier<A>, A> for PrivateKeyValue<A> {
     ghost use Rattle.x509_keys.specs.facts.PrivateKeyValues.{private_family, private_agrees};
+
+    type Kind = KeyKind;
+
+    type BriefBehind = ();
+
+    ghost kind = { λ a. kind_by a.algorithm };
+
+    ghost brief_behind = { λ v. tt };
 
     ghost shapes = { λ a. private_by_kind (kind_by a.algorithm) };
 
@@ -121,6 +149,14 @@ impl<A: Allocator + Copy> AnyDefinedBy<AlgorithmIdentifier<A>, A> for PrivateKey
         key: &AlgorithmIdentifier<A>,
         reader: &mut Reader<'_, A>,
     ) -> Result<Self, ReadError> {
-        read_as(alloc, key_kind(key.oid()), reader)
+        read_as(alloc, key_kind(&key.oid().lent()), reader)
+    }
+
+    fn pass_key(alloc: A, reader: &mut Reader<'_, A>) -> Result<KeyKind, ReadError> {
+        AlgorithmIdentifier::<A>::pass(alloc, reader)
+    }
+
+    fn pass_behind(alloc: A, chosen: KeyKind, reader: &mut Reader<'_, A>) -> Result<(), ReadError> {
+        pass_as(alloc, chosen, reader)
     }
 }

@@ -2,16 +2,16 @@
 
 ghost use Rattle.std.specs.Prelude.{false};
 ghost use Rattle.std.proofs.Common.{eqb};
-ghost use Rattle.x509_der.specs.Reading.{Ready, Reads};
-ghost use Rattle.x509_keys.specs.KeyKinds.{key_kind as kind_by};
+ghost use Rattle.x509_der.specs.Reading.{Ready, Reads, Passes, thrifty};
+ghost use Rattle.x509_keys_parts.specs.KeyKinds.{key_kind as kind_by};
 ghost use Rattle.x509_keys.specs.PublicKeys.{public_key_bytes, IsPublicKey, public_by_kind};
 
-use crate::key_kind::{KeyKind, key_kind};
 use crate::rsa_public_key::{EncapsulatedRsaPublicKey, RsaPublicKey};
 use std::alloc::{Allocator, Global};
 use x509_der::parts::{AnyDefinedBy, BIT_STRING_TAG, Field, Output, Reader};
 use x509_der::{BitStringAsn1, CloneEq, OctetStringAsn1, ReadError, SameEq, ToDer, TooLong};
 use x509_keys_parts::AlgorithmIdentifier;
+use x509_keys_parts::key_kind::{KeyKind, key_kind};
 
 /// A point of an elliptic curve, in octets (RFC 5480, 2.2). They aren't looked into.
 pub type EcPoint<A = Global> = OctetStringAsn1<A>;
@@ -98,8 +98,37 @@ fn read_as<A: Allocator + Copy>(
     }
 }
 
+/// Goes past a key of a kind.
+///
+/// # Errors
+/// Refused where the kind isn't known or no key of it stands there.
+fn pass_as<A: Allocator + Copy>(
+    alloc: A,
+    kind: KeyKind,
+    reader: &mut Reader<'_, A>,
+) -> Result<(), ReadError>
+    requires { Ready reader.old }
+    ensures { Passes (thrifty (public_by_kind {A = A} kind)) (λ v. tt) reader.old reader.new result }
+{
+    match kind {
+        KeyKind::Rsa => EncapsulatedRsaPublicKey::<A>::pass(alloc, reader),
+        KeyKind::Ec => EncapsulatedEcPoint::<A>::pass(alloc, reader),
+        KeyKind::Ed => EncapsulatedEcPoint::<A>::pass(alloc, reader),
+        KeyKind::Mldsa => EncapsulatedMldsaPublicKey::<A>::pass(alloc, reader),
+        KeyKind::Unknown => Err(ReadError::Unsupported),
+    }
+}
+
 impl<A: Allocator + Copy> AnyDefinedBy<AlgorithmIdentifier<A>, A> for PublicKey<A> {
     ghost use Rattle.x509_keys.specs.facts.PublicKeys.{public_family, public_agrees};
+
+    type Kind = KeyKind;
+
+    type BriefBehind = ();
+
+    ghost kind = { λ a. kind_by a.algorithm };
+
+    ghost brief_behind = { λ v. tt };
 
     ghost shapes = { λ a. public_by_kind (kind_by a.algorithm) };
 
@@ -125,6 +154,14 @@ impl<A: Allocator + Copy> AnyDefinedBy<AlgorithmIdentifier<A>, A> for PublicKey<
         key: &AlgorithmIdentifier<A>,
         reader: &mut Reader<'_, A>,
     ) -> Result<Self, ReadError> {
-        read_as(alloc, key_kind(key.oid()), reader)
+        read_as(alloc, key_kind(&key.oid().lent()), reader)
+    }
+
+    fn pass_key(alloc: A, reader: &mut Reader<'_, A>) -> Result<KeyKind, ReadError> {
+        AlgorithmIdentifier::<A>::pass(alloc, reader)
+    }
+
+    fn pass_behind(alloc: A, chosen: KeyKind, reader: &mut Reader<'_, A>) -> Result<(), ReadError> {
+        pass_as(alloc, chosen, reader)
     }
 }

@@ -3,13 +3,13 @@
 ghost use Rattle.std.specs.Prelude.{◌≡◌, refl};
 ghost use Rattle.x509_der.specs.laws.Structure.{structure_lawful, structure_element};
 ghost use Rattle.x509_keys.specs.RsaPrivateKeys.{LastFields, last_parts, last_inner, private_parts, private_base, rsa_private_key};
-ghost use Rattle.x509_keys.specs.facts.RsaPrivateKeys.{private_key_same};
+ghost use Rattle.x509_keys.specs.facts.RsaPrivateKeys.{private_key_of, private_key_same};
 
 use std::alloc::{AllocError, Allocator, Global};
 use std::marker::Model;
 use x509_der::parts::{
     Field, Join, One, Output, Reader, Ref, SEQUENCE_TAG, Sequence, Structure, Tagged, ToContent,
-    clone_three, put_element, read_sequence,
+    clone_three, pass_sequence, put_element, read_sequence,
 };
 use x509_der::{CloneEq, FromDer, IntegerAsn1, ReadError, SameEq, ToDer, TooLong};
 
@@ -257,9 +257,15 @@ impl<A: Allocator> Structure<Inner<A>> for RsaPrivateKey<A> {
     }
 
     ghost same = { private_key_same };
+
+    ghost made = { λ f. (private_key_of f, refl) };
 }
 
 impl<A: Allocator + Copy> Field<A> for RsaPrivateKey<A> {
+    type Brief = ();
+
+    ghost brief = { λ v. tt };
+
     ghost shape = { rsa_private_key };
 
     ghost lawful = { λ h. structure_lawful private_parts private_base private_key_same
@@ -301,6 +307,10 @@ impl<A: Allocator + Copy> Field<A> for RsaPrivateKey<A> {
 
     fn read(alloc: A, reader: &mut Reader<'_, A>) -> Result<Self, ReadError> {
         read_sequence::<Self, Inner<A>, A>(alloc, reader)
+    }
+
+    fn pass(alloc: A, reader: &mut Reader<'_, A>) -> Result<(), ReadError> {
+        pass_sequence::<Self, Inner<A>, A>(alloc, reader)
     }
 }
 

@@ -3,11 +3,12 @@
 ghost use Rattle.std.specs.Prelude.{refl};
 ghost use Rattle.x509_der.specs.laws.Structure.{structure_lawful, structure_element};
 ghost use Rattle.x509_keys.specs.RsaPublicKeys.{public_parts, public_base, rsa_public_key};
-ghost use Rattle.x509_keys.specs.facts.RsaPublicKeys.{public_key_same};
+ghost use Rattle.x509_keys.specs.facts.RsaPublicKeys.{public_key_of, public_key_same};
 
 use std::alloc::{Allocator, Global};
 use x509_der::parts::{
-    Field, Join, One, Output, Reader, Ref, SEQUENCE_TAG, Sequence, Structure, Tagged, read_sequence,
+    Field, Join, One, Output, Reader, Ref, SEQUENCE_TAG, Sequence, Structure, Tagged,
+    pass_sequence, read_sequence,
 };
 use x509_der::{
     BitStringAsn1Container, CloneEq, FromDer, IntegerAsn1, ReadError, SameEq, ToDer, TooLong,
@@ -71,9 +72,15 @@ impl<A: Allocator> Structure<Inner<A>> for RsaPublicKey<A> {
     }
 
     ghost same = { public_key_same };
+
+    ghost made = { λ f. (public_key_of f, refl) };
 }
 
 impl<A: Allocator + Copy> Field<A> for RsaPublicKey<A> {
+    type Brief = ();
+
+    ghost brief = { λ v. tt };
+
     ghost shape = { rsa_public_key };
 
     ghost lawful = { λ h. structure_lawful public_parts public_base public_key_same
@@ -95,6 +102,10 @@ impl<A: Allocator + Copy> Field<A> for RsaPublicKey<A> {
 
     fn read(alloc: A, reader: &mut Reader<'_, A>) -> Result<Self, ReadError> {
         read_sequence::<Self, Inner<A>, A>(alloc, reader)
+    }
+
+    fn pass(alloc: A, reader: &mut Reader<'_, A>) -> Result<(), ReadError> {
+        pass_sequence::<Self, Inner<A>, A>(alloc, reader)
     }
 }
 

@@ -10,7 +10,7 @@ use crate::rsa_public_key::RsaPublicKey;
 use std::alloc::{AllocError, Allocator, Global};
 use x509_der::parts::{
     AnyDefinedBy, DefinedBy, Field, One, Output, Reader, Ref, SEQUENCE_TAG, Sequence, Structure,
-    Tagged, read_sequence,
+    Tagged, pass_sequence, read_sequence,
 };
 use x509_der::{
     BitString, BitStringAsn1, BitStringAsn1Container, CloneEq, FromDer, IntegerAsn1,
@@ -154,9 +154,15 @@ impl<A: Allocator> Structure<Inner<A>> for SubjectPublicKeyInfo<A> {
     }
 
     ghost same = { subject_same };
+
+    ghost made = { λ f. (subject_of f.0 f.1, refl) };
 }
 
 impl<A: Allocator + Copy> Field<A> for SubjectPublicKeyInfo<A> {
+    type Brief = ();
+
+    ghost brief = { λ v. tt };
+
     ghost shape = { subject_public_key_info };
 
     ghost lawful = { λ h. structure_lawful subject_parts subject_base subject_same
@@ -178,6 +184,10 @@ impl<A: Allocator + Copy> Field<A> for SubjectPublicKeyInfo<A> {
 
     fn read(alloc: A, reader: &mut Reader<'_, A>) -> Result<Self, ReadError> {
         read_sequence::<Self, Inner<A>, A>(alloc, reader)
+    }
+
+    fn pass(alloc: A, reader: &mut Reader<'_, A>) -> Result<(), ReadError> {
+        pass_sequence::<Self, Inner<A>, A>(alloc, reader)
     }
 }
 

@@ -1,4 +1,6 @@
 -- Algorithm identifiers (RFC 5280, 4.1.1.2).
+use Rattle.x509_keys_parts.specs.KeyKinds.{key_kind}
+use Rattle.x509_keys_parts.specs.declared.algorithm_parameters.Chosen.{Chosen}
 use Rattle.std.specs.Prelude.{◌≡◌, ℕ, Bool, true, false, ◌&&◌, List, [], ◌∷◌, ◌++◌, Option, Some}
 use Rattle.x509_keys_parts.specs.declared.algorithm_parameters.AlgorithmIdentifierParameters.{AlgorithmIdentifierParameters}
 use Rattle.x509_keys_parts.specs.declared.algorithm_parameters.AlgorithmKind.{AlgorithmKind}
@@ -88,3 +90,7 @@ algorithm_identifier = seen algorithm_meaning base
 -- what is written of an algorithm identifier, also where the parameters aren't those of the algorithm
 abbrev pub algorithm_bytes : {A : Type 0} → Fields A → List ℕ
 algorithm_bytes b = element 48 (element 6 (oid_content b.0) ++ parameters_bytes b.1)
+
+-- what arcs say of an algorithm
+abbrev pub chosen_by : List ℕ → Chosen
+chosen_by arcs = record { parameters = kind_of arcs; keys = key_kind arcs }

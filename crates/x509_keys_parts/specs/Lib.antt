@@ -16,3 +16,4 @@ pub mod RsassaPss
 pub mod ShaVariants
 pub mod Unsupported
 pub mod facts
+pub mod KeyKinds

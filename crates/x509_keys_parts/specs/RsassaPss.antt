@@ -2,6 +2,8 @@
 use Rattle.std.specs.Prelude.{ℕ, ◌<◌, ◌^◌, nat_lt, if◌then◌else◌, List, [], ◌∷◌, Option, Some, None}
 use Rattle.x509_der.specs.Types.{Deviation}
 use Rattle.x509_der.specs.Types.deviation
+use Rattle.x509_der.specs.declared.integer.Magnitude.{Magnitude}
+use Rattle.x509_der.specs.declared.integer.Magnitude.TheVariants as magnitudes
 use Rattle.x509_der.specs.Shape.{Shape}
 use Rattle.x509_der.specs.Tagged.{tagged}
 use Rattle.x509_der.specs.Join.{join}
@@ -49,6 +51,13 @@ salt_of c =
     if sign_bit c then None
     else if nat_lt (unsigned_value c) 18446744073709551616 then Some (unsigned_value c, [])
     else Some (18446744073709551615, deviation.SaltTooLarge ∷ [])
+
+-- the same, by how large the number is
+abbrev pub salt_kinds : Magnitude → Option (List Deviation)
+salt_kinds magnitudes.Negative = None
+salt_kinds (magnitudes.Byte n) = Some []
+salt_kinds magnitudes.Small = Some []
+salt_kinds magnitudes.Large = Some (deviation.SaltTooLarge ∷ [])
 
 abbrev pub with_salt : {A : Type 0} → HashAlgorithm → MaskGenAlgorithm A → Option (ℕ × List Deviation) → Option (RsassaPssParams A × List Deviation)
 with_salt h m None = None

@@ -3,11 +3,11 @@
 ghost use Rattle.std.specs.Prelude.{◌≡◌, refl};
 ghost use Rattle.x509_der.specs.laws.Structure.{structure_lawful, structure_element};
 ghost use Rattle.x509_keys_parts.specs.AesParameters.{aes_parts, aes_base, aes_parameters};
-ghost use Rattle.x509_keys_parts.specs.facts.AesParameters.{aes_same, octets_apart, null_apart};
+ghost use Rattle.x509_keys_parts.specs.facts.AesParameters.{aes_of, aes_whole, aes_same, octets_apart, null_apart};
 
 use crate::aes_auth_enc::AesAuthEncParams;
 use std::alloc::{Allocator, Global};
-use x509_der::parts::{Choice, Field, Output, Reader, Ref, Structure, read_fields};
+use x509_der::parts::{Choice, Field, Output, Reader, Ref, Structure, pass_fields, read_fields};
 use x509_der::{CloneEq, FromDer, OctetStringAsn1, ReadError, SameEq, ToDer, TooLong};
 
 /// A mode of operation of AES, for which each key size has an algorithm of its own.
@@ -110,10 +110,16 @@ impl<A: Allocator> Structure<Fields<A>> for AesParameters<A> {
     }
 
     ghost same = { aes_same };
+
+    ghost made = { λ f. (aes_of f, aes_whole _ f) };
 }
 
 impl<A: Allocator + Copy> Field<A> for AesParameters<A> {
+    type Brief = ();
+
     ghost shape = { aes_parameters };
+
+    ghost brief = { λ v. tt };
 
     ghost lawful = { λ h. structure_lawful aes_parts aes_base aes_same
         (⟦<Fields<A> as Field<A>>⟧.lawful (
@@ -140,6 +146,10 @@ impl<A: Allocator + Copy> Field<A> for AesParameters<A> {
 
     fn read(alloc: A, reader: &mut Reader<'_, A>) -> Result<Self, ReadError> {
         read_fields::<Self, Fields<A>, A>(alloc, reader)
+    }
+
+    fn pass(alloc: A, reader: &mut Reader<'_, A>) -> Result<(), ReadError> {
+        pass_fields::<Self, Fields<A>, A>(alloc, reader)
     }
 }
 

@@ -4,12 +4,13 @@ ghost use Rattle.std.specs.Prelude.{◌≡◌, IfOk, refl};
 ghost use Rattle.x509_der.specs.Integer.{natural_content};
 ghost use Rattle.x509_der.specs.laws.Structure.{structure_lawful, structure_element};
 ghost use Rattle.x509_keys_parts.specs.AesAuthEncParams.{AuthEncParams, auth_enc_parts, auth_enc_base, auth_enc};
-ghost use Rattle.x509_keys_parts.specs.facts.AesAuthEncParams.{auth_enc_same};
+ghost use Rattle.x509_keys_parts.specs.facts.AesAuthEncParams.{auth_enc_of, auth_enc_same};
 
 use std::alloc::{AllocError, Allocator, Global};
 use std::marker::Model;
 use x509_der::parts::{
-    Field, Join, One, Output, Reader, Ref, SEQUENCE_TAG, Sequence, Structure, Tagged, read_fields,
+    Field, Join, One, Output, Reader, Ref, SEQUENCE_TAG, Sequence, Structure, Tagged, pass_fields,
+    read_fields,
 };
 use x509_der::{CloneEq, FromDer, IntegerAsn1, OctetStringAsn1, ReadError, SameEq, ToDer, TooLong};
 
@@ -103,10 +104,16 @@ impl<A: Allocator> Structure<Fields<A>> for AesAuthEncParams<A> {
     }
 
     ghost same = { auth_enc_same };
+
+    ghost made = { λ f. (auth_enc_of f, refl) };
 }
 
 impl<A: Allocator + Copy> Field<A> for AesAuthEncParams<A> {
+    type Brief = ();
+
     ghost shape = { auth_enc };
+
+    ghost brief = { λ v. tt };
 
     ghost lawful = { λ h. structure_lawful auth_enc_parts auth_enc_base auth_enc_same
         (⟦<Fields<A> as Field<A>>⟧.lawful (tt, tt, λ c h. refl)) };
@@ -127,6 +134,10 @@ impl<A: Allocator + Copy> Field<A> for AesAuthEncParams<A> {
 
     fn read(alloc: A, reader: &mut Reader<'_, A>) -> Result<Self, ReadError> {
         read_fields::<Self, Fields<A>, A>(alloc, reader)
+    }
+
+    fn pass(alloc: A, reader: &mut Reader<'_, A>) -> Result<(), ReadError> {
+        pass_fields::<Self, Fields<A>, A>(alloc, reader)
     }
 }
 

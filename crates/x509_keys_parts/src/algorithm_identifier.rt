@@ -1,20 +1,24 @@
 //! Algorithm identifiers.
 
-ghost use Rattle.std.specs.Prelude.{◌≡◌, ◌↔◌, IsTrue, refl};
+ghost use Rattle.std.specs.Prelude.{◌≡◌, ◌↔◌, ◌&&◌, IsTrue, refl};
 ghost use Rattle.std.specs.List.{Contains};
 ghost use Rattle.x509_der.specs.View.{if_found};
-ghost use Rattle.x509_keys_parts.specs.AlgorithmIdentifier.{identified, are_absent, with_null, kinds_if, algorithm_bytes, written_fields, lacks_null};
+ghost use Rattle.x509_keys_parts.specs.KeyKinds.{key_kind};
+ghost use Rattle.x509_keys_parts.specs.AlgorithmIdentifier.{chosen_by, is_rsa, identified, are_absent, with_null, kinds_if, algorithm_bytes, written_fields, lacks_null};
 
 use crate::aes::AesParameters;
-use crate::algorithm_parameters::{AlgorithmIdentifierParameters, is_rsa_algorithm};
+use crate::algorithm_parameters::{
+    AlgorithmIdentifierParameters, AlgorithmKind, Chosen, is_rsa_algorithm,
+};
 use crate::ec_parameters::EcParameters;
 use crate::hash_algorithm::HashAlgorithm;
+use crate::key_kind::KeyKind;
 use crate::rsassa_pss::{MaskGenAlgorithm, RsassaPssParams};
 use std::alloc::{Allocator, Global};
 use std::marker::Model;
 use x509_der::parts::{
-    AnyDefinedBy, Content, DefinedBy, Field, One, Output, Reader, Ref, SEQUENCE_TAG, Sequence,
-    Tagged, View, WholeDeviations, read_viewed,
+    AnyDefinedBy, Content, DefinedBy, Field, Judge, One, Output, Reader, Ref, SEQUENCE_TAG,
+    Sequence, Tagged, View, WholeDeviations, pass_viewed, read_viewed,
 };
 use x509_der::{
     CloneEq, Deviation, FromDer, ObjectIdentifier, ObjectIdentifierAsn1, ReadError, SameEq, ToDer,
@@ -158,7 +162,7 @@ fn lacks_null<A: Allocator>(
 ) -> bool
     ensures { result ≡ lacks_null (algorithm.now, parameters.now) }
 {
-    are_absent(parameters) && is_rsa_algorithm(&algorithm.0)
+    are_absent(parameters) && is_rsa_algorithm(&algorithm.0.lent())
 }
 
 /// The parameters, and NULL where it was left out.
@@ -209,12 +213,54 @@ impl<A: Allocator + Copy> View<Fields<A>, A> for AlgorithmIdentifier<A> {
     }
 }
 
+/// Whether a kind is that of RSA algorithms with NULL.
+fn is_rsa(kind: AlgorithmKind) -> bool
+    ensures { result ≡ is_rsa kind }
+{
+    match kind {
+        AlgorithmKind::Rsa => true,
+        AlgorithmKind::RsassaPss
+        | AlgorithmKind::EcPublicKey
+        | AlgorithmKind::Bare
+        | AlgorithmKind::Aes
+        | AlgorithmKind::Hash
+        | AlgorithmKind::Unknown => false,
+    }
+}
+
+/// Whether parameters that are absent are those of RSA, which has NULL.
+fn lacks(kind: AlgorithmKind, absent: bool) -> bool
+    ensures { result ≡ (is_rsa kind && absent) }
+{
+    is_rsa(kind) && absent
+}
+
+impl<A: Allocator + Copy> Judge<Fields<A>, A> for AlgorithmIdentifier<A> {
+    type Glimpse = (Chosen, bool);
+
+    type Kept = KeyKind;
+
+    ghost glimpse = { λ f. (chosen_by f.0, are_absent f.1) };
+
+    ghost kept = { λ v. key_kind v.algorithm };
+
+    fn judge(brief: (Chosen, bool)) -> Result<(KeyKind, WholeDeviations), ReadError> {
+        let (chosen, absent) = brief;
+        let left_out = lacks(chosen.parameters, absent);
+        Ok((chosen.keys, WholeDeviations::of(absence(left_out))))
+    }
+}
+
 impl<A: Allocator + Copy> Field<A> for AlgorithmIdentifier<A> {
     ghost use Rattle.x509_der.specs.laws.Meaning.{seen_lawful, seen_element};
     ghost use Rattle.x509_keys_parts.specs.AlgorithmIdentifier.{base, algorithm_meaning, algorithm_identifier};
     ghost use Rattle.x509_keys_parts.specs.facts.AlgorithmIdentifier.{algorithm_means, algorithm_agrees};
 
+    type Brief = KeyKind;
+
     ghost shape = { algorithm_identifier };
+
+    ghost brief = { λ v. key_kind v.algorithm };
 
     ghost lawful = { λ h. seen_lawful algorithm_meaning base ⟦<AlgorithmIdentifier<A> as View<Fields<A>, A>>⟧.keeps };
 
@@ -234,6 +280,10 @@ impl<A: Allocator + Copy> Field<A> for AlgorithmIdentifier<A> {
 
     fn read(alloc: A, reader: &mut Reader<'_, A>) -> Result<Self, ReadError> {
         read_viewed::<Self, Fields<A>, A>(alloc, reader)
+    }
+
+    fn pass(alloc: A, reader: &mut Reader<'_, A>) -> Result<KeyKind, ReadError> {
+        pass_viewed::<Self, Fields<A>, A>(alloc, reader)
     }
 }
 

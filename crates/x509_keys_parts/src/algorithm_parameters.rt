@@ -2,17 +2,20 @@
 
 ghost use Rattle.std.specs.Prelude.{◌≡◌, IsTrue, true};
 ghost use Rattle.std.specs.List.{list_any};
-ghost use Rattle.x509_der.specs.Reading.{Ready, Reads};
+ghost use Rattle.std.specs.Option.{is_none};
+ghost use Rattle.x509_der.specs.Reading.{Ready, Reads, Passes, thrifty};
 ghost use Rattle.x509_der.specs.ObjectIdentifier.{is_arcs, arcs_spelled};
 ghost use Rattle.x509_keys_parts.specs.AlgorithmKinds.{rsa_algorithms, bare_algorithms, kind_of as kind_by};
 ghost use Rattle.x509_keys_parts.specs.AlgorithmParameters.{parameters_bytes, AreParameters, if_null, if_aes, by_kind, parameters_avoid};
+ghost use Rattle.x509_keys_parts.specs.AlgorithmIdentifier.{are_absent, chosen_by};
 
 use crate::aes::AesParameters;
 use crate::ec_parameters::EcParameters;
 use crate::hash_algorithm::HashAlgorithm;
+use crate::key_kind::{KeyKind, key_kind};
 use crate::rsassa_pss::{MaskGenAlgorithm, RsassaPssParams};
 use std::alloc::{Allocator, Global};
-use x509_der::parts::{AnyDefinedBy, Field, Optional, Output, Reader};
+use x509_der::parts::{AnyDefinedBy, Field, OidRef, Optional, Output, Reader, pass_oid};
 use x509_der::{
     CloneEq, ObjectIdentifier, ObjectIdentifierAsn1, ReadError, SameEq, ToDer, TooLong,
 };
@@ -112,14 +115,14 @@ fn end_alike(one: &[u8], other: &[u8]) -> bool
 }
 
 /// Whether an object identifier has this content.
-fn has_content<A: Allocator>(identifier: &ObjectIdentifier<A>, content: &[u8]) -> bool
+fn has_content(identifier: &OidRef<'_>, content: &[u8]) -> bool
     ensures { result ≡ is_arcs identifier.now (arcs_spelled content.now) }
 {
     end_alike(identifier.content(), content) && identifier.is_content(content)
 }
 
 /// Whether the content of an object identifier stands in a table.
-pub fn is_among<A: Allocator>(identifier: &ObjectIdentifier<A>, contents: &[&[u8]]) -> bool
+pub fn is_among(identifier: &OidRef<'_>, contents: &[&[u8]]) -> bool
     ensures { result ≡ list_any (λ content. is_arcs identifier.now (arcs_spelled content.now)) contents.now }
 {
     contents
@@ -128,24 +131,23 @@ pub fn is_among<A: Allocator>(identifier: &ObjectIdentifier<A>, contents: &[&[u8
 }
 
 /// Whether an object identifier is that of RSA keys or signatures, whose parameters are NULL.
-pub(crate) fn is_rsa_algorithm<A: Allocator>(identifier: &ObjectIdentifier<A>) -> bool
+pub(crate) fn is_rsa_algorithm(identifier: &OidRef<'_>) -> bool
     ensures { result ≡ list_any (is_arcs identifier.now) rsa_algorithms }
 {
     is_among(identifier, RSA_CONTENTS)
 }
 
 /// Whether an object identifier is that of an algorithm without parameters.
-fn is_bare_algorithm<A: Allocator>(identifier: &ObjectIdentifier<A>) -> bool
+fn is_bare_algorithm(identifier: &OidRef<'_>) -> bool
     ensures { result ≡ list_any (is_arcs identifier.now) bare_algorithms }
 {
     is_among(identifier, BARE_CONTENTS)
 }
 
 /// The kind that an object identifier says.
-pub fn kind_of<A: Allocator>(identifier: &ObjectIdentifierAsn1<A>) -> AlgorithmKind
+pub fn kind_of(identifier: &OidRef<'_>) -> AlgorithmKind
     ensures { result ≡ kind_by identifier.now }
 {
-    let identifier = &identifier.0;
     if is_rsa_algorithm(identifier) {
         AlgorithmKind::Rsa
     } else if identifier.is_arcs(&[1, 2, 840, 113549, 1, 1, 10]) {
@@ -241,11 +243,76 @@ fn read_as<A: Allocator + Copy>(
     }
 }
 
+/// What an object identifier says of an algorithm: which parameters it has, and which keys.
+#[derive(Debug, Drop, Clone, Copy)]
+pub struct Chosen {
+    /// Which parameters follow.
+    pub parameters: AlgorithmKind,
+    /// Which keys the algorithm has.
+    pub keys: KeyKind,
+}
+
+/// Whether parameters that may be absent are.
+fn is_left_out(there: Option<()>) -> bool
+    ensures { result ≡ is_none there }
+{
+    match there {
+        Some(()) => false,
+        None => true,
+    }
+}
+
+/// Goes past the parameters of a kind, and says whether they are absent.
+///
+/// # Errors
+/// Refused where no parameters of the kind stand there.
+fn pass_as<A: Allocator + Copy>(
+    alloc: A,
+    kind: AlgorithmKind,
+    reader: &mut Reader<'_, A>,
+) -> Result<bool, ReadError>
+    requires { Ready reader.old }
+    ensures { Passes (thrifty (by_kind {A = A} kind)) are_absent reader.old reader.new result }
+{
+    match kind {
+        AlgorithmKind::Rsa => {
+            let there = Optional::<()>::pass(alloc, reader)?;
+            Ok(is_left_out(there))
+        }
+        AlgorithmKind::RsassaPss => {
+            RsassaPssParams::pass(alloc, reader)?;
+            Ok(false)
+        }
+        AlgorithmKind::EcPublicKey => {
+            EcParameters::pass(alloc, reader)?;
+            Ok(false)
+        }
+        AlgorithmKind::Bare => Ok(true),
+        AlgorithmKind::Aes => {
+            let there = Optional::<AesParameters<A>>::pass(alloc, reader)?;
+            Ok(is_left_out(there))
+        }
+        AlgorithmKind::Hash => {
+            <()>::pass(alloc, reader)?;
+            Ok(false)
+        }
+        AlgorithmKind::Unknown => Err(ReadError::Unsupported),
+    }
+}
+
 impl<A: Allocator + Copy> AnyDefinedBy<ObjectIdentifierAsn1<A>, A>
     for AlgorithmIdentifierParameters<A> {
     ghost use Rattle.x509_keys_parts.specs.facts.AlgorithmParameters.{parameters_family, parameters_agree};
 
+    type Kind = Chosen;
+
+    type BriefBehind = bool;
+
     ghost shapes = { λ arcs. by_kind (kind_by arcs) };
+
+    ghost kind = { chosen_by };
+
+    ghost brief_behind = { are_absent };
 
     ghost starts = { λ b. true };
 
@@ -274,6 +341,22 @@ impl<A: Allocator + Copy> AnyDefinedBy<ObjectIdentifierAsn1<A>, A>
         key: &ObjectIdentifierAsn1<A>,
         reader: &mut Reader<'_, A>,
     ) -> Result<Self, ReadError> {
-        read_as(alloc, kind_of(key), reader)
+        read_as(alloc, kind_of(&key.0.lent()), reader)
+    }
+
+    fn pass_key(_alloc: A, reader: &mut Reader<'_, A>) -> Result<Chosen, ReadError> {
+        let identifier = pass_oid(reader)?;
+        Ok(Chosen {
+            parameters: kind_of(&identifier),
+            keys: key_kind(&identifier),
+        })
+    }
+
+    fn pass_behind(
+        alloc: A,
+        chosen: Chosen,
+        reader: &mut Reader<'_, A>,
+    ) -> Result<bool, ReadError> {
+        pass_as(alloc, chosen.parameters, reader)
     }
 }

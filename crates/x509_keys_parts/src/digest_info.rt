@@ -5,7 +5,7 @@ ghost use Rattle.std.proofs.Common.{ap};
 ghost use Rattle.x509_der.specs.Element.{element};
 ghost use Rattle.x509_der.specs.laws.Structure.{structure_lawful, structure_element};
 ghost use Rattle.x509_keys_parts.specs.DigestInfos.{digest_info_parts, digest_info_base, digest_info, digest_info_bytes};
-ghost use Rattle.x509_keys_parts.specs.facts.DigestInfoFacts.{digest_info_same, digest_info_agrees};
+ghost use Rattle.x509_keys_parts.specs.facts.DigestInfoFacts.{digest_info_of, digest_info_same, digest_info_agrees};
 
 use crate::aes::AesParameters;
 use crate::algorithm_identifier::AlgorithmIdentifier;
@@ -15,7 +15,8 @@ use crate::hash_algorithm::HashAlgorithm;
 use crate::rsassa_pss::{MaskGenAlgorithm, RsassaPssParams};
 use std::alloc::{Allocator, Global};
 use x509_der::parts::{
-    Field, Join, One, Output, Reader, Ref, SEQUENCE_TAG, Sequence, Structure, Tagged, read_sequence,
+    Field, Join, One, Output, Reader, Ref, SEQUENCE_TAG, Sequence, Structure, Tagged,
+    pass_sequence, read_sequence,
 };
 use x509_der::{CloneEq, FromDer, OctetStringAsn1, ReadError, SameEq, ToDer, TooLong};
 
@@ -72,10 +73,16 @@ impl<A: Allocator> Structure<Inner<A>> for DigestInfo<A> {
     }
 
     ghost same = { digest_info_same };
+
+    ghost made = { λ f. (digest_info_of f, refl) };
 }
 
 impl<A: Allocator + Copy> Field<A> for DigestInfo<A> {
+    type Brief = ();
+
     ghost shape = { digest_info };
+
+    ghost brief = { λ v. tt };
 
     ghost lawful = { λ h. structure_lawful digest_info_parts digest_info_base digest_info_same
         (⟦<Fields<A> as Field<A>>⟧.lawful (tt, tt, λ c h. refl)) };
@@ -96,6 +103,10 @@ impl<A: Allocator + Copy> Field<A> for DigestInfo<A> {
 
     fn read(alloc: A, reader: &mut Reader<'_, A>) -> Result<Self, ReadError> {
         read_sequence::<Self, Inner<A>, A>(alloc, reader)
+    }
+
+    fn pass(alloc: A, reader: &mut Reader<'_, A>) -> Result<(), ReadError> {
+        pass_sequence::<Self, Inner<A>, A>(alloc, reader)
     }
 }
 

@@ -3,10 +3,13 @@
 ghost use Rattle.std.specs.Prelude.{◌≡◌, refl};
 ghost use Rattle.x509_der.specs.laws.Structure.{structure_lawful, structure_element};
 ghost use Rattle.x509_keys_parts.specs.EcParameters.{curve_of, ec_base, ec_parameters};
+ghost use Rattle.x509_keys_parts.specs.declared.ec_parameters.EcParameters.TheVariants.{NamedCurve};
 ghost use Rattle.x509_keys_parts.specs.facts.EcParameters.{ec_same};
 
 use std::alloc::{Allocator, Global};
-use x509_der::parts::{Field, OBJECT_IDENTIFIER_TAG, Output, Reader, Structure, read_fields};
+use x509_der::parts::{
+    Field, OBJECT_IDENTIFIER_TAG, Output, Reader, Structure, pass_fields, read_fields,
+};
 use x509_der::{
     CloneEq, FromDer, ObjectIdentifier, ObjectIdentifierAsn1, ReadError, SameEq, ToDer, TooLong,
 };
@@ -86,10 +89,16 @@ impl<A: Allocator> Structure<ObjectIdentifierAsn1<A>> for EcParameters<A> {
     }
 
     ghost same = { ec_same };
+
+    ghost made = { λ f. (NamedCurve f, refl) };
 }
 
 impl<A: Allocator + Copy> Field<A> for EcParameters<A> {
+    type Brief = ();
+
     ghost shape = { ec_parameters };
+
+    ghost brief = { λ v. tt };
 
     ghost lawful = { λ h. structure_lawful curve_of ec_base ec_same
         (⟦<ObjectIdentifierAsn1<A> as Field<A>>⟧.lawful tt) };
@@ -111,6 +120,10 @@ impl<A: Allocator + Copy> Field<A> for EcParameters<A> {
 
     fn read(alloc: A, reader: &mut Reader<'_, A>) -> Result<Self, ReadError> {
         read_fields::<Self, ObjectIdentifierAsn1<A>, A>(alloc, reader)
+    }
+
+    fn pass(alloc: A, reader: &mut Reader<'_, A>) -> Result<(), ReadError> {
+        pass_fields::<Self, ObjectIdentifierAsn1<A>, A>(alloc, reader)
     }
 }
 

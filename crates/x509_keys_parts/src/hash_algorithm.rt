@@ -4,6 +4,7 @@ ghost use Rattle.std.specs.Prelude.{◌≡◌, false, refl, IfOk, IfErr, Err, No
 ghost use Rattle.x509_der.specs.ObjectIdentifier.{arcs_spelled, dotted};
 ghost use Rattle.x509_der.specs.Types.read_error.{OutOfMemory, Unsupported};
 ghost use Rattle.x509_der.specs.View.{if_found, meant};
+ghost use Rattle.x509_der.specs.Optional.{brief_if};
 ghost use Rattle.x509_der.specs.laws.Meaning.{seen_lawful, seen_element, sequence_keeps};
 ghost use Rattle.x509_keys_parts.specs.HashAlgorithms.{hash_arcs, hash_function_name, hash_len, hash_number, hash_of, hash_name_base, hash_name_meaning, hash_name, null_kinds, hash_inner, hash_base, hash_fields, hash_meaning, hash_algorithm};
 ghost use Rattle.x509_keys_parts.specs.Unsupported.{Names};
@@ -13,8 +14,9 @@ use crate::errors::{AlgorithmError, unsupported};
 use std::alloc::{AllocError, Allocator};
 use std::marker::Model;
 use x509_der::parts::{
-    Content, Field, Join, OBJECT_IDENTIFIER_TAG, One, Optional, Output, Reader, SEQUENCE_TAG,
-    Sequence, Tagged, View, WholeDeviations, from_lawful, read_viewed,
+    Content, Field, Join, Judge, OBJECT_IDENTIFIER_TAG, OidRef, One, Optional, Output, Reader,
+    SEQUENCE_TAG, Sequence, Tagged, View, WholeDeviations, from_lawful, pass_oid, pass_viewed,
+    read_viewed,
 };
 use x509_der::{
     CloneEq, Deviation, FromDer, ObjectIdentifier, ObjectIdentifierAsn1, ReadError, SameEq, ToDer,
@@ -60,7 +62,7 @@ const HASHES: &'static [HashAlgorithm] = &[
 ];
 
 /// The hash function that an object identifier names.
-fn known<A: Allocator>(identifier: &ObjectIdentifier<A>) -> Option<HashAlgorithm>
+fn known(identifier: &OidRef<'_>) -> Option<HashAlgorithm>
     ensures { result ≡ hash_of identifier.now }
 {
     for hash in HASHES {
@@ -160,7 +162,7 @@ impl HashAlgorithm {
         ensures ok { IfOk result (λ hash. hash_of identifier.now ≡ Some hash) }
         ensures err { IfErr result (λ e. (hash_of identifier.now ≡ None) × Names e (dotted identifier.now)) }
     {
-        match known(identifier) {
+        match known(&identifier.lent()) {
             Some(hash) => Ok(hash),
             None => Err(unsupported(alloc, identifier)),
         }
@@ -221,7 +223,7 @@ impl<A: Allocator + Copy> View<ObjectIdentifierAsn1<A>, A> for HashName {
         ensures refusal { result ≡ Err OutOfMemory → ⊥ }
         ensures name { IfErr result (λ e. e ≡ Unsupported) }
     {
-        match known(&parts.0) {
+        match known(&parts.0.lent()) {
             Some(hash) => Ok((HashName(hash), WholeDeviations::Nothing)),
             None => Err(ReadError::Unsupported),
         }
@@ -229,7 +231,11 @@ impl<A: Allocator + Copy> View<ObjectIdentifierAsn1<A>, A> for HashName {
 }
 
 impl<A: Allocator + Copy> Field<A> for HashName {
+    type Brief = ();
+
     ghost shape = { hash_name };
+
+    ghost brief = { λ v. tt };
 
     ghost lawful = { λ h. seen_lawful hash_name_meaning hash_name_base hash_name_keeps };
 
@@ -247,6 +253,18 @@ impl<A: Allocator + Copy> Field<A> for HashName {
 
     fn read(alloc: A, reader: &mut Reader<'_, A>) -> Result<Self, ReadError> {
         read_viewed::<Self, ObjectIdentifierAsn1<A>, A>(alloc, reader)
+    }
+
+    fn pass(_alloc: A, reader: &mut Reader<'_, A>) -> Result<(), ReadError> {
+        let spot = reader.spot();
+        let identifier = pass_oid(reader)?;
+        match known(&identifier) {
+            Some(_hash) => Ok(()),
+            None => {
+                reader.go_back(spot);
+                Err(ReadError::Unsupported)
+            }
+        }
     }
 }
 
@@ -291,8 +309,27 @@ impl<A: Allocator + Copy> View<Fields, A> for HashAlgorithm {
     }
 }
 
+impl<A: Allocator + Copy> Judge<Fields, A> for HashAlgorithm {
+    type Glimpse = ((), Option<()>);
+
+    type Kept = ();
+
+    ghost glimpse = { λ f. (tt, brief_if (λ u. u) f.1) };
+
+    ghost kept = { λ v. tt };
+
+    fn judge(brief: ((), Option<()>)) -> Result<((), WholeDeviations), ReadError> {
+        let (_name, null) = brief;
+        Ok(((), WholeDeviations::of(absence(null))))
+    }
+}
+
 impl<A: Allocator + Copy> Field<A> for HashAlgorithm {
+    type Brief = ();
+
     ghost shape = { hash_algorithm };
+
+    ghost brief = { λ v. tt };
 
     ghost lawful = { λ h. seen_lawful hash_meaning hash_base ⟦<HashAlgorithm as View<Fields, A>>⟧.keeps };
 
@@ -309,6 +346,10 @@ impl<A: Allocator + Copy> Field<A> for HashAlgorithm {
 
     fn read(alloc: A, reader: &mut Reader<'_, A>) -> Result<Self, ReadError> {
         read_viewed::<Self, Fields, A>(alloc, reader)
+    }
+
+    fn pass(alloc: A, reader: &mut Reader<'_, A>) -> Result<(), ReadError> {
+        pass_viewed::<Self, Fields, A>(alloc, reader)
     }
 }
 

@@ -9,6 +9,7 @@ pub mod digest_info;
 pub mod ec_parameters;
 pub mod errors;
 pub mod hash_algorithm;
+pub mod key_kind;
 pub mod laws;
 pub mod makers;
 pub mod raw_algorithm_identifier;

@@ -4,12 +4,13 @@ ghost use Rattle.std.specs.Prelude.{◌≡◌, IfOk, IsOk, MatchOption, Option, 
 ghost use Rattle.x509_keys_parts.specs.RawAlgorithm.{RawAlgorithm, NotNull, from_parts as parts_of, is_null, without_null, written_parameters, kinds_of, if_there};
 ghost use Rattle.x509_der.specs.Reading.{IsRaw};
 ghost use Rattle.x509_der.specs.View.{if_found};
+ghost use Rattle.x509_der.specs.Optional.{brief_if};
 
 use std::alloc::{AllocError, Allocator, Global};
 use std::marker::Model;
 use x509_der::parts::{
-    Content, Field, Join, One, Optional, Output, Reader, Ref, SEQUENCE_TAG, Sequence, Tagged, View,
-    WholeDeviations, known_bytes, known_there, read_viewed,
+    Content, Field, Join, Judge, One, Optional, Output, Reader, Ref, SEQUENCE_TAG, Sequence,
+    Tagged, View, WholeDeviations, known_bytes, known_there, pass_viewed, read_viewed,
 };
 use x509_der::{
     Asn1RawDer, CloneEq, Deviation, FromDer, ObjectIdentifier, ObjectIdentifierAsn1, ReadError,
@@ -202,7 +203,11 @@ impl<A: Allocator + Copy> Field<A> for ReadParameters<A> {
     ghost use Rattle.x509_keys_parts.specs.RawAlgorithm.{parameters};
     ghost use Rattle.x509_keys_parts.specs.facts.RawAlgorithmFacts.{parameters_lawful, parameters_element};
 
+    type Brief = ();
+
     ghost shape = { parameters };
+
+    ghost brief = { λ v. tt };
 
     ghost lawful = { λ h. parameters_lawful };
 
@@ -223,6 +228,12 @@ impl<A: Allocator + Copy> Field<A> for ReadParameters<A> {
         known_bytes(bytes);
         let parameters = hold(alloc, bytes)?;
         Ok(ReadParameters(parameters))
+    }
+
+    fn pass(_alloc: A, reader: &mut Reader<'_, A>) -> Result<(), ReadError> {
+        let bytes = reader.whole_element()?;
+        known_bytes(bytes);
+        Ok(())
     }
 }
 
@@ -266,13 +277,35 @@ impl<A: Allocator + Copy> View<Fields<A>, A> for RawAlgorithmIdentifier<A> {
     }
 }
 
+impl<A: Allocator + Copy> Judge<Fields<A>, A> for RawAlgorithmIdentifier<A> {
+    type Glimpse = ((), Option<()>);
+
+    type Kept = ();
+
+    ghost glimpse = { λ f. (tt, brief_if (λ p. tt) f.1) };
+
+    ghost kept = { λ v. tt };
+
+    fn judge(brief: ((), Option<()>)) -> Result<((), WholeDeviations), ReadError> {
+        let (_algorithm, parameters) = brief;
+        match parameters {
+            Some(()) => Ok(((), WholeDeviations::Nothing)),
+            None => Ok(((), WholeDeviations::One(Deviation::RawParametersAbsent))),
+        }
+    }
+}
+
 impl<A: Allocator + Copy> Field<A> for RawAlgorithmIdentifier<A> {
     ghost use Rattle.std.specs.Prelude.{refl};
     ghost use Rattle.x509_der.specs.laws.Meaning.{seen_lawful, seen_element};
     ghost use Rattle.x509_keys_parts.specs.RawAlgorithm.{base, raw_meaning, raw_algorithm};
     ghost use Rattle.x509_keys_parts.specs.facts.RawAlgorithmFacts.{raw_algorithm_means, one_kind};
 
+    type Brief = ();
+
     ghost shape = { raw_algorithm };
+
+    ghost brief = { λ v. tt };
 
     ghost lawful = { λ h. seen_lawful raw_meaning base ⟦<RawAlgorithmIdentifier<A> as View<Fields<A>, A>>⟧.keeps };
 
@@ -292,6 +325,10 @@ impl<A: Allocator + Copy> Field<A> for RawAlgorithmIdentifier<A> {
 
     fn read(alloc: A, reader: &mut Reader<'_, A>) -> Result<Self, ReadError> {
         read_viewed::<Self, Fields<A>, A>(alloc, reader)
+    }
+
+    fn pass(alloc: A, reader: &mut Reader<'_, A>) -> Result<(), ReadError> {
+        pass_viewed::<Self, Fields<A>, A>(alloc, reader)
     }
 }
 

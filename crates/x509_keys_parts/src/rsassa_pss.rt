@@ -1,23 +1,25 @@
 //! Parameters of RSASSA-PSS.
 
-ghost use Rattle.std.specs.Prelude.{◌≡◌, refl, IfOk, IfErr};
+ghost use Rattle.std.specs.Prelude.{MatchResult, None, Some, ◌≡◌, refl, IfOk, IfErr};
 ghost use Rattle.x509_der.specs.Types.read_error.{Unsupported};
-ghost use Rattle.x509_der.specs.View.{meant};
+ghost use Rattle.x509_der.specs.View.{kinds_in, meant};
+ghost use Rattle.x509_der.specs.Integer.{magnitude};
 ghost use Rattle.x509_der.specs.laws.Meaning.{seen_element, seen_lawful, sequence_keeps};
 ghost use Rattle.x509_der.specs.laws.Structure.{structure_lawful, structure_element};
-ghost use Rattle.x509_keys_parts.specs.RsassaPss.{mask_gen_parts, mask_gen_base, mask_gen, mgf1, pss_inner, pss_base, salt_of, pss_fields, pss_meaning, rsassa_pss, pss_with};
-ghost use Rattle.x509_keys_parts.specs.facts.RsassaPssFacts.{mask_gen_same, pss_is, pss_one};
+ghost use Rattle.x509_keys_parts.specs.RsassaPss.{salt_kinds, mask_gen_parts, mask_gen_base, mask_gen, mgf1, pss_inner, pss_base, salt_of, pss_fields, pss_meaning, rsassa_pss, pss_with};
+ghost use Rattle.x509_keys_parts.specs.facts.RsassaPssFacts.{mask_gen_of, mask_gen_same, pss_is, pss_one};
 
 use crate::hash_algorithm::HashAlgorithm;
 use crate::salt_length::SaltLength;
 use std::alloc::{AllocError, Allocator, Global};
 use x509_der::parts::{
-    Content, ContextConstructed, Field, Join, One, Output, Reader, Ref, SEQUENCE_TAG, Sequence,
-    Structure, Tagged, View, WholeDeviations, read_fields, read_viewed,
+    Content, ContextConstructed, Field, Join, Judge, One, Output, Reader, Ref, SEQUENCE_TAG,
+    Sequence, Structure, Tagged, View, WholeDeviations, pass_fields, pass_viewed, read_fields,
+    read_viewed,
 };
 use x509_der::{
-    CloneEq, Deviation, FromDer, IntegerAsn1, ObjectIdentifierAsn1, ReadError, SameEq, ToDer,
-    TooLong,
+    CloneEq, Deviation, FromDer, IntegerAsn1, Magnitude, ObjectIdentifierAsn1, ReadError, SameEq,
+    ToDer, TooLong,
 };
 use x509_oids_algorithms::id_mgf1;
 
@@ -88,10 +90,16 @@ impl<A: Allocator> Structure<MaskGenNest<ObjectIdentifierAsn1<A>>> for MaskGenAl
     }
 
     ghost same = { mask_gen_same };
+
+    ghost made = { λ f. (mask_gen_of f, refl) };
 }
 
 impl<A: Allocator + Copy> Field<A> for MaskGenAlgorithm<A> {
+    type Brief = ();
+
     ghost shape = { mask_gen };
+
+    ghost brief = { λ v. tt };
 
     ghost lawful = { λ h. structure_lawful mask_gen_parts mask_gen_base mask_gen_same
         (⟦<MaskGenNest<ObjectIdentifierAsn1<A>> as Field<A>>⟧.lawful (tt, tt, λ c h. refl)) };
@@ -111,6 +119,10 @@ impl<A: Allocator + Copy> Field<A> for MaskGenAlgorithm<A> {
 
     fn read(alloc: A, reader: &mut Reader<'_, A>) -> Result<Self, ReadError> {
         read_fields::<Self, MaskGenNest<ObjectIdentifierAsn1<A>>, A>(alloc, reader)
+    }
+
+    fn pass(alloc: A, reader: &mut Reader<'_, A>) -> Result<(), ReadError> {
+        pass_fields::<Self, MaskGenNest<ObjectIdentifierAsn1<A>>, A>(alloc, reader)
     }
 }
 
@@ -236,8 +248,42 @@ impl<A: Allocator + Copy> View<Fields<A>, A> for RsassaPssParams<A> {
     }
 }
 
+/// What a length says that is so large.
+///
+/// # Errors
+/// `Unsupported` exactly where it is negative.
+fn salt_within(magnitude: Magnitude) -> Result<WholeDeviations, ReadError>
+    ensures { MatchResult result (λ w. salt_kinds magnitude ≡ Some (kinds_in w)) (λ e. (salt_kinds magnitude ≡ None) × (e ≡ Unsupported)) }
+{
+    match magnitude {
+        Magnitude::Negative => Err(ReadError::Unsupported),
+        Magnitude::Byte(_) | Magnitude::Small => Ok(WholeDeviations::Nothing),
+        Magnitude::Large => Ok(WholeDeviations::One(Deviation::SaltTooLarge)),
+    }
+}
+
+impl<A: Allocator + Copy> Judge<Fields<A>, A> for RsassaPssParams<A> {
+    type Glimpse = ((), ((), Magnitude));
+
+    type Kept = ();
+
+    ghost glimpse = { λ f. (tt, (tt, magnitude f.1.1)) };
+
+    ghost kept = { λ v. tt };
+
+    fn judge(brief: ((), ((), Magnitude))) -> Result<((), WholeDeviations), ReadError> {
+        let (_hash, (_mask, salt)) = brief;
+        let found = salt_within(salt)?;
+        Ok(((), found))
+    }
+}
+
 impl<A: Allocator + Copy> Field<A> for RsassaPssParams<A> {
+    type Brief = ();
+
     ghost shape = { rsassa_pss };
+
+    ghost brief = { λ v. tt };
 
     ghost lawful = { λ h. seen_lawful pss_meaning pss_base ⟦<RsassaPssParams<A> as View<Fields<A>, A>>⟧.keeps };
 
@@ -258,6 +304,10 @@ impl<A: Allocator + Copy> Field<A> for RsassaPssParams<A> {
 
     fn read(alloc: A, reader: &mut Reader<'_, A>) -> Result<Self, ReadError> {
         read_viewed::<Self, Fields<A>, A>(alloc, reader)
+    }
+
+    fn pass(alloc: A, reader: &mut Reader<'_, A>) -> Result<(), ReadError> {
+        pass_viewed::<Self, Fields<A>, A>(alloc, reader)
     }
 }
 

@@ -2,20 +2,20 @@
 
 ghost use Rattle.std.specs.Prelude.{◌≡◌, ◌++◌, true, false, refl, IfOk};
 ghost use Rattle.x509_der.specs.Element.{element};
-ghost use Rattle.x509_der.specs.Reading.{Ready, Reads};
+ghost use Rattle.x509_der.specs.Reading.{Ready, Reads, Passes, thrifty};
 ghost use Rattle.x509_der.specs.laws.Structure.{structure_lawful, structure_element};
 ghost use Rattle.x509_names.specs.Attributes.{kind_of as kind_by, held as held_by};
 ghost use Rattle.x509_names.specs.Attributes.{text_value as text_by, value_bytes, IsValue, by_kind};
 ghost use Rattle.x509_names.specs.Attributes.{attribute_parts, attribute_base, attribute, attribute_bytes};
 ghost use Rattle.x509_names.specs.Attributes.{text_attribute as text_by_attr, email_attribute};
-ghost use Rattle.x509_names.specs.facts.Attributes.{attribute_same};
+ghost use Rattle.x509_names.specs.facts.Attributes.{attribute_of, attribute_same};
 ghost use Rattle.x509_names.specs.declared.name_attr.NameAttr.TheVariants as attr;
 
 use crate::name_attr::{NameAttr, attr_of, identifier_of};
 use std::alloc::{AllocError, Allocator, Global};
 use x509_der::parts::{
-    AnyDefinedBy, Choice, DefinedBy, Field, One, Output, Reader, Ref, SEQUENCE_TAG, Sequence,
-    Structure, Tagged, put_element, read_sequence,
+    AnyDefinedBy, Choice, DefinedBy, Field, OidRef, One, Output, Reader, Ref, SEQUENCE_TAG,
+    Sequence, Structure, Tagged, pass_oid, pass_sequence, put_element, read_sequence,
 };
 use x509_der::{
     Asn1RawDer, CloneEq, FromDer, ObjectIdentifierAsn1, ReadError, SameEq, ToDer, TooLong,
@@ -72,8 +72,8 @@ impl<A: Allocator> SameEq for AttributeTypeAndValueParameters<A> {
 }
 
 /// What an object identifier says of the value.
-#[derive(Drop)]
-enum AttributeKind {
+#[derive(Clone, Copy, Debug, Drop)]
+pub enum AttributeKind {
     /// A directory string, of this attribute.
     Text(NameAttr),
     /// An IA5String: an e-mail address.
@@ -87,13 +87,13 @@ const EMAIL: &'static [u8] = &[0x2A, 0x86, 0x48, 0x86, 0xF7, 0x0D, 1, 9, 1];
 
 /// The kind of value that an object identifier says. Contents are compared, and no arcs are decoded.
 #[tactic(auto, unfolding(x509_der::specs::ObjectIdentifier::numbers_from))]
-fn kind_of<A: Allocator>(identifier: &ObjectIdentifierAsn1<A>) -> AttributeKind
+fn kind_of(identifier: &OidRef<'_>) -> AttributeKind
     ensures { result ≡ kind_by identifier.now }
 {
-    if let Some(attr) = attr_of(&identifier.0) {
+    if let Some(attr) = attr_of(identifier) {
         return AttributeKind::Text(attr);
     }
-    if identifier.0.is_content(EMAIL) {
+    if identifier.is_content(EMAIL) {
         AttributeKind::Email
     } else {
         AttributeKind::Other
@@ -212,11 +212,38 @@ fn read_as<A: Allocator + Copy>(
     }
 }
 
+/// Goes past a value of a kind.
+///
+/// # Errors
+/// Refused where no value of the kind stands there.
+fn pass_as<A: Allocator + Copy>(
+    alloc: A,
+    kind: AttributeKind,
+    reader: &mut Reader<'_, A>,
+) -> Result<(), ReadError>
+    requires { Ready reader.old }
+    ensures { Passes (thrifty (by_kind {A = A} kind)) (λ v. tt) reader.old reader.new result }
+{
+    match kind {
+        AttributeKind::Text(_attr) => DirectoryString::pass(alloc, reader),
+        AttributeKind::Email => Ia5StringAsn1::pass(alloc, reader),
+        AttributeKind::Other => Asn1RawDer::pass(alloc, reader),
+    }
+}
+
 impl<A: Allocator + Copy> AnyDefinedBy<ObjectIdentifierAsn1<A>, A>
     for AttributeTypeAndValueParameters<A> {
     ghost use Rattle.x509_names.specs.facts.AttributeFacts.{value_family, value_agrees};
 
+    type Kind = AttributeKind;
+
+    type BriefBehind = ();
+
     ghost shapes = { λ arcs. by_kind (kind_by arcs) };
+
+    ghost kind = { kind_by };
+
+    ghost brief_behind = { λ v. tt };
 
     ghost starts = { λ b. true };
 
@@ -239,7 +266,20 @@ impl<A: Allocator + Copy> AnyDefinedBy<ObjectIdentifierAsn1<A>, A>
         key: &ObjectIdentifierAsn1<A>,
         reader: &mut Reader<'_, A>,
     ) -> Result<Self, ReadError> {
-        read_as(alloc, kind_of(key), reader)
+        read_as(alloc, kind_of(&key.0.lent()), reader)
+    }
+
+    fn pass_key(_alloc: A, reader: &mut Reader<'_, A>) -> Result<AttributeKind, ReadError> {
+        let identifier = pass_oid(reader)?;
+        Ok(kind_of(&identifier))
+    }
+
+    fn pass_behind(
+        alloc: A,
+        chosen: AttributeKind,
+        reader: &mut Reader<'_, A>,
+    ) -> Result<(), ReadError> {
+        pass_as(alloc, chosen, reader)
     }
 }
 
@@ -453,12 +493,18 @@ impl<A: Allocator> Structure<Inner<A>> for AttributeTypeAndValue<A> {
     }
 
     ghost same = { attribute_same };
+
+    ghost made = { λ f. (attribute_of f, refl) };
 }
 
 impl<A: Allocator + Copy> Field<A> for AttributeTypeAndValue<A> {
     ghost use Rattle.x509_names.specs.facts.AttributeFacts.{attribute_agrees};
 
+    type Brief = ();
+
     ghost shape = { attribute };
+
+    ghost brief = { λ v. tt };
 
     ghost lawful = { λ h. structure_lawful attribute_parts attribute_base attribute_same
         (⟦<Tagged<Sequence, Inner<A>> as Field<A>>⟧.lawful (tt, λ c h. refl)) };
@@ -479,6 +525,10 @@ impl<A: Allocator + Copy> Field<A> for AttributeTypeAndValue<A> {
 
     fn read(alloc: A, reader: &mut Reader<'_, A>) -> Result<Self, ReadError> {
         read_sequence::<Self, Inner<A>, A>(alloc, reader)
+    }
+
+    fn pass(alloc: A, reader: &mut Reader<'_, A>) -> Result<(), ReadError> {
+        pass_sequence::<Self, Inner<A>, A>(alloc, reader)
     }
 }
 

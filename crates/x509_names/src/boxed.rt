@@ -108,7 +108,11 @@ pub trait TakesMemory<A: Allocator>: Content<A> {
 }
 
 impl<T: TakesMemory<A> + Drop, A: Allocator + Copy> Content<A> for Boxed<T, A> {
+    type ContentBrief = T::ContentBrief;
+
     ghost content_shape = { T.content_shape };
+
+    ghost content_brief = { T.content_brief };
 
     ghost content_fits = { T.content_fits };
 
@@ -122,6 +126,10 @@ impl<T: TakesMemory<A> + Drop, A: Allocator + Copy> Content<A> for Boxed<T, A> {
         let value = T::read_content(alloc, reader)?;
         let boxed = Boxed::new(alloc, value)?;
         Ok(boxed)
+    }
+
+    fn pass_content(alloc: A, reader: &mut Reader<'_, A>) -> Result<T::ContentBrief, ReadError> {
+        T::pass_content(alloc, reader)
     }
 
     ghost content_agrees = { λ v. T.content_agrees v };

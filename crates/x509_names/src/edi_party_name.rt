@@ -3,13 +3,13 @@
 ghost use Rattle.std.specs.Prelude.{◌≡◌, refl};
 ghost use Rattle.x509_der.specs.laws.Structure.{structure_lawful};
 ghost use Rattle.x509_names.specs.EdiPartyNames.{edi_parts, edi_inner, edi_content};
-ghost use Rattle.x509_names.specs.facts.EdiPartyNames.{edi_same, assigner_apart};
+ghost use Rattle.x509_names.specs.facts.EdiPartyNames.{edi_of, edi_same, assigner_apart};
 
 use crate::boxed::TakesMemory;
 use std::alloc::{Allocator, Global};
 use x509_der::parts::{
     Content, ContextConstructed, Field, FromContent, Join, One, Optional, Output, OwnTag, Reader,
-    Ref, Sequence, Structure, Tagged, ToContent, known_there, read_as_content,
+    Ref, Sequence, Structure, Tagged, ToContent, known_there, pass_as_content, read_as_content,
 };
 use x509_der::{CloneEq, ReadError, SameEq, TooLong};
 use x509_names_parts::DirectoryString;
@@ -84,10 +84,16 @@ impl<A: Allocator> Structure<Inner<A>> for EdiPartyName<A> {
     }
 
     ghost same = { edi_same };
+
+    ghost made = { λ f. (edi_of f, refl) };
 }
 
 impl<A: Allocator + Copy> Content<A> for EdiPartyName<A> {
+    type ContentBrief = ();
+
     ghost content_shape = { edi_content };
+
+    ghost content_brief = { λ v. tt };
 
     ghost content_lawful = { λ h. structure_lawful edi_parts edi_inner edi_same
         (⟦<Inner<A> as Content<A>>⟧.content_lawful ((tt, tt), tt, assigner_apart)) };
@@ -99,6 +105,10 @@ impl<A: Allocator + Copy> Content<A> for EdiPartyName<A> {
 
     fn read_content(alloc: A, reader: &mut Reader<'_, A>) -> Result<Self, ReadError> {
         read_as_content::<Self, Inner<A>, A>(alloc, reader)
+    }
+
+    fn pass_content(alloc: A, reader: &mut Reader<'_, A>) -> Result<(), ReadError> {
+        pass_as_content::<Self, Inner<A>, A>(alloc, reader)
     }
 
     ghost content_agrees = { λ v. refl };

@@ -2,8 +2,8 @@
 
 ghost use Rattle.std.specs.Prelude.{◌≡◌, ℕ, List, refl, IfOk};
 ghost use Rattle.x509_der.specs.Types.{Choice as fields};
-ghost use Rattle.x509_der.specs.Choice.{choice};
-ghost use Rattle.x509_der.specs.Reading.{Ready, Reads};
+ghost use Rattle.x509_der.specs.Choice.{choice, is_first};
+ghost use Rattle.x509_der.specs.Reading.{Ready, Reads, Passes, thrifty};
 ghost use Rattle.x509_der.specs.Tally.{Tally};
 ghost use Rattle.x509_der.specs.View.{seen};
 ghost use Rattle.x509_names.specs.declared.general_name.GeneralName.TheVariants as form;
@@ -18,8 +18,8 @@ use crate::other_name::OtherName;
 use std::alloc::{AllocError, Allocator, Global};
 use x509_der::parts::Choice::{First, Second};
 use x509_der::parts::{
-    Choice, Content, ContextConstructed, ContextPrimitive, Field, One, Output, Reader, Ref, Tagged,
-    View, WholeDeviations, put_element, read_viewed,
+    Choice, Content, ContextConstructed, ContextPrimitive, Field, Judge, One, Output, Reader, Ref,
+    Tagged, View, WholeDeviations, pass_viewed, put_element, read_viewed,
 };
 use x509_der::{
     Asn1SequenceOf, CloneEq, Deviation, FromDer, ObjectIdentifierAsn1, OctetStringAsn1, ReadError,
@@ -259,6 +259,24 @@ impl<A: Allocator + Copy> View<Fields<A>, A> for GeneralName<A> {
     }
 }
 
+impl<A: Allocator + Copy> Judge<Fields<A>, A> for GeneralName<A> {
+    type Glimpse = bool;
+
+    type Kept = ();
+
+    ghost glimpse = { is_first };
+
+    ghost kept = { λ v. tt };
+
+    fn judge(brief: bool) -> Result<((), WholeDeviations), ReadError> {
+        if brief {
+            Ok(((), WholeDeviations::Nothing))
+        } else {
+            Ok(((), WholeDeviations::One(Deviation::GeneralNameForm)))
+        }
+    }
+}
+
 /// One of four fields.
 type OfFour<F, G, H, I> = Choice<Choice<F, G>, Choice<H, I>>;
 
@@ -285,8 +303,35 @@ fn read_of_four<
     read_viewed::<T, OfFour<F, G, H, I>, A>(alloc, reader)
 }
 
+/// Goes past a value by way of what one of four fields means.
+///
+/// # Errors
+/// As the fields; also where none begins there.
+fn pass_of_four<
+    T: Judge<OfFour<F, G, H, I>, A, Glimpse = bool>,
+    F: Field<A>,
+    G: Field<A>,
+    H: Field<A>,
+    I: Field<A>,
+    A: Allocator + Copy,
+>(alloc: A, reader: &mut Reader<'_, A>) -> Result<T::Kept, ReadError>
+    requires ready { Ready reader.old }
+    requires fits { ⟦<OfFour<F, G, H, I> as Field<A>>⟧.fits }
+    requires base { (b : fields (fields F G) (fields H I)) (p : List ℕ) (y : Tally)
+        → (choice (choice F.shape G.shape) (choice H.shape I.shape)).spelled b p y → T.base.spelled b p y }
+    requires brief { (b : fields (fields F G) (fields H I)) → T.glimpse b ≡ is_first b }
+    ensures { Passes (thrifty (seen T.view (choice (choice F.shape G.shape) (choice H.shape I.shape)))) T.kept
+        reader.old reader.new result }
+{
+    pass_viewed::<T, OfFour<F, G, H, I>, A>(alloc, reader)
+}
+
 impl<A: Allocator + Copy> Field<A> for GeneralName<A> {
+    type Brief = ();
+
     ghost shape = { general_names };
+
+    ghost brief = { λ v. tt };
 
     ghost lawful = { λ h. general_lawful (record {
       other = ⟦<OtherName<A> as Content<A>>⟧.content_lawful tt;
@@ -322,6 +367,12 @@ impl<A: Allocator + Copy> Field<A> for GeneralName<A> {
 
     fn read(alloc: A, reader: &mut Reader<'_, A>) -> Result<Self, ReadError> {
         read_of_four::<Self, StrictFront<A>, StrictBack<A>, LooseFront<A>, LooseBack<A>, A>(
+            alloc, reader,
+        )
+    }
+
+    fn pass(alloc: A, reader: &mut Reader<'_, A>) -> Result<(), ReadError> {
+        pass_of_four::<Self, StrictFront<A>, StrictBack<A>, LooseFront<A>, LooseBack<A>, A>(
             alloc, reader,
         )
     }

@@ -2,6 +2,7 @@
 
 ghost use Rattle.std.specs.Prelude.{◌≡◌, ◌++◌, ◌∷◌, [], IfOk, OnOk, OnErr, MatchOption, Some, None};
 ghost use Rattle.x509_names.specs.Attributes.{text_attribute, email_attribute};
+ghost use Rattle.x509_der.specs.Items.{no_items};
 ghost use Rattle.x509_names.specs.Names.{name_content, name_bytes};
 ghost use Rattle.x509_names.specs.CommonNames.{common_name_of, first_of_set, first_common_name};
 ghost use Rattle.x509_names.specs.declared.name_attr.NameAttr.TheVariants as attr;
@@ -176,7 +177,11 @@ impl<A: Allocator> ToContent for Name<A> {
 impl<A: Allocator + Copy> Content<A> for Name<A> {
     ghost use Rattle.x509_names.specs.facts.NameFacts.{content_agrees};
 
+    type ContentBrief = bool;
+
     ghost content_shape = { name_content };
+
+    ghost content_brief = { no_items };
 
     ghost content_lawful = { λ h. ⟦<RdnSequence<A> as Content<A>>⟧.content_lawful ((tt, tt), tt) };
 
@@ -189,6 +194,10 @@ impl<A: Allocator + Copy> Content<A> for Name<A> {
     fn read_content(alloc: A, reader: &mut Reader<'_, A>) -> Result<Self, ReadError> {
         let sets = RdnSequence::read_content(alloc, reader)?;
         Ok(Name(sets))
+    }
+
+    fn pass_content(alloc: A, reader: &mut Reader<'_, A>) -> Result<bool, ReadError> {
+        RdnSequence::<A>::pass_content(alloc, reader)
     }
 }
 

@@ -5,7 +5,7 @@ ghost use Rattle.x509_der.specs.ObjectIdentifier.{arcs_spelled};
 ghost use Rattle.x509_names.specs.Attributes.{arcs_of, attr_of as attr_by};
 
 use std::alloc::{AllocError, Allocator};
-use x509_der::parts::from_lawful;
+use x509_der::parts::{OidRef, from_lawful};
 use x509_der::{CloneEq, ObjectIdentifier, SameEq};
 
 /// An attribute of a name whose value is a directory string (RFC 5280, appendix A.1; X.520).
@@ -84,7 +84,7 @@ impl CloneEq for NameAttr {
 }
 
 /// The attribute that an object identifier says, of those whose values are directory strings.
-pub(crate) fn attr_of<A: Allocator>(identifier: &ObjectIdentifier<A>) -> Option<NameAttr>
+pub(crate) fn attr_of(identifier: &OidRef<'_>) -> Option<NameAttr>
     ensures { result ≡ attr_by identifier.now }
 {
     for attr in ATTRS {

@@ -3,13 +3,13 @@
 ghost use Rattle.std.specs.Prelude.{◌≡◌, refl};
 ghost use Rattle.x509_der.specs.laws.Structure.{structure_lawful};
 ghost use Rattle.x509_names.specs.OtherNames.{other_parts, other_inner, other_content};
-ghost use Rattle.x509_names.specs.facts.OtherNames.{other_same};
+ghost use Rattle.x509_names.specs.facts.OtherNames.{other_of, other_same};
 
 use crate::boxed::TakesMemory;
 use std::alloc::{Allocator, Global};
 use x509_der::parts::{
     Content, ContextConstructed, Field, FromContent, Join, One, Output, OwnTag, Reader, Ref,
-    Sequence, Structure, Tagged, ToContent, read_as_content,
+    Sequence, Structure, Tagged, ToContent, pass_as_content, read_as_content,
 };
 use x509_der::{Asn1RawDer, CloneEq, ObjectIdentifierAsn1, ReadError, SameEq, TooLong};
 
@@ -78,10 +78,16 @@ impl<A: Allocator> Structure<Inner<A>> for OtherName<A> {
     }
 
     ghost same = { other_same };
+
+    ghost made = { λ f. (other_of f, refl) };
 }
 
 impl<A: Allocator + Copy> Content<A> for OtherName<A> {
+    type ContentBrief = ();
+
     ghost content_shape = { other_content };
+
+    ghost content_brief = { λ v. tt };
 
     ghost content_lawful = { λ h. structure_lawful other_parts other_inner other_same
         (⟦<Inner<A> as Content<A>>⟧.content_lawful (tt, tt, λ c h. refl)) };
@@ -93,6 +99,10 @@ impl<A: Allocator + Copy> Content<A> for OtherName<A> {
 
     fn read_content(alloc: A, reader: &mut Reader<'_, A>) -> Result<Self, ReadError> {
         read_as_content::<Self, Inner<A>, A>(alloc, reader)
+    }
+
+    fn pass_content(alloc: A, reader: &mut Reader<'_, A>) -> Result<(), ReadError> {
+        pass_as_content::<Self, Inner<A>, A>(alloc, reader)
     }
 
     ghost content_agrees = { λ v. refl };

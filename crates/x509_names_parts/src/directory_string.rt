@@ -3,12 +3,12 @@
 ghost use Rattle.std.specs.Prelude.{◌≡◌, refl};
 ghost use Rattle.x509_der.specs.laws.Structure.{structure_lawful, structure_element};
 ghost use Rattle.x509_names_parts.specs.DirectoryStrings.{directory_parts, directory_base, directory_string};
-ghost use Rattle.x509_names_parts.specs.facts.DirectoryStrings.{directory_same, unicode_apart, printable_apart};
+ghost use Rattle.x509_names_parts.specs.facts.DirectoryStrings.{directory_of, directory_whole, directory_same, unicode_apart, printable_apart};
 
 use std::alloc::{Allocator, Global};
 use x509_der::parts::{
     BMP_STRING_TAG, Choice, Field, Output, PRINTABLE_STRING_TAG, Reader, Ref, Structure,
-    UTF8_STRING_TAG, read_fields,
+    UTF8_STRING_TAG, pass_fields, read_fields,
 };
 use x509_der::{CloneEq, FromDer, ReadError, SameEq, ToDer, TooLong};
 use x509_prim::{BmpStringAsn1, PrintableStringAsn1, Utf8String};
@@ -88,10 +88,16 @@ impl<A: Allocator> Structure<Fields<A>> for DirectoryString<A> {
     }
 
     ghost same = { directory_same };
+
+    ghost made = { λ f. (directory_of f, directory_whole _ f) };
 }
 
 impl<A: Allocator + Copy> Field<A> for DirectoryString<A> {
+    type Brief = ();
+
     ghost shape = { directory_string };
+
+    ghost brief = { λ v. tt };
 
     ghost lawful = { λ h. structure_lawful directory_parts directory_base directory_same
         (⟦<Fields<A> as Field<A>>⟧.lawful (
@@ -118,6 +124,10 @@ impl<A: Allocator + Copy> Field<A> for DirectoryString<A> {
 
     fn read(alloc: A, reader: &mut Reader<'_, A>) -> Result<Self, ReadError> {
         read_fields::<Self, Fields<A>, A>(alloc, reader)
+    }
+
+    fn pass(alloc: A, reader: &mut Reader<'_, A>) -> Result<(), ReadError> {
+        pass_fields::<Self, Fields<A>, A>(alloc, reader)
     }
 }
 

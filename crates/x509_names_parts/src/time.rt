@@ -3,11 +3,12 @@
 ghost use Rattle.std.specs.Prelude.{◌≡◌, refl};
 ghost use Rattle.x509_der.specs.laws.Structure.{structure_lawful, structure_element};
 ghost use Rattle.x509_names_parts.specs.Time.{time_parts, time_base, time as times};
-ghost use Rattle.x509_names_parts.specs.facts.Time.{time_same, times_apart};
+ghost use Rattle.x509_names_parts.specs.facts.Time.{time_of, time_whole, time_same, times_apart};
 
 use std::alloc::Allocator;
 use x509_der::parts::{
-    Choice, Field, GENERALIZED_TIME_TAG, Output, Reader, Ref, Structure, UTC_TIME_TAG, read_fields,
+    Choice, Field, GENERALIZED_TIME_TAG, Output, Reader, Ref, Structure, UTC_TIME_TAG, pass_fields,
+    read_fields,
 };
 use x509_der::{CloneEq, FromDer, ReadError, SameEq, ToDer, TooLong};
 use x509_prim::{GeneralizedTime, GeneralizedTimeAsn1, UTCTime, UtcTimeAsn1};
@@ -110,10 +111,16 @@ impl Structure<Forms> for Time {
     }
 
     ghost same = { time_same };
+
+    ghost made = { λ f. (time_of f, time_whole f) };
 }
 
 impl<A: Allocator + Copy> Field<A> for Time {
+    type Brief = ();
+
     ghost shape = { times };
+
+    ghost brief = { λ v. tt };
 
     ghost lawful = { λ h. structure_lawful time_parts time_base time_same
         (⟦<Forms as Field<A>>⟧.lawful ((tt, tt), ((tt, tt), times_apart))) };
@@ -136,6 +143,10 @@ impl<A: Allocator + Copy> Field<A> for Time {
 
     fn read(alloc: A, reader: &mut Reader<'_, A>) -> Result<Self, ReadError> {
         read_fields::<Self, Forms, A>(alloc, reader)
+    }
+
+    fn pass(alloc: A, reader: &mut Reader<'_, A>) -> Result<(), ReadError> {
+        pass_fields::<Self, Forms, A>(alloc, reader)
     }
 }
 

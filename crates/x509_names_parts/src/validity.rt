@@ -3,13 +3,13 @@
 ghost use Rattle.std.specs.Prelude.{◌≡◌, refl};
 ghost use Rattle.x509_der.specs.laws.Structure.{structure_lawful, structure_element};
 ghost use Rattle.x509_names_parts.specs.Validities.{validity_parts, validity_base, validity as validities};
-ghost use Rattle.x509_names_parts.specs.facts.Validities.{validity_same};
+ghost use Rattle.x509_names_parts.specs.facts.Validities.{validity_of, validity_same};
 
 use crate::time::Time;
 use std::alloc::Allocator;
 use x509_der::parts::{
-    Field, Join, One, Output, Reader, Ref, SEQUENCE_TAG, Sequence, Structure, Tagged, put_element,
-    read_sequence,
+    Field, Join, One, Output, Reader, Ref, SEQUENCE_TAG, Sequence, Structure, Tagged,
+    pass_sequence, put_element, read_sequence,
 };
 use x509_der::{CloneEq, FromDer, ReadError, SameEq, ToDer, TooLong};
 
@@ -68,10 +68,16 @@ impl Structure<Inner> for Validity {
     }
 
     ghost same = { validity_same };
+
+    ghost made = { λ f. (validity_of f, refl) };
 }
 
 impl<A: Allocator + Copy> Field<A> for Validity {
+    type Brief = ();
+
     ghost shape = { validities };
+
+    ghost brief = { λ v. tt };
 
     ghost lawful = { λ h. structure_lawful validity_parts validity_base validity_same
         (⟦<Tagged<Sequence, Inner> as Field<A>>⟧.lawful (tt, tt, λ c h. refl)) };
@@ -92,6 +98,10 @@ impl<A: Allocator + Copy> Field<A> for Validity {
 
     fn read(alloc: A, reader: &mut Reader<'_, A>) -> Result<Self, ReadError> {
         read_sequence::<Self, Inner, A>(alloc, reader)
+    }
+
+    fn pass(alloc: A, reader: &mut Reader<'_, A>) -> Result<(), ReadError> {
+        pass_sequence::<Self, Inner, A>(alloc, reader)
     }
 }
 

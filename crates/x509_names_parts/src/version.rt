@@ -97,7 +97,11 @@ impl<A: Allocator> View<u8, A> for Version {
 }
 
 impl<A: Allocator + Copy> Field<A> for Version {
+    type Brief = Version;
+
     ghost shape = { version };
+
+    ghost brief = { λ v. v };
 
     ghost lawful = { λ h. seen_lawful version_meaning version_base version_keeps };
 
@@ -113,6 +117,10 @@ impl<A: Allocator + Copy> Field<A> for Version {
     fn known(&self) {}
 
     fn read(alloc: A, reader: &mut Reader<'_, A>) -> Result<Self, ReadError> {
+        read_viewed::<Self, u8, A>(alloc, reader)
+    }
+
+    fn pass(alloc: A, reader: &mut Reader<'_, A>) -> Result<Version, ReadError> {
         read_viewed::<Self, u8, A>(alloc, reader)
     }
 }

@@ -65,7 +65,11 @@ impl<Y: Years> ToContent for TimeAsn1<Y> {
 }
 
 impl<Y: Years, A: Allocator + Copy> Content<A> for TimeAsn1<Y> {
+    type ContentBrief = ();
+
     ghost content_shape = { plain Y.says Y.text Y.allowed (Unit {0}) };
+
+    ghost content_brief = { λ t. tt };
 
     ghost content_lawful = { λ h. plain_lawful Y.says Y.text Y.allowed (Unit {0}) Y.plain };
 
@@ -82,6 +86,14 @@ impl<Y: Years, A: Allocator + Copy> Content<A> for TimeAsn1<Y> {
         };
         reader.pass_rest();
         Ok(TimeAsn1(Date::from_allowed(moment)))
+    }
+
+    fn pass_content(_alloc: A, reader: &mut Reader<'_, A>) -> Result<(), ReadError> {
+        let Some(_moment) = Y::moment_of(reader.rest()) else {
+            return Err(ReadError::BadTime);
+        };
+        reader.pass_rest();
+        Ok(())
     }
 }
 

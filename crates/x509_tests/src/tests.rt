@@ -5,6 +5,7 @@ mod attributes;
 mod callers;
 mod certificates;
 mod character_strings;
+mod checks;
 mod damages;
 mod elements;
 mod explained;

@@ -10,7 +10,7 @@ use Rattle.picky_asn1_x509.specs.Certificates.{SignatureFields, signature_fields
 use Rattle.picky_asn1_x509.specs.declared.certificate.Certificate.{Certificate}
 use Rattle.picky_asn1_x509.specs.facts.TbsCertificates.{tbs_agrees}
 
-abbrev certificate_from : {A : Type 0} → CertificateFields A → Certificate A
+abbrev pub certificate_from : {A : Type 0} → CertificateFields A → Certificate A
 certificate_from f = record { tbs_certificate = f.0; signature_algorithm = f.1.0; signature_value = f.1.1 }
 
 pub certificate_same : {A : Type 0} (v w : Certificate A) → certificate_parts v ≡ certificate_parts w → v ≡ w

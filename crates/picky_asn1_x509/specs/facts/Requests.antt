@@ -17,7 +17,7 @@ use Rattle.picky_asn1_x509.specs.facts.Certificates.{signature_agrees}
 pub request_attributes_agree : {A : Type 0} (list : List (Attribute A)) → request_attributes.strict list ≡ request_attributes_bytes list
 request_attributes_agree list = ap (element 160) (agree_items attribute attribute_bytes attribute_agrees list)
 
-abbrev info_from : {A : Type 0} → InfoFields A → CertificationRequestInfo A
+abbrev pub info_from : {A : Type 0} → InfoFields A → CertificationRequestInfo A
 info_from f = record { version = f.0; subject = f.1.0; subject_public_key_info = f.1.1.0; attributes = f.1.1.1 }
 
 pub info_same : {A : Type 0} (v w : CertificationRequestInfo A) → info_parts v ≡ info_parts w → v ≡ w
@@ -28,7 +28,7 @@ info_agrees v =
     ap (λ x. element 48 (element 2 (small_integer_content v.version) ++ x))
     (same_append (name_agrees v.subject) (same_append (subject_agrees v.subject_public_key_info) (request_attributes_agree v.attributes)))
 
-abbrev request_from : {A : Type 0} → RequestFields A → CertificationRequest A
+abbrev pub request_from : {A : Type 0} → RequestFields A → CertificationRequest A
 request_from f = record { certification_request_info = f.0; signature_algorithm = f.1.0; signature = f.1.1 }
 
 pub request_same : {A : Type 0} (v w : CertificationRequest A) → request_parts v ≡ request_parts w → v ≡ w

@@ -1,6 +1,6 @@
 //! The bytes of the first field of a SEQUENCE.
 
-ghost use Rattle.std.proofs.Common.{◌≡◌, ap};
+ghost use Rattle.std.proofs.Common.{◌≡◌, ap, refl};
 
 use super::Heap;
 use super::checks::{is_so, same, same_bytes};
@@ -33,6 +33,8 @@ impl<A: Allocator> Structure<Both<A>> for Pair<A> {
     }
 
     ghost same = { λ v w e. ap (λ f. record { first = f.0; second = f.1 }) e };
+
+    ghost made = { λ f. (record { first = f.0; second = f.1 }, refl) };
 }
 
 /// An encoding of the algorithms 1.2 and 1.3, where its first field ends, and how many deviations stand inside of the
@@ -188,6 +190,8 @@ impl<A: Allocator> Structure<WithFlag<A>> for Flagged<A> {
     }
 
     ghost same = { λ v w e. ap (λ f. record { algorithm = f.0; flag = f.1 }) e };
+
+    ghost made = { λ f. (record { algorithm = f.0; flag = f.1 }, refl) };
 }
 
 /// The flag that the bytes are read as, with the bytes of the algorithm in front of it.

@@ -1,10 +1,13 @@
 -- What the fields of an elliptic curve private key mean keeps the laws.
-use Rattle.std.proofs.Common.{◌≡◌, refl, ap, subst, ℕ, ◌≤◌, ◌||◌, eqb, true, false, List, [], length, Some, arith}
+use Rattle.std.proofs.Common.{◌≡◌, refl, ap, subst, ℕ, ◌≤◌, ◌||◌, eqb, Bool, true, false, List, [], ◌∷◌, length, Some, arith}
 use Rattle.std.proofs.lemmas.Bool.Decides.{nat_tests}
+use Rattle.std.specs.Prelude.{nat_le, nat_lt, ◌==◌, if◌then◌else◌}
+use Rattle.x509_der.specs.Integer.{magnitude, unsigned_value}
+use Rattle.x509_der.specs.declared.integer.Magnitude.TheVariants as magnitudes
 use Rattle.x509_der.specs.Types.{Deviation}
 use Rattle.x509_der.specs.laws.Meaning.{IsMeaning}
 use Rattle.x509_keys.specs.declared.ec_private_key.ECPrivateKey.{ECPrivateKey}
-use Rattle.x509_keys.specs.EcPrivateKeys.{EcFields, ec_key_parts, ec_key_of, ec_key_base, ec_key_inner, is_one, ec_key_means, ec_key_meaning}
+use Rattle.x509_keys.specs.EcPrivateKeys.{EcFields, ec_key_parts, ec_key_of, ec_key_base, ec_key_inner, is_one, is_byte_one, ec_key_means, ec_key_meaning}
 use Rattle.x509_keys.specs.facts.ReadIf.{was_read}
 
 -- the tag of a point is none that a curve begins with
@@ -27,3 +30,18 @@ ec_key_is {A} = record {
 -- and there is no deviation over the whole
 pub ec_key_one : {A : Type 0} (f : EcFields A) (v : ECPrivateKey A) (ks : List Deviation) → ec_key_means f ≡ Some (v, ks) → length ks ≤ 1
 ec_key_one f v ks e = omega (arith, ap length (means_ec_key f v ks e).1.1)
+
+one_byte : (s : Bool) (a : ℕ) → nat_le 128 a ≡ s → (a == 1) ≡ is_byte_one (if s then magnitudes.Negative else magnitudes.Byte a)
+one_byte true a e = grind (arith, nat_tests, e)
+one_byte false a e = refl
+
+more_bytes : (s t : Bool) → false ≡ is_byte_one (if s then magnitudes.Negative else if t then magnitudes.Small else magnitudes.Large)
+more_bytes true t = refl
+more_bytes false true = refl
+more_bytes false false = refl
+
+-- the version is 1 as its magnitude says
+pub one_by_magnitude : (c : List ℕ) → is_one c ≡ is_byte_one (magnitude c)
+one_by_magnitude [] = refl
+one_by_magnitude (a ∷ []) = one_byte (nat_le 128 a) a refl
+one_by_magnitude (a ∷ b ∷ r) = more_bytes (nat_le 128 a) (nat_lt (unsigned_value (a ∷ b ∷ r)) 18446744073709551616)

@@ -8,7 +8,7 @@ use Rattle.x509_keys.specs.declared.rsa_public_key.RsaPublicKey.{RsaPublicKey}
 use Rattle.x509_keys.specs.KeyPlaces.{RsaNumbersAt}
 use Rattle.x509_keys.specs.PublicKeys.{public_by_kind}
 use Rattle.x509_keys.specs.RsaPublicKeys.{number}
-use Rattle.x509_keys.specs.declared.key_kind.KeyKind.TheVariants as kinds
+use Rattle.x509_keys_parts.specs.declared.key_kind.KeyKind.TheVariants as kinds
 use Rattle.x509_keys.specs.declared.public_key.PublicKey.TheVariants as key
 
 abbrev rsa_or : {A : Type 0} → RsaPublicKey A → PublicKey A → RsaPublicKey A

@@ -1,6 +1,8 @@
 -- What the fields of a private key info mean keeps the laws.
 use Rattle.std.specs.Prelude.{◌&&◌, ◌++◌}
-use Rattle.std.proofs.Common.{◌≡◌, ◌∙◌, refl, ap, ℕ, ◌≤◌, ◌||◌, eqb, true, false, List, [], length, Option, Some, None, arith}
+use Rattle.std.proofs.Common.{◌≡◌, ◌∙◌, refl, ap, ℕ, ◌≤◌, ◌||◌, eqb, true, false, List, [], ◌∷◌, length, Option, Some, None, arith}
+use Rattle.x509_der.specs.Types.deviation
+use Rattle.x509_der.specs.Optional.{brief_if}
 use Rattle.x509_der.specs.Types.{Deviation}
 use Rattle.x509_der.specs.Element.{element, is_tag}
 use Rattle.x509_der.specs.SmallInteger.{small_integer_content}
@@ -11,7 +13,7 @@ use Rattle.x509_der.specs.facts.Lists.{same_append}
 use Rattle.x509_keys_parts.specs.AlgorithmIdentifier.{written_fields}
 use Rattle.x509_keys_parts.specs.facts.AlgorithmIdentifier.{algorithm_agrees}
 use Rattle.x509_keys.specs.declared.private_key_info.PrivateKeyInfo.{PrivateKeyInfo}
-use Rattle.x509_keys.specs.KeyKinds.{key_kind}
+use Rattle.x509_keys_parts.specs.KeyKinds.{key_kind}
 use Rattle.x509_keys.specs.PrivateKeyInfos.{InfoFields, info_public_key, info_base, info_of, info_back, is_version, is_skipped, skipped_kinds, info_means, info_meaning, info_bytes, private_key_info}
 use Rattle.x509_keys.specs.facts.PrivateKeyValues.{private_agrees}
 use Rattle.x509_keys.specs.facts.ReadIf.{was_read}
@@ -23,6 +25,15 @@ public_key_apart c h = byte_apart 161 (λ x. false || (is_tag x && is_skipped x)
 none_skipped : (o : Option (List ℕ)) → skipped_kinds o ≡ [] → o ≡ None
 none_skipped None e = refl
 none_skipped (Some x) e = cc
+
+-- what is kept of an element that is skipped tells its deviation
+pub skipped_there : (o : Option (List ℕ)) → brief_if {B = Unit {0}} (λ e. tt) o ≡ Some tt → skipped_kinds o ≡ deviation.SkippedKeyElement ∷ []
+skipped_there None e = cc
+skipped_there (Some x) e = refl
+
+pub nothing_skipped : (o : Option (List ℕ)) → brief_if {B = Unit {0}} (λ e. tt) o ≡ None → skipped_kinds o ≡ []
+nothing_skipped None e = refl
+nothing_skipped (Some x) e = cc
 
 few_skipped : (o : Option (List ℕ)) → length (skipped_kinds o) ≤ 1
 few_skipped None = omega arith

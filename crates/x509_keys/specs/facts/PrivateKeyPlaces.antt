@@ -17,7 +17,7 @@ use Rattle.x509_keys.specs.PrivateKeyValues.{private_by_kind}
 use Rattle.x509_keys.specs.RsaPrivateKeys.{Number, number_and, rsa_private_key}
 use Rattle.x509_keys.specs.RsaPublicKeys.{number, rsa_public_key}
 use Rattle.x509_keys.specs.facts.EcPrivateKeys.{means_ec_key}
-use Rattle.x509_keys.specs.declared.key_kind.KeyKind.TheVariants as kinds
+use Rattle.x509_keys_parts.specs.declared.key_kind.KeyKind.TheVariants as kinds
 use Rattle.x509_keys.specs.declared.private_key_value.PrivateKeyValue.TheVariants as key
 
 abbrev rsa_or : {A : Type 0} → RsaPrivateKey A → PrivateKeyValue A → RsaPrivateKey A

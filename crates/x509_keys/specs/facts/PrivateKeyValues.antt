@@ -1,6 +1,6 @@
 -- The private keys of each kind of algorithm keep the laws.
 use Rattle.std.proofs.Common.{◌≡◌, refl, ℕ, true, false, eqb, lit<}
-use Rattle.x509_keys.specs.declared.key_kind.KeyKind.{KeyKind}
+use Rattle.x509_keys_parts.specs.declared.key_kind.KeyKind.{KeyKind}
 use Rattle.x509_keys.specs.declared.private_key_value.PrivateKeyValue.{PrivateKeyValue}
 use Rattle.x509_keys_parts.specs.AlgorithmIdentifier.{Algorithm}
 use Rattle.x509_der.specs.Element.{IsRaw}
@@ -10,11 +10,11 @@ use Rattle.x509_der.specs.Tagged.{tagged}
 use Rattle.x509_der.specs.PrimitiveContent.{octets}
 use Rattle.x509_der.specs.laws.Tagged.{tagged_element}
 use Rattle.x509_der.specs.laws.Variant.{variant_lawful, no_variant_lawful, IsVariant}
-use Rattle.x509_keys.specs.KeyKinds.{key_kind}
+use Rattle.x509_keys_parts.specs.KeyKinds.{key_kind}
 use Rattle.x509_keys.specs.RsaPrivateKeys.{rsa_private_key}
 use Rattle.x509_keys.specs.EcPrivateKeys.{ec_private_key}
 use Rattle.x509_keys.specs.PrivateKeyValues.{rsa_octets, ec_octets, ed_octets, private_key_bytes, IsPrivateKey, private_by_kind}
-use Rattle.x509_keys.specs.declared.key_kind.KeyKind.TheVariants as kinds
+use Rattle.x509_keys_parts.specs.declared.key_kind.KeyKind.TheVariants as kinds
 use Rattle.x509_keys.specs.declared.private_key_value.PrivateKeyValue.TheVariants as key
 
 rsa_keys : {A : Type 0} → IsVariant {V = PrivateKeyValue A} key.Rsa private_key_bytes IsPrivateKey rsa_octets

@@ -1,14 +1,14 @@
 -- The public keys of each kind of algorithm keep the laws.
 use Rattle.std.proofs.Common.{◌≡◌, refl, ℕ, true, false, eqb}
-use Rattle.x509_keys.specs.declared.key_kind.KeyKind.{KeyKind}
+use Rattle.x509_keys_parts.specs.declared.key_kind.KeyKind.{KeyKind}
 use Rattle.x509_keys.specs.declared.public_key.PublicKey.{PublicKey}
 use Rattle.x509_keys_parts.specs.AlgorithmIdentifier.{Algorithm}
 use Rattle.x509_der.specs.Shape.{Lawful}
 use Rattle.x509_der.specs.DefinedBy.{IsFamily}
 use Rattle.x509_der.specs.laws.Variant.{variant_lawful, no_variant_lawful, IsVariant}
-use Rattle.x509_keys.specs.KeyKinds.{key_kind}
+use Rattle.x509_keys_parts.specs.KeyKinds.{key_kind}
 use Rattle.x509_keys.specs.PublicKeys.{rsa_bits, key_bits, public_key_bytes, IsPublicKey, public_by_kind}
-use Rattle.x509_keys.specs.declared.key_kind.KeyKind.TheVariants as kinds
+use Rattle.x509_keys_parts.specs.declared.key_kind.KeyKind.TheVariants as kinds
 use Rattle.x509_keys.specs.declared.public_key.PublicKey.TheVariants as key
 
 rsa_keys : {A : Type 0} → IsVariant {V = PublicKey A} key.Rsa public_key_bytes IsPublicKey rsa_bits

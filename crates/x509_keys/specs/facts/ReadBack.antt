@@ -7,7 +7,7 @@ use Rattle.x509_keys_parts.specs.AlgorithmIdentifier.{algorithm_identifier}
 use Rattle.x509_keys.specs.declared.ec_private_key.ECPrivateKey.{ECPrivateKey}
 use Rattle.x509_keys.specs.declared.private_key_info.PrivateKeyInfo.{PrivateKeyInfo}
 use Rattle.x509_keys.specs.EcPrivateKeys.{is_one, ec_curve, ec_point, ec_private_key}
-use Rattle.x509_keys.specs.KeyKinds.{rsa_encryption, key_kind}
+use Rattle.x509_keys_parts.specs.KeyKinds.{rsa_encryption, key_kind}
 use Rattle.x509_keys.specs.PrivateKeyInfos.{is_version, info_public_key, private_key_info}
 use Rattle.x509_keys.specs.PrivateKeyValues.{private_by_kind}
 use Rattle.x509_keys.specs.SubjectPublicKeyInfos.{subject_public_key_info, ed_subject}

@@ -3,7 +3,7 @@ use Rattle.std.proofs.Common.{◌≡◌, ap}
 use Rattle.x509_keys.specs.declared.rsa_private_key.RsaPrivateKey.{RsaPrivateKey}
 use Rattle.x509_keys.specs.RsaPrivateKeys.{PrivateFields, private_parts}
 
-abbrev private_key_of : {A : Type 0} → PrivateFields → RsaPrivateKey A
+abbrev pub private_key_of : {A : Type 0} → PrivateFields → RsaPrivateKey A
 private_key_of f = record {
   version = f.0;
   modulus = f.1.0;

@@ -5,7 +5,7 @@ use Rattle.x509_der.specs.Element.{element}
 use Rattle.x509_der.specs.facts.Lists.{same_append}
 use Rattle.x509_keys_parts.specs.AlgorithmIdentifier.{written_fields}
 use Rattle.x509_keys_parts.specs.facts.AlgorithmIdentifier.{algorithm_agrees}
-use Rattle.x509_keys.specs.KeyKinds.{key_kind}
+use Rattle.x509_keys_parts.specs.KeyKinds.{key_kind}
 use Rattle.x509_keys.specs.SubjectPublicKeyInfos.{SubjectFields, subject_parts, subject_public_key_info, subject_bytes}
 use Rattle.x509_keys.specs.facts.PublicKeys.{public_agrees}
 

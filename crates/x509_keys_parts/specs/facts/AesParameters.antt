@@ -17,6 +17,11 @@ aes_made Null = refl
 aes_made (InitializationVector v) = refl
 aes_made (AuthenticatedEncryptionParameters v) = refl
 
+pub aes_whole : (A : Type 0) (f : Fields) → aes_parts (aes_of {A = A} f) ≡ f
+aes_whole A (First v) = refl
+aes_whole A (Second (First v)) = refl
+aes_whole A (Second (Second v)) = refl
+
 pub aes_same : {A : Type 0} (v w : AesParameters A) → aes_parts v ≡ aes_parts w → v ≡ w
 aes_same = same_one aes_parts aes_of aes_made
 

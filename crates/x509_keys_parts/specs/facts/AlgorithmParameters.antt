@@ -3,6 +3,9 @@ use Rattle.std.proofs.Common.{◌≡◌, refl, ℕ, Bool, true, false, ◌||◌,
 use Rattle.x509_keys_parts.specs.declared.aes.AesParameters.{AesParameters}
 use Rattle.x509_keys_parts.specs.declared.algorithm_parameters.AlgorithmIdentifierParameters.{AlgorithmIdentifierParameters}
 use Rattle.x509_keys_parts.specs.declared.algorithm_parameters.AlgorithmKind.{AlgorithmKind}
+use Rattle.std.specs.Option.{is_none}
+use Rattle.x509_der.specs.Optional.{brief_if}
+use Rattle.x509_keys_parts.specs.AlgorithmIdentifier.{are_absent}
 use Rattle.x509_der.specs.Shape.{Lawful}
 use Rattle.x509_der.specs.Optional.{optional}
 use Rattle.x509_der.specs.DefinedBy.{IsFamily}
@@ -109,3 +112,12 @@ parameters_valid kinds.Bare v h = h
 parameters_valid kinds.Aes v h = h
 parameters_valid kinds.Hash v h = h
 parameters_valid kinds.Unknown v h = h
+
+-- what is said of parameters by whether they are there
+pub null_absent : (A : Type 0) (u b : Option (Unit {0})) → brief_if (λ v. v) u ≡ b → are_absent (if_null {A = A} u) ≡ is_none b
+null_absent A None b e = rw (← e) refl
+null_absent A (Some v) b e = rw (← e) refl
+
+pub aes_absent : {A : Type 0} (u : Option (AesParameters A)) (b : Option (Unit {0})) → brief_if (λ v. tt) u ≡ b → are_absent (if_aes u) ≡ is_none b
+aes_absent None b e = rw (← e) refl
+aes_absent (Some v) b e = rw (← e) refl

@@ -6,7 +6,7 @@ use Rattle.x509_keys_parts.specs.facts.AlgorithmIdentifier.{algorithm_agrees}
 use Rattle.x509_keys_parts.specs.DigestInfos.{DigestFields, digest_info_parts, digest_info_inner, digest_info_bytes}
 use Rattle.x509_keys_parts.specs.declared.digest_info.DigestInfo.{DigestInfo}
 
-abbrev digest_info_of : {A : Type 0} → DigestFields A → DigestInfo A
+abbrev pub digest_info_of : {A : Type 0} → DigestFields A → DigestInfo A
 digest_info_of f = record { oid = f.0; digest = f.1 }
 
 pub digest_info_same : {A : Type 0} (v w : DigestInfo A) → digest_info_parts v ≡ digest_info_parts w → v ≡ w

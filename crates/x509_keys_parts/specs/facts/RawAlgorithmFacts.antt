@@ -8,7 +8,8 @@ use Rattle.x509_der.specs.reads.PrimitiveContent.{raw_accepts}
 use Rattle.x509_der.specs.reads.View.{viewed_accepts}
 use Rattle.x509_der.specs.facts.Lists.{same_pair}
 use Rattle.x509_der.specs.Element.{AreBytes, element, digits}
-use Rattle.x509_der.specs.Optional.{optional}
+use Rattle.x509_der.specs.Types.deviation
+use Rattle.x509_der.specs.Optional.{optional, brief_if}
 use Rattle.x509_der.specs.RawElement.{IsRawBytes, raws}
 use Rattle.x509_der.specs.laws.View.{some_one}
 use Rattle.x509_der.specs.laws.RawElement.{raws_lawful, raws_element, raws_inner}
@@ -132,3 +133,12 @@ raw_algorithm_means = record {
 -- at most one deviation
 pub one_kind : (b : Fields) (v : RawAlgorithm) (ks : List Deviation) → meaning b ≡ Some (v, ks) → length ks ≤ 1
 one_kind b v ks e = omega (arith, few_kinds b.1, ap length (some_one (of_fields b) v (kinds_of b.1) ks e).1)
+
+-- what is said of parameters by whether they are there
+pub raw_there : (o : Option (Option (List ℕ))) → brief_if {V = Option (List ℕ)} (λ p. tt {0}) o ≡ Some (tt {0}) → kinds_of o ≡ []
+raw_there None e = absurd cc
+raw_there (Some p) e = refl
+
+pub raw_absent : (o : Option (Option (List ℕ))) → brief_if {V = Option (List ℕ)} (λ p. tt {0}) o ≡ None → kinds_of o ≡ deviation.RawParametersAbsent ∷ []
+raw_absent None e = refl
+raw_absent (Some p) e = absurd cc

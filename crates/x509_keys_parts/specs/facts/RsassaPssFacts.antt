@@ -1,22 +1,23 @@
 -- What the fields of RSASSA-PSS parameters mean keeps the laws.
-use Rattle.std.proofs.Common.{◌≡◌, ℕ, ◌<◌, ◌≤◌, ◌^◌, Bool, true, false, cond, List, [], ◌∷◌, length, Option, Some, None, ⊎_elim, refl, sym, ap, subst, ◌∙◌, arith}
-use Rattle.std.specs.Prelude.{pos, nat_lt, nat_le, nat_abs}
+use Rattle.std.proofs.Common.{◌≡◌, ℕ, ◌+◌, ◌*◌, ◌<◌, ◌≤◌, ◌^◌, Bool, true, false, cond, List, [], ◌∷◌, length, Option, Some, None, ⊎_elim, refl, sym, ap, subst, ◌∙◌, arith}
+use Rattle.std.specs.Prelude.{pos, nat_lt, nat_le, nat_abs, if◌then◌else◌}
+use Rattle.x509_der.specs.declared.integer.Magnitude.TheVariants as magnitudes
 use Rattle.std.proofs.lemmas.Bool.Decides.{nat_tests}
 use Rattle.std.proofs.lemmas.Bool.{cases_lt}
 use Rattle.x509_der.specs.Types.{Deviation}
 use Rattle.x509_der.specs.Types.deviation
 use Rattle.x509_der.specs.Element.{base}
-use Rattle.x509_der.specs.Integer.{sign_bit, signed_value, unsigned_value, unsigned_content, natural_content, integers}
+use Rattle.x509_der.specs.Integer.{magnitude, sign_bit, signed_value, unsigned_value, unsigned_content, natural_content, integers}
 use Rattle.x509_der.specs.facts.Integer.{signed_value-low}
 use Rattle.x509_der.specs.facts.NaturalNumber.{natural_minimal, natural_bytes, natural_value, natural_read}
 use Rattle.x509_der.specs.facts.Lists.{same_pair}
 use Rattle.x509_der.specs.laws.View.{some_one}
 use Rattle.x509_der.specs.laws.Meaning.{IsMeaning}
-use Rattle.x509_keys_parts.specs.RsassaPss.{MaskGenFields, mask_gen_parts, mask_gen, PssFields, pss_inner, pss_base, salt_of, with_salt, pss_means, pss_fields, IsPss, pss_meaning}
+use Rattle.x509_keys_parts.specs.RsassaPss.{MaskGenFields, mask_gen_parts, mask_gen, PssFields, pss_inner, pss_base, salt_of, salt_kinds, with_salt, pss_means, pss_fields, IsPss, pss_meaning}
 use Rattle.x509_keys_parts.specs.declared.rsassa_pss.MaskGenAlgorithm.{MaskGenAlgorithm}
 use Rattle.x509_keys_parts.specs.declared.rsassa_pss.RsassaPssParams.{RsassaPssParams}
 
-abbrev mask_gen_of : {A : Type 0} → MaskGenFields → MaskGenAlgorithm A
+abbrev pub mask_gen_of : {A : Type 0} → MaskGenFields → MaskGenAlgorithm A
 mask_gen_of f = record { mask_gen_algorithm = f.0; hash_algorithm = f.1 }
 
 pub mask_gen_same : {A : Type 0} (v w : MaskGenAlgorithm A) → mask_gen_parts v ≡ mask_gen_parts w → v ≡ w
@@ -129,3 +130,42 @@ pss_is {A} = record {
 
 pub pss_one : {A : Type 0} (b : PssFields A) (v : RsassaPssParams A) (ks : List Deviation) → pss_means b ≡ Some (v, ks) → length ks ≤ 1
 pss_one b v ks e = (salt_says b.1.1 v.salt_length ks (pss_says b v ks e).salt).few
+
+abbrev after : ℕ → Option (List Deviation) → Option (ℕ × List Deviation)
+after n None = None
+after n (Some ks) = Some (n, ks)
+
+byte_test : (a : ℕ) → nat_le 128 a ≡ false → nat_lt (a * 256 ^ 0 + 0) 18446744073709551616 ≡ true
+byte_test a h = grind (arith, nat_tests)
+
+abbrev salt_if : Bool → Bool → ℕ → Option (ℕ × List Deviation)
+salt_if s t n = if◌then◌else◌ {A = Option (ℕ × List Deviation)} s None (if◌then◌else◌ {A = Option (ℕ × List Deviation)} t (Some (n, [])) (Some (18446744073709551615, deviation.SaltTooLarge ∷ [])))
+
+salt_by : (s t : Bool) (n : ℕ) (ks : List Deviation) → salt_kinds (if s then magnitudes.Negative else if t then magnitudes.Small else magnitudes.Large) ≡ Some ks → (m : ℕ) × (salt_if s t n ≡ Some (m, ks))
+salt_by true t n ks e = absurd cc
+salt_by false true n ks e = (n, ap (λ (o : Option (List Deviation)). after n o) e)
+salt_by false false n ks e = (18446744073709551615, ap (λ (o : Option (List Deviation)). after 18446744073709551615 o) e)
+
+no_salt_by : (s t : Bool) (n : ℕ) → salt_kinds (if s then magnitudes.Negative else if t then magnitudes.Small else magnitudes.Large) ≡ None → salt_if s t n ≡ None
+no_salt_by true t n e = refl
+no_salt_by false true n e = absurd cc
+no_salt_by false false n e = absurd cc
+
+salt_byte : (s t : Bool) (a n : ℕ) (ks : List Deviation) → (s ≡ false → t ≡ true) → salt_kinds (if s then magnitudes.Negative else magnitudes.Byte a) ≡ Some ks → (m : ℕ) × (salt_if s t n ≡ Some (m, ks))
+salt_byte true t a n ks w e = absurd cc
+salt_byte false t a n ks w e = (n, rw (w refl) (ap (λ (o : Option (List Deviation)). after n o) e))
+
+no_salt_byte : (s t : Bool) (a n : ℕ) → salt_kinds (if s then magnitudes.Negative else magnitudes.Byte a) ≡ None → salt_if s t n ≡ None
+no_salt_byte true t a n e = refl
+no_salt_byte false t a n e = absurd cc
+
+-- what is said of the salt's length by how large it is
+pub salt_judged : (c : List ℕ) (ks : List Deviation) → salt_kinds (magnitude c) ≡ Some ks → (n : ℕ) × (salt_of c ≡ Some (n, ks))
+salt_judged [] ks e = (0, ap (λ (o : Option (List Deviation)). after 0 o) e)
+salt_judged (a ∷ []) ks e = salt_byte (nat_le 128 a) (nat_lt (a * 256 ^ 0 + 0) 18446744073709551616) a (a * 256 ^ 0 + 0) ks (byte_test a) e
+salt_judged (a ∷ b ∷ r) ks e = salt_by (nat_le 128 a) (nat_lt (unsigned_value (a ∷ b ∷ r)) 18446744073709551616) (unsigned_value (a ∷ b ∷ r)) ks e
+
+pub salt_not_judged : (c : List ℕ) → salt_kinds (magnitude c) ≡ None → salt_of c ≡ None
+salt_not_judged [] e = absurd cc
+salt_not_judged (a ∷ []) e = no_salt_byte (nat_le 128 a) (nat_lt (a * 256 ^ 0 + 0) 18446744073709551616) a (a * 256 ^ 0 + 0) e
+salt_not_judged (a ∷ b ∷ r) e = no_salt_by (nat_le 128 a) (nat_lt (unsigned_value (a ∷ b ∷ r)) 18446744073709551616) (unsigned_value (a ∷ b ∷ r)) e

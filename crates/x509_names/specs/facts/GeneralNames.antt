@@ -5,6 +5,8 @@ use Rattle.x509_der.specs.Types.choice.{First, Second}
 use Rattle.x509_der.specs.Types.deviation
 use Rattle.x509_names.specs.declared.general_name.GeneralName.{GeneralName}
 use Rattle.x509_names.specs.declared.general_name.GeneralName.TheVariants as form
+use Rattle.std.proofs.Common.{true, false}
+use Rattle.x509_der.specs.Choice.{is_first}
 use Rattle.x509_der.specs.Shape.{Lawful, IsElement}
 use Rattle.x509_der.specs.Tagged.{tagged}
 use Rattle.x509_der.specs.laws.Tagged.{tagged_lawful}
@@ -143,3 +145,12 @@ general_lawful l = seen_lawful general_meaning general_base (general_keeps l)
 
 pub general_element : {A : Type 0} → ContentsLawful A → IsElement (general_name {A = A})
 general_element l = seen_element general_meaning general_base (general_alternatives l).element general_is
+
+-- which form was gone past says the deviation
+pub general_first : {A : Type 0} (f : Choice (Strict A) (Loose A)) → is_first f ≡ true → (v : GeneralName A) × (general_means f ≡ Some (v, []))
+general_first (First b) e = (strict_name b, refl)
+general_first (Second b) e = absurd cc
+
+pub general_second : {A : Type 0} (f : Choice (Strict A) (Loose A)) → is_first f ≡ false → (v : GeneralName A) × (general_means f ≡ Some (v, deviation.GeneralNameForm ∷ []))
+general_second (First b) e = absurd cc
+general_second (Second b) e = (loose_name b, refl)

@@ -21,6 +21,11 @@ directory_made (BmpString v) = refl
 pub directory_same : {A : Type 0} (v w : DirectoryString A) → directory_parts v ≡ directory_parts w → v ≡ w
 directory_same = same_one directory_parts directory_of directory_made
 
+pub directory_whole : (A : Type 0) (f : Choice Text (Choice Text Text)) → directory_parts (directory_of {A = A} f) ≡ f
+directory_whole A (First v) = refl
+directory_whole A (Second (First v)) = refl
+directory_whole A (Second (Second v)) = refl
+
 pub unicode_apart : (c : ℕ) → eqb c 12 ≡ true → eqb c 30 ≡ false
 unicode_apart c h = grind (arith, nat_tests)
 

@@ -17,6 +17,10 @@ time_made : (v : Time) → time_of (time_parts v) ≡ v
 time_made (Utc t) = refl
 time_made (Generalized t) = refl
 
+pub time_whole : (f : Choice Moment Moment) → time_parts (time_of f) ≡ f
+time_whole (First t) = refl
+time_whole (Second t) = refl
+
 pub time_same : (v w : Time) → time_parts v ≡ time_parts w → v ≡ w
 time_same = same_one time_parts time_of time_made
 

@@ -17,7 +17,7 @@ use std::process::Abort;
 use x509_der::laws::fields;
 use x509_der::parts::{
     ContextConstructed, ContextPrimitive, Field, Join, One, Optional, Output, Reader, Ref,
-    SEQUENCE_TAG, Sequence, Structure, Tagged, known_there, read_fields,
+    SEQUENCE_TAG, Sequence, Structure, Tagged, known_there, pass_fields, read_fields,
 };
 use x509_der::{FromDer, OctetStringAsn1, ReadError, ToDer, TooLong};
 use x509_prim::{
@@ -96,9 +96,15 @@ impl<A: Allocator> Structure<OwnedOptions<A>> for Options<A> {
     }
 
     ghost same = { λ v w e. e };
+
+    ghost made = { λ f. (f, refl) };
 }
 
 impl<A: Allocator + Copy> Field<A> for Options<A> {
+    type Brief = ();
+
+    ghost brief = { λ v. tt };
+
     ghost shape = { structure (λ v. v) options };
 
     ghost lawful = { λ h. structure_lawful (λ v. v) options (λ v w e. e)
@@ -121,6 +127,10 @@ impl<A: Allocator + Copy> Field<A> for Options<A> {
 
     fn read(alloc: A, reader: &mut Reader<'_, A>) -> Result<Self, ReadError> {
         read_fields::<Self, OwnedOptions<A>, A>(alloc, reader)
+    }
+
+    fn pass(alloc: A, reader: &mut Reader<'_, A>) -> Result<(), ReadError> {
+        pass_fields::<Self, OwnedOptions<A>, A>(alloc, reader)
     }
 }
 
@@ -308,9 +318,15 @@ impl<A: Allocator> Structure<OwnedLetter<A>> for Letter<A> {
     }
 
     ghost same = { λ v w e. e };
+
+    ghost made = { λ f. (f, refl) };
 }
 
 impl<A: Allocator + Copy> Field<A> for Letter<A> {
+    type Brief = ();
+
+    ghost brief = { λ v. tt };
+
     ghost shape = { structure (λ v. v) letter };
 
     ghost lawful = { λ h. structure_lawful (λ v. v) letter (λ v w e. e)
@@ -341,6 +357,10 @@ impl<A: Allocator + Copy> Field<A> for Letter<A> {
 
     fn read(alloc: A, reader: &mut Reader<'_, A>) -> Result<Self, ReadError> {
         read_fields::<Self, OwnedLetter<A>, A>(alloc, reader)
+    }
+
+    fn pass(alloc: A, reader: &mut Reader<'_, A>) -> Result<(), ReadError> {
+        pass_fields::<Self, OwnedLetter<A>, A>(alloc, reader)
     }
 }
 

@@ -1,6 +1,7 @@
 //! What every row goes through: all calls, with each request for memory refused in turn; the cuts at each byte; each
 //! byte raised and lowered by one; and an element of each universal tag in the place of each field.
 
+use super::checks::checks_as_read;
 use super::fields::{Field, SAMPLES, replaced};
 use refusing::{Refusing, Turn, in_turn};
 use std::alloc::{AllocError, Allocator, Global};
@@ -135,6 +136,7 @@ fn reads<A: Heap, T: FromDer<A>>(rt: &impl Abort, heap: A, input: &[u8], row: &R
     counts(rt, deviations, row);
     meters::<A, T>(rt, heap, input, row, deviations);
     locates::<A, T>(rt, heap, input, row);
+    checks_as_read::<A, T>(rt, heap, input);
 }
 
 /// The counts are those of the row's places.
@@ -428,6 +430,7 @@ pub(super) fn refuses<A: Heap, T: FromDer<A>>(rt: &impl Abort, heap: A, input: &
         headers_of::<A, T>(heap, input) <= input.len() / 2 + 1,
         "{input:?}"
     );
+    checks_as_read::<A, T>(rt, heap, input);
 }
 
 /// How many headers a read shows that should be refused.
@@ -475,6 +478,7 @@ fn keeps_laws<A: Heap, T: FromDer<A>>(rt: &impl Abort, heap: A, bytes: &[u8]) {
     };
     assert!(rt; is_lawful, "{bytes:?}");
     assert!(rt; headers <= bytes.len() / 2 + 1);
+    checks_as_read::<A, T>(rt, heap, bytes);
 }
 
 /// Other elements in the place of each field are treated as is said.

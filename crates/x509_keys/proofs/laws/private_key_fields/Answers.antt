@@ -2,7 +2,7 @@ use Rattle.std.proofs.Common.{◌++◌, ◌+◌, length, ap, ◌∙◌, subst}
 use Rattle.x509_der.specs.Element.{header}
 use Rattle.x509_der.specs.Optional.{OptionalAt}
 use Rattle.x509_der.specs.facts.ElementPlaces.{content_first}
-use Rattle.x509_keys.specs.KeyKinds.{key_kind}
+use Rattle.x509_keys_parts.specs.KeyKinds.{key_kind}
 use Rattle.x509_keys.specs.KeyPlaces.{InfoAt}
 use Rattle.x509_keys.specs.PrivateKeyInfos.{info_inner, skipped, info_public_key}
 use Rattle.x509_keys.specs.facts.PrivateKeyInfos.{means_info}

@@ -3,4 +3,4 @@ use Rattle.x509_keys_parts.proofs.algorithm_parameters.is_rsa_algorithm.Goals as
 
 pub returns : goal.returns
 unfolding numbers_from
-returns g c = c.is_among.ensures
+returns c = c.is_among.ensures

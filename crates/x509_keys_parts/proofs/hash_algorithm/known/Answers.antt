@@ -6,6 +6,6 @@ use Rattle.x509_keys_parts.specs.declared.hash_algorithm.HashAlgorithm.TheVarian
 use Rattle.x509_keys_parts.proofs.hash_algorithm.known.Goals as goal
 
 pub loop-hash-preserved : goal.loop-hash-preserved
-loop-hash-preserved g c =
+loop-hash-preserved c =
     let missed = named_next hash_arcs hashes c.loop-hash.hash-index hash.SHA224 c.args.identifier.now c.loop-hash-test.true (other_arcs _ _ _ _ c.is_content.ensures c.if-is_content.false c.content.ensures) in
     sym missed ∙ c.loop-hash.invariant

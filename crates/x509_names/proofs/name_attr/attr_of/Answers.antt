@@ -6,6 +6,6 @@ use Rattle.x509_names.specs.declared.name_attr.NameAttr.TheVariants as attr
 use Rattle.x509_names.proofs.name_attr.attr_of.Goals as goal
 
 pub loop-attr-preserved : goal.loop-attr-preserved
-loop-attr-preserved g c =
+loop-attr-preserved c =
     let missed = named_next arcs_of attrs c.loop-attr.attr-index attr.CommonName c.args.identifier.now c.loop-attr-test.true (λ e. c.if-is_content.ensures ∙ (bytes_decides _ _).1 (e ∙ sym c.last_arc.ensures.content)) in
     sym missed ∙ c.loop-attr.invariant

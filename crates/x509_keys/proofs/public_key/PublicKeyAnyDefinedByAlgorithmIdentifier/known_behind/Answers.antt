@@ -1,4 +1,4 @@
-use Rattle.x509_keys.specs.KeyKinds.{key_kind}
+use Rattle.x509_keys_parts.specs.KeyKinds.{key_kind}
 use Rattle.x509_keys.specs.facts.PublicKeys.{public_valid}
 use Rattle.x509_keys.proofs.public_key.PublicKeyAnyDefinedByAlgorithmIdentifier.known_behind.Goals as goal
 

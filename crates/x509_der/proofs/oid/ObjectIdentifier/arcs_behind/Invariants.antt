@@ -1,5 +1,0 @@
-use Rattle.std.proofs.Common.{◌≡◌, ◌++◌, take}
-use Rattle.x509_der.proofs.oid.ObjectIdentifier.arcs_behind.Given as goal
-
-abbrev pub invariant-loop-arc : goal.invariant-loop-arc
-invariant-loop-arc g l = l.self ≡ take l.arc-index l.front ++ l.own

@@ -1,5 +1,0 @@
-use Rattle.x509_der.specs.facts.OidContent.{content_test}
-use Rattle.x509_der.proofs.oid.ObjectIdentifier.is_content.Goals as goal
-
-pub returns : goal.returns
-returns g c = rw (c.eq.ensures, c.content.ensures.content) (content_test c.args.self.now c.args.content.now c.content.ensures.lawful)

@@ -1,6 +1,0 @@
-use Rattle.x509_der.specs.ObjectIdentifier.{numbers_from}
-use Rattle.x509_keys.proofs.key_kind.is_ed_algorithm.Goals as goal
-
-pub returns : goal.returns
-unfolding numbers_from
-returns g c = c.is_among.ensures

@@ -1,8 +1,0 @@
-use Rattle.std.proofs.Common.{rules}
-use Rattle.x509_keys.proofs.key_kind.key_kind.Goals as goal
-
-pub returns-then-is_ed_algorithm : goal.returns-then-is_ed_algorithm
-returns-then-is_ed_algorithm g c = search (rules)
-
-pub returns-else-is_mldsa_algorithm : goal.returns-else-is_mldsa_algorithm
-returns-else-is_mldsa_algorithm g c = search (rules)
