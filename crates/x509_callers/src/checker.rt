@@ -2,14 +2,38 @@
 
 ghost use Rattle.std.specs.Prelude.{◌≡◌, IfOk, IfErr, sum};
 ghost use Rattle.std.specs.Bool.{Decides};
-ghost use Rattle.picky_asn1_x509.specs.Calls.{NoWhole};
+ghost use Rattle.picky_asn1_x509.specs.Calls.{CheckedRead, NoValue, NoWhole};
 ghost use Rattle.picky_asn1_x509.specs.Certificates.{signature_fields, certificate_parts, certificate};
 ghost use Rattle.picky_asn1_x509.specs.FirstField.{FirstPart};
+ghost use Rattle.picky_asn1_x509.specs.SignedParts.{SignedPartOf};
 ghost use Rattle.picky_asn1_x509.specs.TbsCertificates.{tbs_certificate};
 
 use picky_asn1_x509::laws::equality_is_sameness;
-use picky_asn1_x509::{Certificate, Name, ReadError, SignedRead};
+use picky_asn1_x509::{Certificate, Deviations, Name, ReadError, SignedPart, SignedRead, check};
 use std::alloc::Allocator;
+
+/// How many deviations of each kind a certificate has. No value is built, and no memory is asked for.
+///
+/// # Errors
+/// The bytes encode no certificate.
+pub fn deviations<A: Allocator + Copy>(alloc: A, bytes: &[u8]) -> Result<Deviations, ReadError>
+    ensures { CheckedRead (certificate {A = A}) bytes.now result }
+{
+    check::<Certificate<A>, A>(alloc, bytes)
+}
+
+/// The bytes of a certificate that the signature covers, and the deviations inside of them and outside. No value is
+/// built, and no memory is asked for.
+///
+/// # Errors
+/// The bytes encode no certificate.
+pub fn signed_part<A: Allocator + Copy>(alloc: A, bytes: &[u8]) -> Result<SignedPart<'_>, ReadError>
+    ensures ok { IfOk result (λ r. SignedPartOf (certificate_parts {A = A}) tbs_certificate signature_fields
+        bytes.now r.signed.now r.inside r.outside) }
+    ensures err { IfErr result (NoValue (certificate {A = A}) bytes.now) }
+{
+    Certificate::check_signed_part(alloc, bytes)
+}
 
 /// Reads a certificate: its fields, the bytes that the signature covers, and the deviations inside and outside of these
 /// bytes.

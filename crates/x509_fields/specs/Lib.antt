@@ -6,4 +6,5 @@ pub mod Certificates
 pub mod Requests
 pub mod Keys
 pub mod Extensions
+pub mod Found
 pub mod facts

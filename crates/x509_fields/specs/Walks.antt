@@ -1,6 +1,7 @@
 -- A walk over elements that stand one behind another (X.690, 8.1).
-use Rattle.std.specs.Prelude.{◌≡◌, ◌==◌, false, ℕ, ◌+◌, ◌≤◌, List, [], ◌++◌, length, Option, Some, None}
+use Rattle.std.specs.Prelude.{◌≡◌, ◌==◌, false, ℕ, ◌+◌, ◌≤◌, ◌<◌, List, [], ◌∷◌, ◌++◌, length, Option, Some, None}
 use Rattle.x509_der.specs.Element.{IsRaw, element, header}
+use Rattle.x509_der.specs.Reading.{NoFirst}
 use Rattle.x509_der.specs.Shape.{Follows}
 use Rattle.x509_fields.specs.declared.span.Span.{Span}
 
@@ -20,6 +21,20 @@ pub record Steps (old new : Walk) (span : Span) : Type 0 where
   pub end : span.end ≡ new.at
   pub goes : Goes old new
   pub past : (p q : List ℕ) → IsRaw p → old.rest ≡ p ++ q → (new.rest ≡ q) × (new.at ≡ old.at + length p)
+
+-- the same, and whether an element stands in front: where none does, the walk stays
+abbrev pub StepsOn : Walk → Walk → Option Span → Type 0
+StepsOn old new None = (new ≡ old) × NoFirst old.rest
+StepsOn old new (Some span) = Steps old new span × (old.at < new.at)
+
+-- the bytes are these elements, one behind another
+abbrev pub AreElements : List (List ℕ) → List ℕ → Type 0
+AreElements [] rest = rest ≡ []
+AreElements (p ∷ ps) rest = IsRaw p × ((q : List ℕ) × ((rest ≡ p ++ q) × AreElements ps q))
+
+-- the number of elements that bytes are, where they are elements
+abbrev pub Counts : List ℕ → ℕ → Type 0
+Counts rest count = (parts : List (List ℕ)) → AreElements parts rest → count ≡ length parts
 
 -- the same where that element has the tag; else the walk stays, and there is no span
 abbrev pub StepsIf : ℕ → Walk → Walk → Option Span → Type 0

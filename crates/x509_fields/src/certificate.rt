@@ -1,16 +1,19 @@
 //! Where the fields of a certificate stand.
 
-ghost use Rattle.std.specs.Prelude.{◌≡◌, ℕ, List, length};
+ghost use Rattle.std.specs.Prelude.{◌≡◌, ℕ, List, length, IfOk, IfErr};
+ghost use Rattle.x509_der.specs.Calls.{NoValue};
 ghost use Rattle.x509_der.specs.Fields.{Stands};
 ghost use Rattle.x509_der.specs.Tally.{Tally};
 ghost use Rattle.picky_asn1_x509.specs.Certificates.{certificate};
 ghost use Rattle.picky_asn1_x509.specs.TbsCertificates.{TbsFields, tbs_inner};
+ghost use Rattle.x509_fields.specs.Found.{CertificateWithin, Found};
 ghost use Rattle.x509_fields.specs.Certificates.{CertificateIn, TbsFieldsIn};
 
 use crate::span::Span;
 use crate::walk::Walk;
 use picky_asn1_x509::{
-    AlgorithmIdentifier, Certificate, Name, SubjectPublicKeyInfo, TbsCertificate, Validity, laws,
+    AlgorithmIdentifier, Certificate, Name, ReadError, SubjectPublicKeyInfo, TbsCertificate,
+    Validity, check, laws,
 };
 use std::alloc::Allocator;
 
@@ -69,6 +72,14 @@ impl CertificateFields {
         ensures { (y : Tally) → (certificate {A = A}).spelled value.now bytes.now y → CertificateIn value.now result bytes.now y }
     {
         let _ = value;
+        Self::within::<A>(bytes)
+    }
+
+    /// Where the fields of the certificate stand that the bytes encode, whatever certificate it is: no value is needed. Takes no
+    /// memory. Of bytes that encode no certificate the spans say nothing.
+    pub fn within<A: Allocator + Copy>(bytes: &[u8]) -> Self
+        ensures { CertificateWithin A bytes.now result }
+    {
         laws::certificate_fields::<A>();
         laws::spellings_are_lawful::<TbsCertificate<A>, A>();
         laws::spellings_are_lawful::<AlgorithmIdentifier<A>, A>();
@@ -83,6 +94,19 @@ impl CertificateFields {
             signature_algorithm,
             signature_value,
         }
+    }
+
+    /// Checks the bytes as `check` does, and answers where the fields of the certificate stand that they encode. It builds no
+    /// value and takes no memory.
+    ///
+    /// # Errors
+    /// Refused exactly where the bytes encode no certificate; never for memory.
+    pub fn find<A: Allocator + Copy>(alloc: A, bytes: &[u8]) -> Result<Self, ReadError>
+        ensures ok { IfOk result (Found (certificate {A = A}) CertificateIn bytes.now) }
+        ensures err { IfErr result (NoValue (certificate {A = A}) bytes.now) }
+    {
+        let _deviations = check::<Certificate<A>, A>(alloc, bytes)?;
+        Ok(Self::within::<A>(bytes))
     }
 }
 

@@ -3,6 +3,7 @@
 ghost use Rattle.std.specs.Prelude.{ℕ, List};
 ghost use Rattle.x509_der.specs.Tally.{Tally};
 ghost use Rattle.picky_asn1_x509.specs.Extensions.{extension};
+ghost use Rattle.x509_fields.specs.Found.{ExtensionWithin};
 ghost use Rattle.x509_fields.specs.Extensions.{ExtensionIn};
 
 use crate::span::Span;
@@ -31,6 +32,14 @@ impl ExtensionFields {
         ensures { (y : Tally) → (extension {A = A}).spelled value.now bytes.now y → ExtensionIn value.now result bytes.now y }
     {
         let _ = value;
+        Self::within::<A>(bytes)
+    }
+
+    /// Where the fields of the extension stand that the bytes encode, whatever extension it is: no value is needed. Takes no
+    /// memory. Of bytes that encode no extension the spans say nothing.
+    pub fn within<A: Allocator + Copy>(bytes: &[u8]) -> Self
+        ensures { ExtensionWithin A bytes.now result }
+    {
         laws::extension_fields::<A>();
         let mut walk = Walk::of(bytes).inside();
         let extn_id = walk.next();

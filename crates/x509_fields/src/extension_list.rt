@@ -6,6 +6,7 @@ ghost use Rattle.x509_der.specs.Tally.{Tally};
 ghost use Rattle.picky_asn1_x509.specs.Certificates.{certificate};
 ghost use Rattle.picky_asn1_x509.specs.ExtensionLists.{extensions};
 ghost use Rattle.picky_asn1_x509.specs.Extensions.{extension};
+ghost use Rattle.x509_fields.specs.Found.{ItemsWithin};
 
 use crate::certificate::CertificateFields;
 use crate::walk::Walk;
@@ -18,10 +19,20 @@ pub fn certificate_extensions<'a, A: Allocator + Copy>(
     value: &Certificate<A>,
     bytes: &'a [u8],
 ) -> Walk<'a>
-    ensures { (y : Tally) → (certificate {A = A}).spelled value.now bytes.now y → ItemsAt (extension {A = A}) bytes.now y value.now.tbs_certificate.extensions result.at result.rest }
+    ensures { (y : Tally) → (certificate {A = A}).spelled value.now bytes.now y
+        → ItemsAt (extension {A = A}) bytes.now y value.now.tbs_certificate.extensions result.at result.rest }
+{
+    let _ = value;
+    certificate_items::<A>(bytes)
+}
+
+/// A walk over the extensions of the certificate that the bytes encode, whatever it is: each is the next element. Takes
+/// no memory. Of bytes that encode no certificate the walk says nothing.
+pub fn certificate_items<A: Allocator + Copy>(bytes: &[u8]) -> Walk<'_>
+    ensures { ItemsWithin (certificate {A = A}) (λ v. v.tbs_certificate.extensions) bytes.now result }
 {
     laws::spellings_are_lawful::<Extensions<A>, A>();
-    let places = CertificateFields::of(value, bytes);
+    let places = CertificateFields::within::<A>(bytes);
     match places.fields.extensions {
         Some(tagged) => Walk::over(bytes, tagged).inside().inside(),
         None => Walk::of(&[]),
@@ -33,9 +44,18 @@ pub fn listed_extensions<'a, A: Allocator + Copy>(
     value: &Extensions<A>,
     bytes: &'a [u8],
 ) -> Walk<'a>
-    ensures { (y : Tally) → (extensions {A = A}).spelled value.now bytes.now y → ItemsAt (extension {A = A}) bytes.now y value.now result.at result.rest }
+    ensures { (y : Tally) → (extensions {A = A}).spelled value.now bytes.now y
+        → ItemsAt (extension {A = A}) bytes.now y value.now result.at result.rest }
 {
     let _ = value;
+    listed_items::<A>(bytes)
+}
+
+/// A walk over the extensions of the list that the bytes encode, whatever it is: each is the next element. Takes no
+/// memory. Of bytes that encode no list of extensions the walk says nothing.
+pub fn listed_items<A: Allocator + Copy>(bytes: &[u8]) -> Walk<'_>
+    ensures { ItemsWithin (extensions {A = A}) (λ v. v) bytes.now result }
+{
     laws::fields::<Extensions<A>, A>();
     Walk::of(bytes).inside()
 }

@@ -12,7 +12,9 @@ pub mod walk;
 
 pub use crate::certificate::{CertificateFields, TbsCertificateFields};
 pub use crate::extension::ExtensionFields;
-pub use crate::extension_list::{certificate_extensions, listed_extensions};
+pub use crate::extension_list::{
+    certificate_extensions, certificate_items, listed_extensions, listed_items,
+};
 pub use crate::private_key::PrivateKeyInfoFields;
 pub use crate::request::{CertificationRequestFields, CertificationRequestInfoFields};
 pub use crate::span::Span;

@@ -1,13 +1,15 @@
 //! Where the fields of a private key with its algorithm stand.
 
-ghost use Rattle.std.specs.Prelude.{ℕ, List};
+ghost use Rattle.std.specs.Prelude.{ℕ, List, IfOk, IfErr};
+ghost use Rattle.x509_der.specs.Calls.{NoValue};
 ghost use Rattle.x509_der.specs.Tally.{Tally};
 ghost use Rattle.x509_keys.specs.PrivateKeyInfos.{private_key_info};
+ghost use Rattle.x509_fields.specs.Found.{PrivateKeyWithin, Found};
 ghost use Rattle.x509_fields.specs.Keys.{PrivateKeyIn};
 
 use crate::span::Span;
 use crate::walk::Walk;
-use picky_asn1_x509::{AlgorithmIdentifier, PrivateKeyInfo, laws};
+use picky_asn1_x509::{AlgorithmIdentifier, PrivateKeyInfo, ReadError, check, laws};
 use std::alloc::Allocator;
 
 /// The tag of a public key behind a private one, `[1]`.
@@ -36,6 +38,14 @@ impl PrivateKeyInfoFields {
         ensures { (y : Tally) → (private_key_info {A = A}).spelled value.now bytes.now y → PrivateKeyIn value.now result bytes.now y }
     {
         let _ = value;
+        Self::within::<A>(bytes)
+    }
+
+    /// Where the fields of the private key stand that the bytes encode, whatever private key it is: no value is needed. Takes no
+    /// memory. Of bytes that encode no private key the spans say nothing.
+    pub fn within<A: Allocator + Copy>(bytes: &[u8]) -> Self
+        ensures { PrivateKeyWithin A bytes.now result }
+    {
         laws::private_key_fields::<A>();
         laws::spellings_are_lawful::<AlgorithmIdentifier<A>, A>();
         let mut walk = Walk::of(bytes).inside();
@@ -51,5 +61,18 @@ impl PrivateKeyInfoFields {
             skipped,
             public_key,
         }
+    }
+
+    /// Checks the bytes as `check` does, and answers where the fields of the private key stand that they encode. It builds no
+    /// value and takes no memory.
+    ///
+    /// # Errors
+    /// Refused exactly where the bytes encode no private key; never for memory.
+    pub fn find<A: Allocator + Copy>(alloc: A, bytes: &[u8]) -> Result<Self, ReadError>
+        ensures ok { IfOk result (Found (private_key_info {A = A}) PrivateKeyIn bytes.now) }
+        ensures err { IfErr result (NoValue (private_key_info {A = A}) bytes.now) }
+    {
+        let _deviations = check::<PrivateKeyInfo<A>, A>(alloc, bytes)?;
+        Ok(Self::within::<A>(bytes))
     }
 }

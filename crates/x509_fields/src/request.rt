@@ -1,16 +1,18 @@
 //! Where the fields of a request stand.
 
-ghost use Rattle.std.specs.Prelude.{ℕ, List};
+ghost use Rattle.std.specs.Prelude.{ℕ, List, IfOk, IfErr};
+ghost use Rattle.x509_der.specs.Calls.{NoValue};
 ghost use Rattle.x509_der.specs.Fields.{Stands};
 ghost use Rattle.x509_der.specs.Tally.{Tally};
 ghost use Rattle.picky_asn1_x509.specs.Requests.{InfoFields, info_inner, request};
+ghost use Rattle.x509_fields.specs.Found.{RequestWithin, Found};
 ghost use Rattle.x509_fields.specs.Requests.{InfoFieldsIn, RequestIn};
 
 use crate::span::Span;
 use crate::walk::Walk;
 use picky_asn1_x509::{
-    AlgorithmIdentifier, CertificationRequest, CertificationRequestInfo, Name,
-    SubjectPublicKeyInfo, laws,
+    AlgorithmIdentifier, CertificationRequest, CertificationRequestInfo, Name, ReadError,
+    SubjectPublicKeyInfo, check, laws,
 };
 use std::alloc::Allocator;
 
@@ -47,6 +49,14 @@ impl CertificationRequestFields {
         ensures { (y : Tally) → (request {A = A}).spelled value.now bytes.now y → RequestIn value.now result bytes.now y }
     {
         let _ = value;
+        Self::within::<A>(bytes)
+    }
+
+    /// Where the fields of the request stand that the bytes encode, whatever request it is: no value is needed. Takes no
+    /// memory. Of bytes that encode no request the spans say nothing.
+    pub fn within<A: Allocator + Copy>(bytes: &[u8]) -> Self
+        ensures { RequestWithin A bytes.now result }
+    {
         laws::certification_request_fields::<A>();
         laws::spellings_are_lawful::<CertificationRequestInfo<A>, A>();
         laws::spellings_are_lawful::<AlgorithmIdentifier<A>, A>();
@@ -61,6 +71,19 @@ impl CertificationRequestFields {
             signature_algorithm,
             signature,
         }
+    }
+
+    /// Checks the bytes as `check` does, and answers where the fields of the request stand that they encode. It builds no
+    /// value and takes no memory.
+    ///
+    /// # Errors
+    /// Refused exactly where the bytes encode no request; never for memory.
+    pub fn find<A: Allocator + Copy>(alloc: A, bytes: &[u8]) -> Result<Self, ReadError>
+        ensures ok { IfOk result (Found (request {A = A}) RequestIn bytes.now) }
+        ensures err { IfErr result (NoValue (request {A = A}) bytes.now) }
+    {
+        let _deviations = check::<CertificationRequest<A>, A>(alloc, bytes)?;
+        Ok(Self::within::<A>(bytes))
     }
 }
 

@@ -2,7 +2,7 @@
 
 ghost use Rattle.std.specs.Prelude.{◌≡◌, ◌+◌, ◌<◌, ◌^◌, List, ℕ, length};
 ghost use Rattle.x509_fields.specs.Slices.{Covers};
-ghost use Rattle.x509_fields.specs.Walks.{Inside, Steps, StepsIf, StepsUnless};
+ghost use Rattle.x509_fields.specs.Walks.{Counts, Inside, Steps, StepsIf, StepsOn, StepsUnless};
 
 use crate::span::Span;
 use std::marker::Model;
@@ -47,19 +47,45 @@ impl<'a> Walk<'a> {
         }
     }
 
-    /// Goes past the next element, and answers where it stands: an empty span where none does.
-    pub fn next(&mut self) -> Span
-        ensures { Steps self.old self.new result }
+    /// Goes past the next element, and answers where it stands; where none does, the walk stays.
+    pub fn step(&mut self) -> Option<Span>
+        ensures { StepsOn self.old self.new result }
     {
         let start = self.at;
         let Some(element) = first_element(self.rest) else {
-            return Span { start, end: start };
+            return None;
         };
         let (_, after) = self.rest.split_at(element.end);
         let end = start + element.end;
         self.rest = after;
         self.at = end;
-        Span { start, end }
+        Some(Span { start, end })
+    }
+
+    /// Goes past the next element, and answers where it stands: an empty span where none does.
+    pub fn next(&mut self) -> Span
+        ensures { Steps self.old self.new result }
+    {
+        let start = self.at;
+        match self.step() {
+            Some(span) => span,
+            None => Span { start, end: start },
+        }
+    }
+
+    /// How many elements are left, as far as elements stand one behind another.
+    pub fn count(&self) -> usize
+        ensures { Counts self.now.rest result }
+    {
+        let mut walk = Walk {
+            rest: self.rest,
+            at: self.at,
+        };
+        let mut count: usize = 0;
+        'elements: while let Some(_span) = walk.step() {
+            count += 1;
+        }
+        count
     }
 
     /// Goes past the next element where it has the tag, and answers where it stands.

@@ -3,7 +3,7 @@
 use crate::task::accepts;
 use std::alloc::Allocator;
 use std::fmt::{self, Display, Write};
-use x509_der::{ReadError, Refused};
+use x509_der::Refused;
 use x509_inspect_parts::Kind;
 
 /// Which types accept some bytes.
@@ -86,11 +86,8 @@ impl Search {
     }
 }
 
-/// Which types accept bytes.
-///
-/// # Errors
-/// Memory is refused.
-pub fn determine<A: Allocator + Copy>(alloc: A, bytes: &[u8]) -> Result<Determined, ReadError> {
+/// Which types accept bytes. It builds no value and takes no memory.
+pub fn determine<A: Allocator + Copy>(alloc: A, bytes: &[u8]) -> Determined {
     let mut search = Search {
         accepting: [false; 11],
         count: 0,
@@ -98,8 +95,7 @@ pub fn determine<A: Allocator + Copy>(alloc: A, bytes: &[u8]) -> Result<Determin
         refused: None,
     };
     for (index, kind) in Kind::ALL.iter().enumerate() {
-        let refused = accepts(alloc, *kind, bytes)?;
-        search.add(index, *kind, refused);
+        search.add(index, *kind, accepts(alloc, *kind, bytes));
     }
-    Ok(search.outcome())
+    search.outcome()
 }

@@ -2,11 +2,11 @@
 
 use crate::json_report::{WriteJson, Written};
 use crate::text_report::WriteText;
-use crate::told::{Checking, Encoding, Task};
+use crate::told::{Accepting, Checking, Encoding, Task};
 use picky_asn1_x509::{
     AlgorithmIdentifier, Certificate, CertificationRequest, ECPrivateKey, Extensions, Name, Place,
-    PrivateKeyInfo, RawAlgorithmIdentifier, ReadError, RsaPrivateKey, RsaPublicKey,
-    SubjectPublicKeyInfo, WriteError,
+    PrivateKeyInfo, RawAlgorithmIdentifier, RsaPrivateKey, RsaPublicKey, SubjectPublicKeyInfo,
+    WriteError,
 };
 use std::alloc::{AllocError, Allocator};
 use std::fmt::{self, Write};
@@ -33,7 +33,7 @@ fn run_as<A: Allocator + Copy, K: Task<A>>(kind: Kind, task: K) -> K::Answer {
 /// The deviations of bytes as a type, by start and then by kind: none where the bytes are in DER.
 ///
 /// # Errors
-/// The bytes encode no value of the type, or memory is refused.
+/// The bytes encode no value of the type, or memory for places is refused.
 pub fn check<A: Allocator + Copy>(
     alloc: A,
     kind: Kind,
@@ -42,22 +42,9 @@ pub fn check<A: Allocator + Copy>(
     run_as(kind, Checking { alloc, bytes })
 }
 
-/// Why bytes aren't read as a type; `None` where they are.
-///
-/// # Errors
-/// `OutOfMemory`, where memory is refused.
-pub(crate) fn accepts<A: Allocator + Copy>(
-    alloc: A,
-    kind: Kind,
-    bytes: &[u8],
-) -> Result<Option<Refused>, ReadError> {
-    match check(alloc, kind, bytes) {
-        Ok(_) => Ok(None),
-        Err(refused) => match refused.error {
-            ReadError::OutOfMemory => Err(ReadError::OutOfMemory),
-            _ => Ok(Some(refused)),
-        },
-    }
+/// Why bytes aren't read as a type; `None` where they are. It takes no memory.
+pub(crate) fn accepts<A: Allocator + Copy>(alloc: A, kind: Kind, bytes: &[u8]) -> Option<Refused> {
+    run_as(kind, Accepting { alloc, bytes })
 }
 
 /// The DER encoding of the value that bytes encode as a type, and how many deviations they have.

@@ -5,7 +5,8 @@ ghost use Rattle.x509_der.specs.Calls.{Located};
 
 use std::alloc::Allocator;
 use x509_der::{
-    FromDer, Place, ReadError, Refused, WriteError, read_explained, read_located, to_vec,
+    FromDer, Place, ReadError, Refused, WriteError, check_explained, check_located, read_explained,
+    read_located, to_vec,
 };
 use x509_report::Reported;
 
@@ -49,6 +50,27 @@ pub(crate) fn read_told<T: FromDer<A>, A: Allocator + Copy>(
     }
 }
 
+/// Checks bytes, which are gone over once where they are in DER or refused, and tells each deviation with its place. It
+/// builds no value, and takes memory for places alone.
+///
+/// # Errors
+/// The bytes encode no value of the type, or memory for places is refused.
+pub(crate) fn check_told<T: FromDer<A>, A: Allocator + Copy>(
+    alloc: A,
+    bytes: &[u8],
+) -> Result<Vec<Place, A>, Refused>
+    ensures ok { IfOk result (λ places. (value : T) × Located T.shape bytes.now value places.items) }
+{
+    let deviations = check_explained::<T, A>(alloc, bytes)?;
+    if deviations.is_none() {
+        return Ok(Vec::new(alloc));
+    }
+    match check_located::<T, A>(alloc, bytes) {
+        Ok(places) => Ok(places),
+        Err(error) => Err(Refused { error, at: 0 }),
+    }
+}
+
 /// The deviations of bytes as a type.
 #[derive(Clone, Copy, Drop)]
 pub(crate) struct Checking<'a, A> {
@@ -62,9 +84,27 @@ impl<A: Allocator + Copy> Task<A> for Checking<'_, A> {
     type Answer = Result<Vec<Place, A>, Refused>;
 
     fn run<T: FromDer<A> + Reported>(self) -> Result<Vec<Place, A>, Refused> {
-        let (value, places) = read_told::<T, A>(self.alloc, self.bytes)?;
-        drop(value);
-        Ok(places)
+        check_told::<T, A>(self.alloc, self.bytes)
+    }
+}
+
+/// Whether bytes encode a value of a type.
+#[derive(Clone, Copy, Drop)]
+pub(crate) struct Accepting<'a, A> {
+    /// Where memory would be asked for.
+    pub(crate) alloc: A,
+    /// The bytes.
+    pub(crate) bytes: &'a [u8],
+}
+
+impl<A: Allocator + Copy> Task<A> for Accepting<'_, A> {
+    type Answer = Option<Refused>;
+
+    fn run<T: FromDer<A> + Reported>(self) -> Option<Refused> {
+        match check_explained::<T, A>(self.alloc, self.bytes) {
+            Ok(_deviations) => None,
+            Err(refused) => Some(refused),
+        }
     }
 }
 

@@ -1,5 +1,5 @@
 -- What a walk does where elements stand.
-use Rattle.std.proofs.Common.{◌≡◌, ℕ, ◌+◌, ◌≤◌, ◌==◌, true, List, [], ◌∷◌, ◌++◌, length, take, drop, get_or, refl, sym, ap, ◌∙◌, arith, length-append, eq-eqb, false, ◌<◌}
+use Rattle.std.proofs.Common.{subst, ◌≡◌, ℕ, ◌+◌, ◌≤◌, ◌==◌, true, List, [], ◌∷◌, ◌++◌, length, take, drop, get_or, refl, sym, ap, ◌∙◌, arith, length-append, eq-eqb, false, ◌<◌}
 use Rattle.std.proofs.Math.Seq.{drop-append_seam, take-append_seam}
 use Rattle.x509_der.specs.Types.{Element}
 use Rattle.x509_der.specs.Element.{IsRaw, digits, element, header, is_tag}
@@ -7,7 +7,7 @@ use Rattle.x509_der.specs.facts.Element.{element_one, element_length}
 use Rattle.x509_der.specs.FirstElement.{FoundAt}
 use Rattle.x509_der.specs.Reading.{NoFirst}
 use Rattle.x509_der.specs.Shape.{Follows}
-use Rattle.x509_fields.specs.Walks.{Walk, Steps, Inside}
+use Rattle.x509_fields.specs.Walks.{Walk, Steps, StepsOn, AreElements, Counts, Inside}
 use Rattle.x509_fields.specs.declared.span.Span.{Span}
 
 pub found_end : (string : List ℕ) (e : Element) → FoundAt string e → e.end ≤ length string
@@ -32,6 +32,13 @@ steps old new e span f rest at start end =
           let k = element_one h.tag e.tag h.content f.content q f.after (ap (λ x. x ++ q) (sym h.bytes) ∙ sym g ∙ f.first.bytes) in
           (after ∙ sym k.rest, omega (arith, at, f.end, ap length h.bytes, element_length h.tag h.content, ap header k.content, ap length k.content));
     }
+
+header_positive : (c : List ℕ) → 1 ≤ header c
+unfolding header
+header_positive c = omega arith
+
+pub found_positive : (string : List ℕ) (e : Element) → FoundAt string e → 1 ≤ e.end
+found_positive string e f = omega (arith, f.end, header_positive f.content)
 
 pub stays : (old : Walk) (span : Span) → NoFirst old.rest → span.start ≡ old.at → span.end ≡ old.at → Steps old old span
 stays old span n start end = record {
@@ -76,10 +83,6 @@ begins_with : (t : ℕ) (c q : List ℕ) (first : ℕ) (r : List ℕ) → first 
 unfolding element
 begins_with t c q first r e = cc
 
-header_positive : (c : List ℕ) → 1 ≤ header c
-unfolding header
-header_positive c = omega arith
-
 pub no_element : (t : ℕ) (rest : List ℕ) → length rest < 1 → (q c : List ℕ) → rest ≡ element t c ++ q → ⊥
 no_element t rest n q c e = omega (arith, n, ap length e, length-append (element t c) q, element_length t c, header_positive c)
 
@@ -103,3 +106,32 @@ same_element tag [] l h q t c n e = omega (arith, l)
 same_element tag (b ∷ r) l h q t c n e =
     let k : (t == tag) ≡ true = eq-eqb t tag (sym (begins_with t c q b r e) ∙ h) in
     cc
+
+-- a walk over what is left of elements, of which so many are gone past
+pub record Gone (first now : Walk) (count : ℕ) : Type 0 where
+  pub at : first.at + count ≤ now.at
+  pub ends : now.at + length now.rest ≡ first.at + length first.rest
+  pub left : (parts : List (List ℕ)) → AreElements parts first.rest → (more : List (List ℕ)) × ((count + length more ≡ length parts) × AreElements more now.rest)
+
+next_gone : (now next : Walk) (span : Span) (count : ℕ) (parts more : List (List ℕ)) → Steps now next span → now.at < next.at → count + length more ≡ length parts → AreElements more now.rest → (after : List (List ℕ)) × (((count + 1) + length after ≡ length parts) × AreElements after next.rest)
+next_gone now next span count parts [] s forward size h = absurd (omega (arith, s.goes.ends, forward, ap length h))
+next_gone now next span count parts (p ∷ ps) s forward size h =
+    let k = s.past p h.1.0 h.0 h.1.1.0 in
+    let P : List ℕ → Type 0 = λ x. AreElements ps x in
+    (ps, (omega (arith, size), subst P (sym k.0) h.1.1.1))
+
+pub one_gone : (first now next : Walk) (span : Span) (count : ℕ) → Gone first now count → Steps now next span → now.at < next.at → Gone first next (count + 1)
+one_gone first now next span count g s forward = record {
+  at = omega (arith, g.at, forward);
+  ends = omega (arith, g.ends, s.goes.ends);
+  left = λ parts h. let l = g.left parts h in next_gone now next span count parts l.0 s forward l.1.0 l.1.1;
+}
+
+no_more : (more : List (List ℕ)) (rest : List ℕ) → NoFirst rest → AreElements more rest → more ≡ []
+no_more [] rest n h = refl
+no_more (p ∷ ps) rest n h = absurd (n h.0.tag h.0.content h.1.0 h.0.fits (h.1.1.0 ∙ ap (λ x. x ++ h.1.0) h.0.bytes))
+
+pub all_gone : (first now : Walk) (count : ℕ) → Gone first now count → NoFirst now.rest → Counts first.rest count
+all_gone first now count g n parts h =
+    let l = g.left parts h in
+    omega (arith, l.1.0, ap length (no_more l.0 now.rest n l.1.1))

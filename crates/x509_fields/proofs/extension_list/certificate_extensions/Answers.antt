@@ -1,20 +1,4 @@
-use Rattle.x509_fields.specs.facts.ExtensionLists.{items_there, items_absent, items_of}
 use Rattle.x509_fields.proofs.extension_list.certificate_extensions.Goals as goal
 
-pub returns-in-Some : goal.returns-in-Some
-returns-in-Some g c = λ y a.
-    let r = c.of-places.ensures y a in
-    let list = r.fields.extensions in
-    items_of list c.args.value.now.tbs_certificate.extensions c.args.bytes.now y c.inside-in-Some.result r.fields.extensions_mean (items_there c.spellings_are_lawful.ensures.lawful list c.of-places.result.fields.extensions c.in-Some.tagged c.args.bytes.now y c.inside-in-Some.result r.fields.fields.extensions c.in-Some.is (record {
-      w = c.over.result;
-      w1 = c.inside.result;
-      over = c.over.ensures;
-      tag = c.inside.ensures;
-      list = c.inside-in-Some.ensures;
-    }))
-
-pub returns-in-None : goal.returns-in-None
-returns-in-None g c = λ y a.
-    let r = c.of-places.ensures y a in
-    let list = r.fields.extensions in
-    items_of list c.args.value.now.tbs_certificate.extensions c.args.bytes.now y c.of.result r.fields.extensions_mean (items_absent list c.of-places.result.fields.extensions c.args.bytes.now y c.of.result r.fields.fields.extensions c.in-None.is c.of.ensures.rest)
+pub returns : goal.returns
+returns g c = λ y a. c.certificate_items.ensures c.args.value.now y a
