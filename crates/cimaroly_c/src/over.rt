@@ -61,12 +61,12 @@ fn arena(block: &OneBlock) -> Bump<&OneBlock> {
     }
 }
 
-/// `check` of `x509_flat`.
+/// `check` of `x509_flat`. As all calls that build no value, it asks its arena for nothing, so that none is set up.
 pub(crate) fn check(block: &OneBlock, kind: Kind, bytes: &[u8]) -> Checked
     ensures told { TellsOf Arena kind bytes.now result.status result.verdict }
     ensures bound { result.verdict.headers ≤ length bytes.now / 2 + 1 }
 {
-    let arena = arena(block);
+    let arena = Bump::new(block);
     flat_check(&arena, kind, bytes)
 }
 
@@ -90,7 +90,7 @@ pub(crate) fn places(block: &OneBlock, kind: Kind, bytes: &[u8], out: &mut [Flat
 pub(crate) fn certificate_signed_part(block: &OneBlock, bytes: &[u8]) -> SignedAnswer
     ensures { SignedTold (certificate {A = Arena}) certificate_parts tbs_certificate signature_fields bytes.now result.status result.signed }
 {
-    let arena = arena(block);
+    let arena = Bump::new(block);
     signed_part::of_certificate(&arena, bytes)
 }
 
@@ -98,7 +98,7 @@ pub(crate) fn certificate_signed_part(block: &OneBlock, bytes: &[u8]) -> SignedA
 pub(crate) fn request_signed_part(block: &OneBlock, bytes: &[u8]) -> SignedAnswer
     ensures { SignedTold (request {A = Arena}) request_parts request_info signature_fields bytes.now result.status result.signed }
 {
-    let arena = arena(block);
+    let arena = Bump::new(block);
     signed_part::of_request(&arena, bytes)
 }
 
@@ -106,7 +106,7 @@ pub(crate) fn request_signed_part(block: &OneBlock, bytes: &[u8]) -> SignedAnswe
 pub(crate) fn certificate_fields(block: &OneBlock, bytes: &[u8]) -> Answer<FlatCertificate>
     ensures { CertificateTold Arena bytes.now result.status result.fields }
 {
-    let arena = arena(block);
+    let arena = Bump::new(block);
     flat_certificate_fields(&arena, bytes)
 }
 
@@ -114,7 +114,7 @@ pub(crate) fn certificate_fields(block: &OneBlock, bytes: &[u8]) -> Answer<FlatC
 pub(crate) fn request_fields(block: &OneBlock, bytes: &[u8]) -> Answer<FlatRequest>
     ensures { RequestTold Arena bytes.now result.status result.fields }
 {
-    let arena = arena(block);
+    let arena = Bump::new(block);
     flat_request_fields(&arena, bytes)
 }
 
@@ -122,7 +122,7 @@ pub(crate) fn request_fields(block: &OneBlock, bytes: &[u8]) -> Answer<FlatReque
 pub(crate) fn private_key_fields(block: &OneBlock, bytes: &[u8]) -> Answer<FlatPrivateKey>
     ensures { PrivateKeyTold Arena bytes.now result.status result.fields }
 {
-    let arena = arena(block);
+    let arena = Bump::new(block);
     flat_private_key_fields(&arena, bytes)
 }
 
@@ -134,7 +134,7 @@ pub(crate) fn certificate_extensions(
 ) -> Sized
     ensures { ExtensionsTold (certificate {A = Arena}) (λ v. v.tbs_certificate.extensions) bytes.now out.old out.new result.status result.size }
 {
-    let arena = arena(block);
+    let arena = Bump::new(block);
     of_certificate(&arena, bytes, out)
 }
 
@@ -142,7 +142,7 @@ pub(crate) fn certificate_extensions(
 pub(crate) fn list_extensions(block: &OneBlock, bytes: &[u8], out: &mut [FlatExtension]) -> Sized
     ensures { ExtensionsTold (extensions {A = Arena}) (λ v. v) bytes.now out.old out.new result.status result.size }
 {
-    let arena = arena(block);
+    let arena = Bump::new(block);
     of_extensions(&arena, bytes, out)
 }
 

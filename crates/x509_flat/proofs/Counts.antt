@@ -8,6 +8,3 @@ use Rattle.x509_flat.specs.declared.status.Status.{Status}
 
 pub sized_front : {A : Type 0} (list : List (ExtensionFields A)) (string : List ℕ) (whole : Tally) (old new : List FlatExtension) (n m : ℕ) → n ≡ m → Front list string whole old new n → Front list string whole old new m
 sized_front list string whole old new n m e = let P : ℕ → Type 0 = λ k. Front list string whole old new k in subst P e
-
-pub puts_of : {A : Type 0} (list same : List (ExtensionFields A)) (string : List ℕ) (at : ℕ) (slice : List ℕ) (old new : List FlatExtension) (status : Status) (size : ℕ) → list ≡ same → PutsExtensions list string at slice old new status size → PutsExtensions same string at slice old new status size
-puts_of {A} list same string at slice old new status size e = let P : List (ExtensionFields A) → Type 0 = λ l. PutsExtensions l string at slice old new status size in subst P e

@@ -1,5 +1,5 @@
 -- The places of a list's extensions, as far as they are told.
-use Rattle.std.proofs.Common.{◌≡◌, ℕ, zero, suc, ◌+◌, ◌<◌, ◌≤◌, ◌^◌, Option, Some, None, List, [], ◌∷◌, ◌++◌, length, set, drop, refl, sym, ap, ◌∙◌, arith, subst, length-append, append-nil, append_assoc}
+use Rattle.std.proofs.Common.{◌≡◌, ℕ, zero, suc, ◌+◌, ◌<◌, ◌≤◌, ◌^◌, Option, Some, None, List, [], ◌∷◌, ◌++◌, length, set, drop, get_or, refl, sym, ap, ◌∙◌, arith, subst, length-append, append-nil, append_assoc}
 use Rattle.std.proofs.lemmas.List.{drop_more}
 use Rattle.std.specs.Borrow.{Bor}
 use Rattle.std.specs.Prelude.{IsSomeAnd, unwrap_or}
@@ -13,7 +13,7 @@ use Rattle.picky_asn1_x509.specs.Extensions.{ExtensionFields, extension, by_kind
 use Rattle.x509_fields.specs.Extensions.{ExtensionIn}
 use Rattle.x509_fields.specs.Slices.{SliceAt}
 use Rattle.x509_fields.specs.Spans.{FieldIn, OptionalIn}
-use Rattle.x509_fields.specs.Walks.{Walk, Steps}
+use Rattle.x509_fields.specs.Walks.{Walk, Steps, AreElements, Counts}
 use Rattle.x509_fields.specs.declared.extension.ExtensionFields.{ExtensionFields as Places}
 use Rattle.x509_fields.specs.declared.span.Span.{Span}
 use Rattle.x509_fields.specs.facts.ExtensionLists.{moved_items}
@@ -148,3 +148,20 @@ told_within v span string whole (Some b) empty got fields f k is told =
     let Q : List ℕ → Type 0 = λ x. ExtensionIn v fields x f.at.tally in
     subst Q same (told f.at.tally (subst P (sym same) f.at.spelled))
 told_within v span string whole None empty got fields f k is told = absurd (lent extension v span string whole None f k)
+
+-- an item of a list, and those behind it
+pub item_at : {A : Type 0} (list : List A) (n : ℕ) → n < length list → (v : A) × (drop n list ≡ v ∷ drop (n + 1) list)
+item_at [] n h = absurd (omega (arith, h))
+item_at (x ∷ xs) n h = (get_or (x ∷ xs) n x, drop_more (x ∷ xs) n x h)
+
+-- the items are as many elements
+pub items_are : {V : Type 0} (s : Shape V) → IsElement s → (vs : List V) (n : ℕ) (slice string : List ℕ) (whole : Tally) → ItemsAt s string whole vs n slice → (parts : List (List ℕ)) × ((length parts ≡ length vs) × AreElements parts slice)
+items_are s el [] n slice string whole h = ([], (refl, h))
+items_are s el (v ∷ vs) n slice string whole h =
+    let more = items_are s el vs (n + length h.front) h.back string whole h.second in
+    (h.front ∷ more.0, (omega (arith, more.1.0), (el.one v h.front h.first.field.tally h.first.field.spelled, (h.back, (h.bytes, more.1.1)))))
+
+pub counted : {A : Type 0} → IsElement (extension {A = A}) → (list : List (ExtensionFields A)) (at : ℕ) (slice string : List ℕ) (whole : Tally) (count : ℕ) → Counts slice count → ItemsAt extension string whole list at slice → length list ≡ count
+counted el list at slice string whole count c h =
+    let e = items_are extension el list at slice string whole h in
+    sym e.1.0 ∙ sym (c e.0 e.1.1)

@@ -2,3 +2,4 @@
 pub mod Counts
 pub mod ExtensionPlaces
 pub mod SignedParts
+pub mod Told

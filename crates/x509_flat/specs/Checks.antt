@@ -48,16 +48,11 @@ pub record Refuses {V : Type 0} (s : Shape V) (bytes : List ℕ) (verdict : Verd
   pub got : GotTo s bytes refused.error refused.at
   pub metered : (n : ℕ) → s.min_headers bytes n → n ≤ verdict.headers
 
--- memory was refused: nothing is known of the bytes
-pub record RunsOut (verdict : Verdict) : Type 0 where
-  pub counts : verdict.counts ≡ replicate 10 0
-  pub error : verdict.error ≡ 1
-
--- what a status says of the bytes as a value of a type
+-- what a status says of the bytes as a value of a type; memory is never refused, since none is asked for
 pub record Tells {V : Type 0} (s : Shape V) (bytes : List ℕ) (status : Status) (verdict : Verdict) : Type 0 where
   pub done : status ≡ answer.Done → Accepts s bytes verdict
   pub refused : status ≡ answer.Refused → Refuses s bytes verdict
-  pub memory : status ≡ answer.OutOfMemory → RunsOut verdict
+  pub memory : status ≡ answer.OutOfMemory → ⊥
   pub others : OnlyReads status
 
 -- the same of the type of a number

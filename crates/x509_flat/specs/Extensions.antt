@@ -56,10 +56,22 @@ pub record NoRoom (count : ℕ) (old new : List FlatExtension) (size : ℕ) : Ty
   pub same : new ≡ old
   pub short : length old < count
 
+-- whatever extension the span of the string encodes, it and its fields stand there
+abbrev pub PlacedAt : (A : Type 0) → List ℕ → Span → FlatExtension → Type 0
+PlacedAt A string span at = (v : ExtensionFields A) (whole : Tally) → FieldIn extension v span string whole → ExtensionStands v at string whole
+
+-- whatever list of so many extensions stands in a string from a place on, their places are in front
+abbrev pub Fronts : (A : Type 0) → ℕ → List ℕ → ℕ → List ℕ → List FlatExtension → List FlatExtension → Type 0
+Fronts A size string at slice old new = (list : List (ExtensionFields A)) (whole : Tally) → length list ≡ size → ItemsAt extension string whole list at slice → Front list string whole old new size
+
 -- what a status says of writing the places of a list's extensions, which stand in a string one behind another from a place on
-pub record PutsExtensions {A : Type 0} (list : List (ExtensionFields A)) (string : List ℕ) (at : ℕ) (slice : List ℕ) (old new : List FlatExtension) (status : Status) (size : ℕ) : Type 0 where
-  pub done : status ≡ answer.Done → (whole : Tally) → ItemsAt extension string whole list at slice → Front list string whole old new size
+pub record PutsExtensions {A : Type 0} (list : List (ExtensionFields A)) (string : List ℕ) (whole : Tally) (old new : List FlatExtension) (status : Status) (size : ℕ) : Type 0 where
+  pub done : status ≡ answer.Done → Front list string whole old new size
   pub short : status ≡ answer.TooShort → NoRoom (length list) old new size
+
+-- the same, whatever list it is; no other status is told
+pub record PutsAll (A : Type 0) (string : List ℕ) (at : ℕ) (slice : List ℕ) (old new : List FlatExtension) (status : Status) (size : ℕ) : Type 0 where
+  pub puts : (list : List (ExtensionFields A)) (whole : Tally) → ItemsAt extension string whole list at slice → PutsExtensions list string whole old new status size
   pub refused : status ≡ answer.Refused → ⊥
   pub memory : status ≡ answer.OutOfMemory → ⊥
   pub unknown : status ≡ answer.UnknownKind → ⊥
@@ -72,11 +84,11 @@ pub record Listing {A V : Type 0} (s : Shape V) (list : V → List (ExtensionFie
   pub whole : IsWhole s bytes value tally
   pub holds : fact (list value) tally
 
--- what a status says of telling the extensions in bytes that encode a value of a type
+-- what a status says of telling the extensions in bytes that encode a value of a type; memory is never refused
 pub record ExtensionsTold {A V : Type 0} (s : Shape V) (list : V → List (ExtensionFields A)) (bytes : List ℕ) (old new : List FlatExtension) (status : Status) (size : ℕ) : Type 0 where
   pub done : status ≡ answer.Done → Listing s list bytes (λ es y. Front es bytes y old new size)
   pub short : status ≡ answer.TooShort → Listing s list bytes (λ es y. NoRoom (length es) old new size)
   pub refused : status ≡ answer.Refused → Untouched old new size × ((v : V) (y : Tally) → s.spelled v bytes y → ⊥)
-  pub memory : status ≡ answer.OutOfMemory → Untouched old new size
+  pub memory : status ≡ answer.OutOfMemory → ⊥
   pub unknown : status ≡ answer.UnknownKind → ⊥
   pub long : status ≡ answer.TooLong → ⊥

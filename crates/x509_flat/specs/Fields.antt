@@ -66,10 +66,11 @@ pub record Fielded {V Places : Type 0} (s : Shape V) (bytes : List ℕ) (StandIn
   pub stand : StandIn value places bytes tally
   pub holds : fact places
 
--- what a status says of telling where fields stand
+-- what a status says of telling where fields stand; memory is never refused
 pub record FieldsTold {V Places : Type 0} (s : Shape V) (bytes : List ℕ) (StandIn : V → Places → List ℕ → Tally → Type 0) (status : Status) (fact : Places → Type 0) : Type 0 where
   pub done : status ≡ answer.Done → Fielded s bytes StandIn fact
   pub refused : status ≡ answer.Refused → (v : V) (y : Tally) → s.spelled v bytes y → ⊥
+  pub memory : status ≡ answer.OutOfMemory → ⊥
   pub others : OnlyReads status
 
 abbrev pub CertificateTold : (A : Type 0) → List ℕ → Status → FlatCertificate → Type 0

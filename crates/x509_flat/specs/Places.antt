@@ -1,5 +1,5 @@
 -- Where deviations stand, as it is told.
-use Rattle.std.specs.Prelude.{◌≡◌, ℕ, ◌+◌, List, map}
+use Rattle.std.specs.Prelude.{◌≡◌, ℕ, ◌+◌, List, [], map}
 use Rattle.x509_der.specs.Calls.{Located}
 use Rattle.x509_der.specs.Deviations.{kind_index}
 use Rattle.x509_der.specs.Shape.{Shape}
@@ -42,12 +42,12 @@ pub record WithPlaces {V : Type 0} (s : Shape V) (bytes : List ℕ) (fact : List
   pub located : Located s bytes value marks
   pub holds : fact (map flat_place marks)
 
--- what a status says of telling the places in bytes that encode a value of a type
+-- what a status says of telling the places in bytes that encode a value of a type; memory is refused for places alone
 pub record Places {V : Type 0} (s : Shape V) (bytes : List ℕ) (old new : List FlatPlace) (status : Status) (size : ℕ) : Type 0 where
   pub done : status ≡ answer.Done → WithPlaces s bytes (λ places. Filled places old new size)
   pub short : status ≡ answer.TooShort → WithPlaces s bytes (λ places. Short places old new size)
   pub refused : status ≡ answer.Refused → Untouched old new size × ((v : V) (y : Tally) → s.spelled v bytes y → ⊥)
-  pub memory : status ≡ answer.OutOfMemory → Untouched old new size
+  pub memory : status ≡ answer.OutOfMemory → Untouched old new size × ((v : V) (y : Tally) → s.spelled v bytes y → y.marks ≡ [] → ⊥)
   pub unknown : status ≡ answer.UnknownKind → ⊥
   pub long : status ≡ answer.TooLong → ⊥
 

@@ -23,8 +23,9 @@ pub record SignedIn {T V W : Type 0} (view : T → V × W) (a : Shape V) (b : Sh
   pub start : StartsContent bytes signed.part.start
   pub end : signed.part.end ≡ signed.part.start + length slice
 
--- what a status says of telling the signed part of bytes
+-- what a status says of telling the signed part of bytes; memory is never refused
 pub record SignedTold {T V W : Type 0} (s : Shape T) (view : T → V × W) (a : Shape V) (b : Shape W) (bytes : List ℕ) (status : Status) (signed : FlatSigned) : Type 0 where
   pub done : status ≡ answer.Done → SignedIn view a b bytes signed
   pub refused : status ≡ answer.Refused → (v : T) (y : Tally) → s.spelled v bytes y → ⊥
+  pub memory : status ≡ answer.OutOfMemory → ⊥
   pub others : OnlyReads status

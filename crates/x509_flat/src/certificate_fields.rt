@@ -5,7 +5,6 @@ ghost use Rattle.x509_flat.specs.Fields.{flat_certificate, CertificateTold};
 
 use crate::span::FlatSpan;
 use crate::status::Answer;
-use picky_asn1_x509::{Certificate, from_bytes};
 use std::alloc::Allocator;
 use x509_fields::CertificateFields;
 
@@ -83,16 +82,12 @@ impl FlatCertificate {
     }
 }
 
-/// Where the fields of a certificate stand.
+/// Where the fields of a certificate stand. It takes no memory.
 pub fn certificate_fields<A: Allocator + Copy>(alloc: A, bytes: &[u8]) -> Answer<FlatCertificate>
     ensures { CertificateTold A bytes.now result.status result.fields }
 {
-    match from_bytes::<Certificate<A>, A>(alloc, bytes) {
-        Ok(value) => {
-            let places = CertificateFields::of(&value, bytes);
-            drop(value);
-            Answer::done(FlatCertificate::of(places))
-        }
+    match CertificateFields::find(alloc, bytes) {
+        Ok(places) => Answer::done(FlatCertificate::of(places)),
         Err(error) => Answer::refused(error, FlatCertificate::none()),
     }
 }

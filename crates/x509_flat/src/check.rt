@@ -1,7 +1,6 @@
 //! Whether bytes encode a value.
 
-ghost use Rattle.std.specs.Prelude.{◌≡◌, ◌+◌, ◌/◌, ◌≤◌, ℕ, length};
-ghost use Rattle.picky_asn1_x509.specs.Tally.{Tally};
+ghost use Rattle.std.specs.Prelude.{◌≡◌, ◌+◌, ◌/◌, ◌≤◌, length};
 ghost use Rattle.x509_flat.specs.Statuses.{IsStatusOf};
 ghost use Rattle.x509_flat.specs.Checks.{IsRefusalOf, Tells, TellsOf};
 
@@ -9,8 +8,8 @@ use crate::kind::Kind;
 use crate::status::{Status, status_of};
 use picky_asn1_x509::{
     AlgorithmIdentifier, Certificate, CertificationRequest, ECPrivateKey, Extensions, FromDer,
-    Name, PrivateKeyInfo, RawAlgorithmIdentifier, ReadError, Refused, RsaPrivateKey, RsaPublicKey,
-    SubjectPublicKeyInfo, read_explained, read_metered,
+    Name, PrivateKeyInfo, RawAlgorithmIdentifier, Refused, RsaPrivateKey, RsaPublicKey,
+    SubjectPublicKeyInfo, check_metered,
 };
 use std::alloc::Allocator;
 
@@ -65,52 +64,28 @@ fn refused_by(refused: Refused, headers: usize) -> Checked
     }
 }
 
-/// Why and where bytes are refused that encode no value of a type.
-fn explain_as<T: FromDer<A>, A: Allocator + Copy>(alloc: A, bytes: &[u8], headers: usize) -> Checked
-    requires none { (v : T) (y : Tally) → T.shape.spelled v bytes.now y → ⊥ }
-    requires headers { (n : ℕ) → T.shape.min_headers bytes.now n → n ≤ headers }
-    ensures told { Tells T.shape bytes.now result.status result.verdict }
-    ensures headers { result.verdict.headers ≡ headers }
-{
-    match read_explained::<T, A>(alloc, bytes) {
-        Ok((value, _)) => {
-            drop(value);
-            let error = ReadError::OutOfMemory;
-            refused_by(Refused { error, at: 0 }, headers)
-        }
-        Err(refused) => refused_by(refused, headers),
-    }
-}
-
 /// Whether the bytes encode a value of a type.
 fn check_as<T: FromDer<A>, A: Allocator + Copy>(alloc: A, bytes: &[u8]) -> Checked
     ensures told { Tells T.shape bytes.now result.status result.verdict }
     ensures bound { result.verdict.headers ≤ length bytes.now / 2 + 1 }
 {
-    let (outcome, headers) = read_metered::<T, A>(alloc, bytes);
+    let (outcome, headers) = check_metered::<T, A>(alloc, bytes);
     match outcome {
-        Ok((value, deviations)) => {
-            drop(value);
-            Checked {
-                status: Status::Done,
-                verdict: Verdict {
-                    counts: deviations.array(),
-                    headers,
-                    error: 0,
-                    at: 0,
-                },
-            }
-        }
-        Err(ReadError::OutOfMemory) => {
-            let error = ReadError::OutOfMemory;
-            refused_by(Refused { error, at: 0 }, headers)
-        }
-        Err(_) => explain_as::<T, A>(alloc, bytes, headers),
+        Ok(deviations) => Checked {
+            status: Status::Done,
+            verdict: Verdict {
+                counts: deviations.array(),
+                headers,
+                error: 0,
+                at: 0,
+            },
+        },
+        Err(refused) => refused_by(refused, headers),
     }
 }
 
 /// Whether the bytes encode a value of a type, and how they deviate from its DER encoding; or why and where they are
-/// refused.
+/// refused. It builds no value and takes no memory.
 pub fn check<A: Allocator + Copy>(alloc: A, kind: Kind, bytes: &[u8]) -> Checked
     ensures told { TellsOf A kind bytes.now result.status result.verdict }
     ensures bound { result.verdict.headers ≤ length bytes.now / 2 + 1 }

@@ -8,7 +8,7 @@ use crate::status::{Sized, Status, unsized_of};
 use picky_asn1_x509::{
     AlgorithmIdentifier, Certificate, CertificationRequest, ECPrivateKey, Extensions, FromDer,
     Name, Place, PrivateKeyInfo, RawAlgorithmIdentifier, RsaPrivateKey, RsaPublicKey,
-    SubjectPublicKeyInfo, read_located,
+    SubjectPublicKeyInfo, check_located,
 };
 use std::alloc::Allocator;
 
@@ -62,7 +62,7 @@ fn put_places(places: &[Place], out: &mut [FlatPlace]) -> Sized
     }
 }
 
-/// Writes where each deviation stands in bytes that encode a value of a type.
+/// Writes where each deviation stands in bytes that encode a value of a type, which isn't built.
 fn places_as<T: FromDer<A>, A: Allocator + Copy>(
     alloc: A,
     bytes: &[u8],
@@ -70,16 +70,14 @@ fn places_as<T: FromDer<A>, A: Allocator + Copy>(
 ) -> Sized
     ensures { Places T.shape bytes.now out.old out.new result.status result.size }
 {
-    match read_located::<T, A>(alloc, bytes) {
-        Ok((value, places)) => {
-            drop(value);
-            put_places(&places, out)
-        }
+    match check_located::<T, A>(alloc, bytes) {
+        Ok(places) => put_places(&places, out),
         Err(error) => unsized_of(error),
     }
 }
 
-/// Writes where each deviation stands to the front of a slice, by start and then by kind, and tells how many there are.
+/// Writes where each deviation stands to the front of a slice, by start and then by kind, and tells how many there are. It takes
+/// memory for the places alone, and so none where no deviation stands in the bytes.
 pub fn places<A: Allocator + Copy>(
     alloc: A,
     kind: Kind,

@@ -5,7 +5,6 @@ ghost use Rattle.x509_flat.specs.Fields.{flat_private_key, PrivateKeyTold};
 
 use crate::span::FlatSpan;
 use crate::status::Answer;
-use picky_asn1_x509::{PrivateKeyInfo, from_bytes};
 use std::alloc::Allocator;
 use x509_fields::PrivateKeyInfoFields;
 
@@ -51,16 +50,12 @@ impl FlatPrivateKey {
     }
 }
 
-/// Where the fields of a private key stand.
+/// Where the fields of a private key stand. It takes no memory.
 pub fn private_key_fields<A: Allocator + Copy>(alloc: A, bytes: &[u8]) -> Answer<FlatPrivateKey>
     ensures { PrivateKeyTold A bytes.now result.status result.fields }
 {
-    match from_bytes::<PrivateKeyInfo<A>, A>(alloc, bytes) {
-        Ok(value) => {
-            let places = PrivateKeyInfoFields::of(&value, bytes);
-            drop(value);
-            Answer::done(FlatPrivateKey::of(places))
-        }
+    match PrivateKeyInfoFields::find(alloc, bytes) {
+        Ok(places) => Answer::done(FlatPrivateKey::of(places)),
         Err(error) => Answer::refused(error, FlatPrivateKey::none()),
     }
 }

@@ -5,7 +5,6 @@ ghost use Rattle.x509_flat.specs.Fields.{flat_request, RequestTold};
 
 use crate::span::FlatSpan;
 use crate::status::Answer;
-use picky_asn1_x509::{CertificationRequest, from_bytes};
 use std::alloc::Allocator;
 use x509_fields::CertificationRequestFields;
 
@@ -59,16 +58,12 @@ impl FlatRequest {
     }
 }
 
-/// Where the fields of a request stand.
+/// Where the fields of a request stand. It takes no memory.
 pub fn request_fields<A: Allocator + Copy>(alloc: A, bytes: &[u8]) -> Answer<FlatRequest>
     ensures { RequestTold A bytes.now result.status result.fields }
 {
-    match from_bytes::<CertificationRequest<A>, A>(alloc, bytes) {
-        Ok(value) => {
-            let places = CertificationRequestFields::of(&value, bytes);
-            drop(value);
-            Answer::done(FlatRequest::of(places))
-        }
+    match CertificationRequestFields::find(alloc, bytes) {
+        Ok(places) => Answer::done(FlatRequest::of(places)),
         Err(error) => Answer::refused(error, FlatRequest::none()),
     }
 }

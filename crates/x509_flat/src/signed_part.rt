@@ -9,7 +9,7 @@ ghost use Rattle.x509_flat.specs.Statuses.{IsStatusOf};
 
 use crate::span::FlatSpan;
 use crate::status::{Status, status_of};
-use picky_asn1_x509::{Certificate, CertificationRequest, Deviations, ReadError, SignedRead};
+use picky_asn1_x509::{Certificate, CertificationRequest, ReadError, SignedPart};
 use std::alloc::Allocator;
 
 /// Where the signed part stands, and how many deviations of each kind stand inside and outside of it.
@@ -54,20 +54,18 @@ fn refused(error: ReadError) -> SignedAnswer
     }
 }
 
-/// The answer to a read.
-fn told<T: Drop>(read: SignedRead<'_, T>) -> SignedAnswer
-    requires { read.start + length read.signed.now < 2 ^ 64 }
+/// The answer to a check.
+fn told(checked: SignedPart<'_>) -> SignedAnswer
+    requires { checked.start + length checked.signed.now < 2 ^ 64 }
     ensures status { result.status ≡ Status.Done }
-    ensures signed { IsSigned read.entry.start read.entry.signed.now read.entry.inside read.entry.outside result.signed }
+    ensures signed { IsSigned checked.entry.start checked.entry.signed.now checked.entry.inside checked.entry.outside result.signed }
 {
-    let SignedRead {
-        value,
+    let SignedPart {
         signed,
         start,
         inside,
         outside,
-    } = read;
-    drop(value);
+    } = checked;
     SignedAnswer {
         status: Status::Done,
         signed: FlatSigned {
@@ -81,22 +79,22 @@ fn told<T: Drop>(read: SignedRead<'_, T>) -> SignedAnswer
     }
 }
 
-/// The signed part of a certificate.
+/// The signed part of a certificate. It takes no memory.
 pub fn of_certificate<A: Allocator + Copy>(alloc: A, bytes: &[u8]) -> SignedAnswer
     ensures { SignedTold (certificate {A = A}) certificate_parts tbs_certificate signature_fields bytes.now result.status result.signed }
 {
-    match Certificate::read_with_signed_part(alloc, bytes) {
-        Ok(read) => told(read),
+    match Certificate::check_signed_part(alloc, bytes) {
+        Ok(checked) => told(checked),
         Err(error) => refused(error),
     }
 }
 
-/// The signed part of a request.
+/// The signed part of a request. It takes no memory.
 pub fn of_request<A: Allocator + Copy>(alloc: A, bytes: &[u8]) -> SignedAnswer
     ensures { SignedTold (request {A = A}) request_parts request_info signature_fields bytes.now result.status result.signed }
 {
-    match CertificationRequest::read_with_signed_part(alloc, bytes) {
-        Ok(read) => told(read),
+    match CertificationRequest::check_signed_part(alloc, bytes) {
+        Ok(checked) => told(checked),
         Err(error) => refused(error),
     }
 }

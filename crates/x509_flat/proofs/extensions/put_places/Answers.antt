@@ -1,10 +1,15 @@
-use Rattle.std.proofs.Common.{arith, refl}
+use Rattle.std.proofs.Common.{arith, refl, sym, ap, ◌∙◌}
+use Rattle.x509_flat.proofs.ExtensionPlaces.{counted}
 use Rattle.x509_flat.proofs.extensions.put_places.Goals as goal
 
 pub returns-then-out-size : goal.returns-then-out-size
 returns-then-out-size g c = record {
-  done = λ e. absurd (cc);
-  short = λ _. record { told = c.too_short.ensures.size; same = refl; short = omega arith };
+  puts = λ list whole later. record {
+    done = λ e. absurd (cc);
+    short = λ _.
+        let n = counted c.spellings_are_lawful.ensures.element list c.args.items.at c.args.items.rest c.args.bytes.now whole c.count-size.result c.count-size.ensures later in
+        record { told = c.too_short.ensures.size ∙ sym n; same = refl; short = omega (arith, n) };
+  };
   refused = λ e. cc;
   memory = λ e. cc;
   unknown = λ e. cc;
@@ -13,8 +18,10 @@ returns-then-out-size g c = record {
 
 pub returns : goal.returns
 returns g c = record {
-  done = λ _. c.write_places.ensures;
-  short = λ e. absurd (cc);
+  puts = λ list whole later. record {
+    done = λ _. c.write_places.ensures list whole (counted c.spellings_are_lawful.ensures.element list c.args.items.at c.args.items.rest c.args.bytes.now whole c.count-size.result c.count-size.ensures later) later;
+    short = λ e. absurd (cc);
+  };
   refused = λ e. cc;
   memory = λ e. cc;
   unknown = λ e. cc;
