@@ -11,8 +11,10 @@
  * - What is written may overlap neither the input nor anything else that the call is given.
  * - Nothing is kept between calls, so any number of threads may call at once, each with memory of its own.
  * - A call never calls malloc. It works in the memory that it is lent (struct cimaroly_memory), which is the caller's
- *   again when it returns. The forms whose names end in _malloc take that memory from malloc, ask for more where it was
- *   too little, and free it.
+ *   again when it returns. Only cimaroly_encode, cimaroly_report and, where the input has deviations, cimaroly_places
+ *   need any: for the others { NULL, 0 } will do, and they never answer CIMAROLY_OUT_OF_MEMORY. Of the stack
+ *   cimaroly_check takes less than 2 KB, whatever the size of the input (measured). The forms whose names end in
+ *   _malloc take what memory is needed from malloc, ask for more where it was too little, and free it.
  * - A result, a size or a count is written whatever the status is, and is all zeros where nothing else is said. A
  *   buffer is written with CIMAROLY_OK alone; with every other status it is as it was.
  * - Places count bytes of the input from 0. A span covers the bytes start..end, without the one at end.
@@ -179,7 +181,6 @@ struct cimaroly_extension {
  *
  * CIMAROLY_OK: it does; it is the DER encoding exactly where all ten counts are 0.
  * CIMAROLY_REFUSED: it doesn't; `error` and `at` say why and where.
- * CIMAROLY_OUT_OF_MEMORY: `error` is 1.
  * CIMAROLY_UNKNOWN_KIND.
  */
 uint32_t cimaroly_check(struct cimaroly_memory *memory, uint32_t kind, const uint8_t *der, size_t der_size,
@@ -200,7 +201,8 @@ uint32_t cimaroly_encode(struct cimaroly_memory *memory, uint32_t kind, const ui
  * deviation.
  *
  * CIMAROLY_OK, CIMAROLY_BUFFER_TOO_SHORT: *count is how many there are.
- * CIMAROLY_REFUSED, CIMAROLY_OUT_OF_MEMORY, CIMAROLY_UNKNOWN_KIND.
+ * CIMAROLY_REFUSED, CIMAROLY_UNKNOWN_KIND.
+ * CIMAROLY_OUT_OF_MEMORY: never where the input has no deviation.
  */
 uint32_t cimaroly_places(struct cimaroly_memory *memory, uint32_t kind, const uint8_t *der, size_t der_size,
                          struct cimaroly_place *places, size_t room, size_t *count);
@@ -208,7 +210,7 @@ uint32_t cimaroly_places(struct cimaroly_memory *memory, uint32_t kind, const ui
 /*
  * What the signature of a certificate or a request covers.
  *
- * CIMAROLY_OK, CIMAROLY_REFUSED, CIMAROLY_OUT_OF_MEMORY.
+ * CIMAROLY_OK, CIMAROLY_REFUSED.
  * CIMAROLY_UNKNOWN_KIND: `kind` is neither CIMAROLY_CERTIFICATE nor CIMAROLY_REQUEST.
  */
 uint32_t cimaroly_signed_part(struct cimaroly_memory *memory, uint32_t kind, const uint8_t *der, size_t der_size,
@@ -217,7 +219,7 @@ uint32_t cimaroly_signed_part(struct cimaroly_memory *memory, uint32_t kind, con
 /*
  * Where the fields of a certificate, a request or a private key stand.
  *
- * CIMAROLY_OK, CIMAROLY_REFUSED, CIMAROLY_OUT_OF_MEMORY.
+ * CIMAROLY_OK, CIMAROLY_REFUSED.
  */
 uint32_t cimaroly_certificate_fields(struct cimaroly_memory *memory, const uint8_t *der, size_t der_size,
                                      struct cimaroly_certificate *fields);
@@ -231,7 +233,7 @@ uint32_t cimaroly_private_key_fields(struct cimaroly_memory *memory, const uint8
  * `room` of them.
  *
  * CIMAROLY_OK, CIMAROLY_BUFFER_TOO_SHORT: *count is how many there are.
- * CIMAROLY_REFUSED, CIMAROLY_OUT_OF_MEMORY.
+ * CIMAROLY_REFUSED.
  * CIMAROLY_UNKNOWN_KIND: `kind` is neither CIMAROLY_CERTIFICATE nor CIMAROLY_EXTENSIONS.
  */
 uint32_t cimaroly_extensions(struct cimaroly_memory *memory, uint32_t kind, const uint8_t *der, size_t der_size,
@@ -310,8 +312,8 @@ static inline bool cimaroly_more_memory(struct cimaroly_memory *memory, size_t d
 }
 
 /*
- * The calls over memory from malloc. CIMAROLY_OUT_OF_MEMORY: malloc refused it, and the results are as they were or all
- * zeros.
+ * The calls over memory from malloc, which is asked for where the call needs some. CIMAROLY_OUT_OF_MEMORY: malloc
+ * refused it, and the results are as they were or all zeros.
  */
 #define CIMAROLY_OVER_MALLOC(der_size, call)                                                                         \
     struct cimaroly_memory lent = {NULL, 0};                                                                         \
@@ -322,10 +324,20 @@ static inline bool cimaroly_more_memory(struct cimaroly_memory *memory, size_t d
     free(lent.at);                                                                                                   \
     return status
 
+/* The same of a call that may need none. */
+#define CIMAROLY_WHERE_NEEDED(der_size, call)                                                                        \
+    struct cimaroly_memory lent = {NULL, 0};                                                                         \
+    struct cimaroly_memory *memory = &lent;                                                                          \
+    uint32_t status = call;                                                                                          \
+    while (status == CIMAROLY_OUT_OF_MEMORY && cimaroly_more_memory(memory, der_size))                               \
+        status = call;                                                                                               \
+    free(lent.at);                                                                                                   \
+    return status
+
 static inline uint32_t cimaroly_check_malloc(uint32_t kind, const uint8_t *der, size_t der_size,
                                              struct cimaroly_verdict *verdict)
 {
-    CIMAROLY_OVER_MALLOC(der_size, cimaroly_check(memory, kind, der, der_size, verdict));
+    CIMAROLY_WHERE_NEEDED(der_size, cimaroly_check(memory, kind, der, der_size, verdict));
 }
 
 static inline uint32_t cimaroly_encode_malloc(uint32_t kind, const uint8_t *der, size_t der_size, uint8_t *out,
@@ -337,37 +349,37 @@ static inline uint32_t cimaroly_encode_malloc(uint32_t kind, const uint8_t *der,
 static inline uint32_t cimaroly_places_malloc(uint32_t kind, const uint8_t *der, size_t der_size,
                                               struct cimaroly_place *places, size_t room, size_t *count)
 {
-    CIMAROLY_OVER_MALLOC(der_size, cimaroly_places(memory, kind, der, der_size, places, room, count));
+    CIMAROLY_WHERE_NEEDED(der_size, cimaroly_places(memory, kind, der, der_size, places, room, count));
 }
 
 static inline uint32_t cimaroly_signed_part_malloc(uint32_t kind, const uint8_t *der, size_t der_size,
                                                    struct cimaroly_signed *part)
 {
-    CIMAROLY_OVER_MALLOC(der_size, cimaroly_signed_part(memory, kind, der, der_size, part));
+    CIMAROLY_WHERE_NEEDED(der_size, cimaroly_signed_part(memory, kind, der, der_size, part));
 }
 
 static inline uint32_t cimaroly_certificate_fields_malloc(const uint8_t *der, size_t der_size,
                                                           struct cimaroly_certificate *fields)
 {
-    CIMAROLY_OVER_MALLOC(der_size, cimaroly_certificate_fields(memory, der, der_size, fields));
+    CIMAROLY_WHERE_NEEDED(der_size, cimaroly_certificate_fields(memory, der, der_size, fields));
 }
 
 static inline uint32_t cimaroly_request_fields_malloc(const uint8_t *der, size_t der_size,
                                                       struct cimaroly_request *fields)
 {
-    CIMAROLY_OVER_MALLOC(der_size, cimaroly_request_fields(memory, der, der_size, fields));
+    CIMAROLY_WHERE_NEEDED(der_size, cimaroly_request_fields(memory, der, der_size, fields));
 }
 
 static inline uint32_t cimaroly_private_key_fields_malloc(const uint8_t *der, size_t der_size,
                                                           struct cimaroly_private_key *fields)
 {
-    CIMAROLY_OVER_MALLOC(der_size, cimaroly_private_key_fields(memory, der, der_size, fields));
+    CIMAROLY_WHERE_NEEDED(der_size, cimaroly_private_key_fields(memory, der, der_size, fields));
 }
 
 static inline uint32_t cimaroly_extensions_malloc(uint32_t kind, const uint8_t *der, size_t der_size,
                                                   struct cimaroly_extension *extensions, size_t room, size_t *count)
 {
-    CIMAROLY_OVER_MALLOC(der_size, cimaroly_extensions(memory, kind, der, der_size, extensions, room, count));
+    CIMAROLY_WHERE_NEEDED(der_size, cimaroly_extensions(memory, kind, der, der_size, extensions, room, count));
 }
 
 static inline uint32_t cimaroly_report_malloc(uint32_t kind, const uint8_t *der, size_t der_size, bool secrets,
@@ -377,6 +389,7 @@ static inline uint32_t cimaroly_report_malloc(uint32_t kind, const uint8_t *der,
 }
 
 #undef CIMAROLY_OVER_MALLOC
+#undef CIMAROLY_WHERE_NEEDED
 
 #ifdef __cplusplus
 }

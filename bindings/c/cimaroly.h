@@ -12,8 +12,9 @@
  * - Nothing is kept between calls, so any number of threads may call at once, each with memory of its own.
  * - A call never calls malloc. It works in the memory that it is lent (struct cimaroly_memory), which is the caller's
  *   again when it returns. Only cimaroly_encode, cimaroly_report and, where the input has deviations, cimaroly_places
- *   need any: for the others { NULL, 0 } will do, and they never answer CIMAROLY_OUT_OF_MEMORY. The forms whose names
- *   end in _malloc take what memory is needed from malloc, ask for more where it was too little, and free it.
+ *   need any: for the others { NULL, 0 } will do, and they never answer CIMAROLY_OUT_OF_MEMORY. Of the stack
+ *   cimaroly_check takes less than 2 KB, whatever the size of the input (measured). The forms whose names end in
+ *   _malloc take what memory is needed from malloc, ask for more where it was too little, and free it.
  * - A result, a size or a count is written whatever the status is, and is all zeros where nothing else is said. A
  *   buffer is written with CIMAROLY_OK alone; with every other status it is as it was.
  * - Places count bytes of the input from 0. A span covers the bytes start..end, without the one at end.

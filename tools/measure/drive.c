@@ -9,8 +9,8 @@
 #include <string.h>
 #include <valgrind/callgrind.h>
 
-enum { READ, LEN, VEC, SLICE, COUNTED, LOCATED, CALLS };
-static const char *const call_names[CALLS] = {"read", "len", "vec", "slice", "counted", "located"};
+enum { READ, LEN, VEC, SLICE, COUNTED, LOCATED, CHECKED, CALLS };
+static const char *const call_names[CALLS] = {"read", "len", "vec", "slice", "counted", "located", "check"};
 
 typedef size_t Called(uint8_t call, const uint8_t *bytes, size_t len, uint8_t *out, size_t room);
 Called measured_null, measured_boolean, measured_small, measured_integer, measured_identifier, measured_octets, measured_raw,

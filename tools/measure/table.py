@@ -68,10 +68,10 @@ def is_single(name):
 
 
 def wholes(new):
-    head("Certificates, requests and keys", "Input", "bytes", "headers", "from_bytes", "read_counted", "read_located", "encoded_len", "to_vec", "write_to_slice", "alone: from_bytes", "to_vec", "requests of from_bytes", "bytes held", "at most while reading")
+    head("Certificates, requests and keys", "Input", "bytes", "headers", "check", "from_bytes", "read_counted", "read_located", "encoded_len", "to_vec", "write_to_slice", "alone: from_bytes", "to_vec", "requests of from_bytes", "bytes held", "at most while reading")
     for name in WHOLES:
         if name in new.inputs:
-            cells = [*new.inputs[name], *(new.count(name, call) for call in ("read", "counted", "located", *USES))]
+            cells = [*new.inputs[name], *(new.count(name, call) for call in ("check", "read", "counted", "located", *USES))]
             cells += [new.count(name, call, new.alone) for call in ("read", "vec")]
             cells += [new.memory[name, "read"][1], new.memory[name, "vec"][2], new.memory[name, "read"][3]]
             row(name, *map(whole, cells))
@@ -106,10 +106,10 @@ def compared(new):
 
 
 def tables(new):
-    head("Single values, instructions", "Input", "bytes", "headers", "from_bytes", "read_counted", "read_located", "encoded_len", "to_vec", "write_to_slice")
+    head("Single values, instructions", "Input", "bytes", "headers", "check", "from_bytes", "read_counted", "read_located", "encoded_len", "to_vec", "write_to_slice")
     for name, (size, headers) in new.inputs.items():
         if is_single(name):
-            row(name, whole(size), str(headers), *(whole(new.count(name, call)) for call in ("read", "counted", "located", *USES)))
+            row(name, whole(size), str(headers), *(whole(new.count(name, call)) for call in ("check", "read", "counted", "located", *USES)))
     for title, counts in (("with malloc", new.counts), ("without malloc's own", new.alone)):
         head(f"By size, instructions, {title}", "Input", "bytes", "headers", "from_bytes", "a header", "a byte", "encoded_len", "to_vec", "a header", "a byte", "write_to_slice", "a header", "a byte")
         for name, (size, headers) in new.inputs.items():
@@ -130,9 +130,9 @@ def tables(new):
     for name, (size, headers) in new.inputs.items():
         if name.startswith("nest"):
             row(name, whole(size), whole(headers), *(whole(new.count(name, call)) for call in ("read", *USES)))
-    head("Requests for memory", "Input", "from_bytes", "read_counted", "read_located", "encoded_len", "to_vec", "write_to_slice")
+    head("Requests for memory", "Input", "check", "from_bytes", "read_counted", "read_located", "encoded_len", "to_vec", "write_to_slice")
     for name in dict.fromkeys(name for name, _ in new.memory):
-        asked = {call: new.memory[name, call][1] for call in ("read", "counted", "located", *USES)}
+        asked = {call: new.memory[name, call][1] for call in ("check", "read", "counted", "located", *USES)}
         row(name, *(whole(asked[call] - (asked["read"] if call in USES else 0)) for call in asked))
     head("Bytes that a value takes from the heap", "Input", "bytes", "held", "a byte", "at most while reading", "a byte")
     for name in dict.fromkeys(name for name, _ in new.memory):

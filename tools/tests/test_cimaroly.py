@@ -76,10 +76,10 @@ class Program(unittest.TestCase):
         self.assertRegex(first, r"^cimaroly: -:1: certificate: refused: malformed time at byte \d+ \(in tbsCertificate, validity,")
         self.assertRegex(second, r"^cimaroly: -:\d+: DH PARAMETERS: passed over: ")
         for data, why, status in (
-            (b"no certificate\n", b"refused: there is no PEM block", 1),
+            (b"no certificate\n", b"refused: no PEM, DER or hexadecimal", 1),
             (b"-----BEGIN CERTIFICATE-----\nMAA=\n", b"refused: the block has no END line", 1),
             (bad, b"refused: malformed time", 1),
-            (read("algorithm.hex"), b"it may be algorithm, raw-algorithm: say which by --type", 2),
+            (read("algorithm.hex"), b"could be algorithm, raw-algorithm: choose one with --type", 2),
         ):
             with self.subTest(why):
                 out, error, ended = run("der", data=data)
@@ -89,7 +89,7 @@ class Program(unittest.TestCase):
     def test_der_of_several(self):
         out, error, status = run("der", "-", data=2 * read("certificate_rsa.pem"))
         self.assertEqual((out, status), (b"", 2))
-        self.assertIn(b"there are several structures", error)
+        self.assertIn(b"more than one structure", error)
 
     def test_pem(self):
         path = f"{DATA}/certificate_rsa.pem"
@@ -119,7 +119,7 @@ class Program(unittest.TestCase):
         out, error, status = run("check", data=data)
         self.assertEqual(
             out.decode().splitlines(),
-            ["-:1: DH PARAMETERS: passed over: the label is of no type that is read", "-:4: certificate: ok"],
+            ["-:1: DH PARAMETERS: passed over: unknown label", "-:4: certificate: ok"],
         )
         self.assertEqual(error, b"1 structure: 1 in DER, 0 with deviations, 0 refused; 1 block passed over\n")
         self.assertEqual(status, 0)
@@ -141,7 +141,7 @@ class Program(unittest.TestCase):
         good = read("certificate_rsa.pem")
         begin, end = b"-----BEGIN CERTIFICATE-----\n", b"-----END CERTIFICATE-----\n"
         for block, why in (
-            (begin + b"MAA\n" + end, "the block is no base64"),
+            (begin + b"MAA\n" + end, "invalid base64"),
             (begin + b"MAA=\n", "the block has no END line"),
             (begin + b"MAA=\n-----END X509 CERTIFICATE-----\n", "the END line has another label than the BEGIN line"),
             (begin + b"Proc-Type: 4,ENCRYPTED\n\nMAA=\n" + end, "the block has headers, as encrypted keys do"),
@@ -170,7 +170,7 @@ class Program(unittest.TestCase):
                     file.write(read("certificate_rsa.pem"))
             out, error, status = run("check", room)
             self.assertEqual(out.decode(), f"{room}/a.pem:1: certificate: ok\n{room}/c.pem:1: certificate: ok\n")
-            self.assertIn(f"cimaroly: {room}: names that are no text in UTF-8, and can't be opened: 1\n".encode(), error)
+            self.assertIn(f"cimaroly: {room}: file names that aren't valid UTF-8 and can't be opened: 1\n".encode(), error)
             self.assertEqual(status, 4)
             self.assertEqual(run("check", os.path.join(room.encode(), b"b\xff.pem"))[2], 2)
 
@@ -197,7 +197,7 @@ class Program(unittest.TestCase):
             file.write(b"\x30\x84\x04\x00\x00\x00")
             file.truncate(6 + (64 << 20))
             out, _, status = run("check", file.name)
-        self.assertEqual((out.decode(), status), (f"{file.name}: refused: it is no PEM, and has 64 MiB or more\n", 1))
+        self.assertEqual((out.decode(), status), (f"{file.name}: refused: input other than PEM must be under 64 MiB\n", 1))
 
     def test_progress(self):
         """A line each second on standard error, and none where it isn't asked for."""
@@ -294,7 +294,7 @@ class Program(unittest.TestCase):
 
     def test_several_types(self):
         out, _, status = run("check", f"{DATA}/algorithm.hex")
-        self.assertIn(b"it may be algorithm, raw-algorithm: say which by --type", out)
+        self.assertIn(b"could be algorithm, raw-algorithm: choose one with --type", out)
         self.assertEqual(status, 2)
         self.assertEqual(run("check", "--type", "algorithm", f"{DATA}/algorithm.hex")[2], 0)
 

@@ -91,7 +91,7 @@ class RawBlock(NamedTuple):
             raise PemError(self.fault)
 
     def _no_base64(self, error: ValueError) -> PemError:
-        return PemError(f"line {self.line}: the block is no base64: {error}")
+        return PemError(f"line {self.line}: invalid base64: {error}")
 
 
 def viewed(data: Data) -> memoryview:

@@ -8,10 +8,10 @@ use std::env;
 use std::io::ErrorKind;
 use std::process::ExitCode;
 
-/// What is said where an argument is no text.
+/// What is said where an argument isn't text.
 const NO_TEXT: &str =
-    "an argument is no text in UTF-8: a file with such a name can be given as standard input, as in \
-    cimaroly show - < FILE";
+    "an argument isn't valid UTF-8: pass a file with such a name on standard input, as in cimaroly show \
+    - < FILE";
 
 /// Does what the command line asks for.
 fn outcome(rt: &HostRuntime) -> Result<Status, Stop> {

@@ -93,7 +93,7 @@ fn check_command<'a>(alloc: Global) -> Result<Command<'a>, AllocError> {
         .arg(flag(
             alloc,
             "progress",
-            "Tell standard error each second how far the work is",
+            "Report progress on standard error every second",
         ))?
         .arg(kind_option(alloc))?
         .arg(paths(

@@ -117,7 +117,7 @@ where
         session.tally.note(Status::Failed);
         let folder = ShownBytes(path.as_bytes());
         eprintln!(rt;
-            "cimaroly: {folder}: names that are no text in UTF-8, and can't be opened: {nameless}"
+            "cimaroly: {folder}: file names that aren't valid UTF-8 and can't be opened: {nameless}"
         )?;
     }
     for _ in 0..paths.len() {

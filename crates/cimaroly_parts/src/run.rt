@@ -9,7 +9,7 @@ use x509_inspect::Source;
 use x509_pem::{Block, Fault, PemError, PemReader};
 
 /// What is said of an input that is no PEM, and too long to be a structure (`LONGEST`).
-const TOO_LONG: &str = "it is no PEM, and has 64 MiB or more";
+const TOO_LONG: &str = "input other than PEM must be under 64 MiB";
 
 /// Works on a PEM block that was read.
 fn block<W: Write>(

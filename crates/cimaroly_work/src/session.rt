@@ -9,7 +9,7 @@ use std::io::Write;
 use x509_inspect::{Kind, Source, push_note};
 
 /// What is said of a file that has nothing in it which is read. (Every type is a SEQUENCE.)
-pub const NOTHING: &str = "there is no PEM block of a type that is read, no DER and no hexadecimal";
+pub const NOTHING: &str = "no PEM, DER or hexadecimal that can be read";
 
 /// Where the work stands: what was asked for, what was found, and memory that is used again.
 #[derive(Drop)]
@@ -115,11 +115,7 @@ impl<'w, W: Write> Session<'w, W> {
     /// Output failed, or memory is refused.
     pub(crate) fn pass_over(&mut self, source: Source<'_>) -> Result<(), Stop> {
         self.tally.pass_over();
-        self.note(
-            source,
-            "passed over",
-            "the label is of no type that is read",
-        )
+        self.note(source, "passed over", "unknown label")
     }
 
     /// The type that everything is read as, or the one of a label.

@@ -11,7 +11,7 @@ use std::io::{self, ErrorKind};
 pub struct Stop {
     /// The status.
     pub status: Status,
-    /// What standard error is told. Where what reads the output has ended, nothing is.
+    /// What is written to standard error: nothing, if the pipe was closed.
     pub error: Option<Error>,
 }
 

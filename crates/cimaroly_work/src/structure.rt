@@ -54,17 +54,16 @@ impl<W: Write> Session<'_, W> {
             return self.refuse(source, NOTHING);
         }
         match determine(self.alloc, bytes) {
-            Ok(Determined::One(kind) | Determined::None(kind, _)) => {
+            Determined::One(kind) | Determined::None(kind, _) => {
                 self.structure(source, kind, bytes)
             }
-            Ok(Determined::Several(kinds)) => {
+            Determined::Several(kinds) => {
                 self.tally.note(Status::Usage);
                 let text = format!(in self.alloc;
-                    "it may be {kinds}: say which by --type, as in --type algorithm"
+                    "could be {kinds}: choose one with --type, as in --type algorithm"
                 )?;
                 self.refuse(source, text.as_str())
             }
-            Err(_) => Err(Stop::memory()),
         }
     }
 
@@ -179,7 +178,7 @@ impl<W: Write> Session<'_, W> {
     fn encode(&mut self, source: Source<'_>, kind: Kind, bytes: &[u8]) -> Result<(), Stop> {
         if self.encoding.is_some() {
             return Err(Stop::usage(Error::msg(
-                "there are several structures: write them as PEM, as in cimaroly der --pem FILE",
+                "more than one structure: write them as PEM, as in cimaroly der --pem FILE",
             )));
         }
         match encoded(self.alloc, kind, bytes) {
@@ -212,7 +211,7 @@ impl<W: Write> Session<'_, W> {
     fn pem(&mut self, kind: Kind, encoding: &[u8]) -> Result<(), Stop> {
         let Some(label) = kind.label() else {
             return Err(Stop::usage(Error::msg(format_args!(
-                "a structure of the type {} has no PEM label: leave --pem out",
+                "there is no PEM label for {}: leave out --pem",
                 kind.name()
             ))));
         };

@@ -218,7 +218,7 @@ impl<A: Allocator> Block<A> {
     /// Ends the block, and decodes what is left of its text.
     ///
     /// # Errors
-    /// `LabelMismatch`, exactly where the label is another; else the text is no base64, or memory is refused. No block
+    /// `LabelMismatch`, exactly where the label is another; else the text is invalid base64, or memory is refused. No block
     /// is open in any case.
     fn close(&mut self, label: &[u8]) -> Result<(), Fault>
         requires { (state_of self.old).is_open ≡ true }

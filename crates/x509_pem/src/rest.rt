@@ -10,7 +10,7 @@ use std::alloc::Allocator;
 /// Appends the bytes that a text stands for.
 ///
 /// # Errors
-/// The text is no base64, or memory is refused. The bytes are what they were then.
+/// The text is invalid base64, or memory is refused. The bytes are what they were then.
 pub(crate) fn decode_rest<A: Allocator>(
     text: &[u8],
     bytes: &mut Vec<u8, A>,
