@@ -24,6 +24,13 @@ NAMES = re.compile(r"has no field|is not in scope|has no `|was not admitted|\(ne
 LIMIT = re.compile(r"could not tell|ran out of (stack|the (steps|memory))|outgrew the memory limit|stopped at the step limit \(")
 # A search for a proof ended at a bound of its own.
 GAVE_UP = re.compile(r"gave up at one of its limits|stopped at its own limit")
+# A line that begins what is said next. Any other one goes on with the message in front of it.
+BEGINS = re.compile(
+    r"\S+:\d+(?::\d+)?: |(?:only|logic)=|(?:by-macro|error|help|note|rattle|rt|so far|warning): "
+    r"|(?:checked|closure|const|crate|enum|fn|impl|library|logic|mod|statements|static|struct|trait|type|union) \S+[:,] "
+)
+# What is said of a function or a place, which may go over several lines.
+GOES_ON = re.compile(r"\S+:\d+(?::\d+)?: |note: |fn ")
 
 
 class Copy:
@@ -115,6 +122,17 @@ def check_of(name, folder):
     return words
 
 
+def joined(text):
+    """What a check printed, with each message on a line of its own."""
+    lines = []
+    for line in text.split("\n"):
+        if lines and GOES_ON.match(lines[-1]) and not BEGINS.match(line):
+            lines[-1] = f"{lines[-1]} {line.strip()}".rstrip()
+        else:
+            lines.append(line)
+    return "\n".join(lines)
+
+
 # What a check came to for a function.
 PROVED, REFUSED, WAITING, LOST, NO_VERDICT, UNKNOWN = "proved", "refused", "waiting", "lost", "no verdict", "unknown"
 
@@ -123,8 +141,9 @@ class Said:
     """What a check of a crate printed."""
 
     def __init__(self, crate, text):
-        self.crate, self.text = crate, text
-        self.told = {path: why for name, path, why in re.findall(r"(?m)^fn (\w+)::(\S+?): (.*)", text) if name == crate}
+        self.crate, self.text = crate, joined(text)
+        told = re.findall(r"(?m)^fn (\w+)::(\S+?): (.*)", self.text)
+        self.told = {path: why for name, path, why in told if name == crate}
 
     def is_whole(self):
         """Whether the prover came to an end."""

@@ -339,6 +339,51 @@ only=9 proved=1
         self.assertTrue(said.is_whole())
         self.assertFalse(trial.Said("tiny", "fn tiny::a::good: proved\nrattle: no verdict").is_whole())
 
+    # The same, of messages that go over two lines or more.
+    LONG = """./proofs/a/lost/Answers.antt:5:26: error: `returns`: record `Rattle.tiny.proofs.a.lost.Given.Live`
+has no field `count` — the fields that can be named here are `byte-index`
+./proofs/a/far/Answers.antt:7:3: error: `returns`: `octets (header content) (length content) (b ::
+  bytes)` names what it can't:
+
+  `octets` is not in scope: not a local variable, nor a definition admitted earlier
+./proofs/a/goal/Answers.antt:5:13: error: `returns`: `search`: no proof of
+  `x ≡ y`
+fn tiny::a::goal: not proved
+./proofs/a/deep/Answers.antt:5:13: error: `returns`: antt
+ran out of the steps that the check of one declaration may take
+fn tiny::a::lost: not proved
+fn tiny::a::far: not proved
+fn tiny::a::deep: not proved
+note: src/a.rt:25:5: it is not proved that the invariant of
+the loop holds (`loop`)
+fn tiny::a::wrong: no proof: expected answers in ./proofs/a/wrong/Answers.antt;
+`search` did not prove `loop`
+fn tiny::a::calls: no proof:
+it calls `tiny::a::wrong`, which is not proved
+only=6 proved=0
+"""
+
+    def test_messages_over_several_lines(self):
+        said = trial.Said("tiny", self.LONG)
+        for path, fate, why in (
+            ("a::lost", trial.LOST, "has no field `count`"),
+            ("a::far", trial.LOST, "`octets` is not in scope"),
+            ("a::goal", trial.REFUSED, "no proof of `x ≡ y`"),
+            ("a::deep", trial.NO_VERDICT, "ran out of the steps"),
+            ("a::wrong", trial.REFUSED, "the invariant of the loop holds (`loop`)"),
+            ("a::calls", trial.WAITING, "it calls `tiny::a::wrong`"),
+        ):
+            with self.subTest(path):
+                self.assertEqual(said.fate_of(path)[0], fate)
+                self.assertIn(why, said.fate_of(path)[1])
+        self.assertTrue(said.is_whole())
+        for line in (
+            "./src/a.rt:3:4: error: `a::b`: `x` here\nis not in scope\n",
+            "./src/a.rt:3:4: error: `a::b`: `x is not in scope` is no\nproof\n./src/a.rt:4:1: error: `a::c`: is not in scope\n",
+        ):
+            self.assertIn("is not in scope", trial.Said("tiny", line).unread({}))
+        self.assertFalse(trial.Said("tiny", "./src/a.rt:3:4: error: `a::b`: no proof of `x\nis not in scope`\n").unread({}))
+
     def test_an_unreadable_text(self):
         line = "./src/a.rt:3:4: error: expected `;`\n"
         self.assertTrue(trial.Said("tiny", line).unread({}))
