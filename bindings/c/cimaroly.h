@@ -1,3 +1,4 @@
+/* SPDX-License-Identifier: MIT OR Apache-2.0 */
 /*
  * cimaroly.h: check, encode and look into X.509 structures in DER.
  *
@@ -29,6 +30,12 @@
 #include <stddef.h>
 #include <stdint.h>
 #include <stdlib.h>
+
+/* The version of this header, by Semantic Versioning. */
+#define CIMAROLY_VERSION "0.1.0"
+#define CIMAROLY_VERSION_MAJOR 0
+#define CIMAROLY_VERSION_MINOR 1
+#define CIMAROLY_VERSION_PATCH 0
 
 #ifdef __cplusplus
 extern "C" {

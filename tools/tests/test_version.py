@@ -11,6 +11,7 @@ from cimaroly_program import NEEDS_PROGRAM, PROGRAM, ROOT
 LICENCE = "MIT OR Apache-2.0"
 # Where the version stands, as the one group of a pattern.
 VERSIONS = {
+    "bindings/c/cimaroly.h": r'^#define CIMAROLY_VERSION "(.*)"$',
     "bindings/python/pyproject.toml": r'^version = "(.*)"$',
     "bindings/python/cimaroly/__init__.py": r'^__version__ = "(.*)"$',
     "bindings/rust/Cargo.toml": r'^version = "(.*)"$',
@@ -22,6 +23,7 @@ VERSIONS = {
 }
 # Where the licence stands.
 LICENCES = {
+    "bindings/c/cimaroly.h": f"/* SPDX-License-Identifier: {LICENCE} */\n",
     "NOTICE": f"\nSPDX-License-Identifier: {LICENCE}\n",
     "bindings/python/pyproject.toml": f'\nlicense = "{LICENCE}"\n',
     "bindings/python/cimaroly/__init__.py": f"# SPDX-License-Identifier: {LICENCE}\n",
@@ -50,6 +52,10 @@ class VersionTest(unittest.TestCase):
         for path, pattern in VERSIONS.items():
             with self.subTest(path):
                 self.assertEqual(re.findall(pattern, text_of(path), re.MULTILINE), [self.version])
+
+    def test_parts_of_the_header(self):
+        parts = re.findall(r"^#define CIMAROLY_VERSION_(?:MAJOR|MINOR|PATCH) (\d+)$", text_of("bindings/c/cimaroly.h"), re.MULTILINE)
+        self.assertEqual(".".join(parts), self.version)
 
     @NEEDS_PROGRAM
     def test_the_program(self):

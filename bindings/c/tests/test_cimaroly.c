@@ -233,6 +233,14 @@ static struct given given_of(const struct row *row, uint8_t *out, size_t out_siz
     return given;
 }
 
+/* Whether a call may answer that the memory was too little: most need none. */
+static bool may_need_memory(const struct call *call, const struct told *right)
+{
+    if (call == &calls[PLACES])
+        return right->status != CIMAROLY_OK || right->count > 0;
+    return call == &calls[ENCODE] || call == &calls[REPORT];
+}
+
 /* With so much lent memory the answer is the one with plenty of it, or that the memory was too little. */
 static size_t is_same_with(const struct row *row, const struct call *call, const struct told *right, const uint8_t *out,
                              size_t size)
@@ -246,6 +254,7 @@ static size_t is_same_with(const struct row *row, const struct call *call, const
     expect(memory.at == lent.at && memory.size == size, row, call->name, "the memory isn't given back");
     expect(is_front_whole(lent) && is_front_whole(buffer), row, call->name, "bytes in front of a buffer");
     if (told.status == CIMAROLY_OUT_OF_MEMORY) {
+        expect(may_need_memory(call, right), row, call->name, "memory that isn't needed");
         expect(is_filling(buffer.at, used), row, call->name, "the buffer, with too little memory");
         expect(call->unit == 0 || told.count == 0, row, call->name, "the count, with too little memory");
     } else {
