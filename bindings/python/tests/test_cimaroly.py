@@ -289,7 +289,7 @@ class Input(unittest.TestCase):
             cimaroly.read(file("rsa_private_key_encrypted.pem"), "rsa-private-key")
         with self.assertRaisesRegex(cimaroly.PemError, "line 1: .* has no end"):
             cimaroly.read(file("certificate_ec.pem").replace(b"-----END", b"-----"))
-        with self.assertRaisesRegex(cimaroly.PemError, "no base64"):
+        with self.assertRaisesRegex(cimaroly.PemError, "invalid base64"):
             cimaroly.read("-----BEGIN CERTIFICATE-----\nMII*\n-----END CERTIFICATE-----\n")
 
     def test_what_is_no_data(self) -> None:

@@ -13,7 +13,7 @@ complete -c cimaroly -n '__fish_seen_subcommand_from show' -l type -x -a 'certif
 complete -c cimaroly -n '__fish_seen_subcommand_from show' -s h -l help -d 'Print help'
 complete -c cimaroly -n '__fish_seen_subcommand_from check' -l json -d 'Print one JSON object for each structure'
 complete -c cimaroly -n '__fish_seen_subcommand_from check' -s q -l quiet -d 'Print nothing; the exit status tells'
-complete -c cimaroly -n '__fish_seen_subcommand_from check' -l progress -d 'Tell standard error each second how far the work is'
+complete -c cimaroly -n '__fish_seen_subcommand_from check' -l progress -d 'Report progress on standard error every second'
 complete -c cimaroly -n '__fish_seen_subcommand_from check' -l type -x -a 'certificate request private-key public-key rsa-private-key rsa-public-key ec-private-key name extensions algorithm raw-algorithm' -d 'Read everything as this type, whatever its label'
 complete -c cimaroly -n '__fish_seen_subcommand_from check' -s h -l help -d 'Print help'
 complete -c cimaroly -n '__fish_seen_subcommand_from der' -l pem -d 'Write it as PEM, and of any number of structures'
