@@ -17,9 +17,12 @@ WAITS = re.compile(r"it (calls|passes|waits) ")
 STALE = re.compile(r"module .Rattle-\w+-.*Run the lower steps again|was built over another build of")
 # An error that says that a text can't be read, and not that it isn't proved.
 ERROR = re.compile(r"(?m)^(?:\./)?(\S+?):\d+:\d+: error: (?:(`[^`]*`): )?(.*)")
-READING = re.compile(r"is not in scope|has no field|is no name|operand is missing|expected the end|cannot continue")
-# An error about a name that a proof has and the code doesn't have any more.
-NAMES = re.compile(r"has no field|is not in scope|has no `|was not admitted|\(nearest: ")
+READING = re.compile(
+    r"is not in scope(?! here, so what is shown)|has no field|is no name|operand is missing|expected the end|cannot continue"
+)
+# An error about a name that a proof has and the code doesn't have any more. (Where two types differ, a line below may say of a
+# variable that is printed that it "is not in scope here, so what is shown does not paste back".)
+NAMES = re.compile(r"has no field|is not in scope(?! here, so what is shown)|has no `|was not admitted|\(nearest: ")
 # The prover ended without a verdict.
 LIMIT = re.compile(r"could not tell|ran out of (stack|the (steps|memory))|outgrew the memory limit|stopped at the step limit \(")
 # A search for a proof ended at a bound of its own.

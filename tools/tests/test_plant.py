@@ -349,6 +349,10 @@ has no field `count` — the fields that can be named here are `byte-index`
 ./proofs/a/goal/Answers.antt:5:13: error: `returns`: `search`: no proof of
   `x ≡ y`
 fn tiny::a::goal: not proved
+./proofs/a/differs/Answers.antt:5:13: error: `returns`: as printed, the two types differ only where one has `a` (expected)
+  and the other has `b` (found)
+  `A` is not in scope here, so what is shown does not paste back as it stands
+fn tiny::a::differs: not proved
 ./proofs/a/deep/Answers.antt:5:13: error: `returns`: antt
 ran out of the steps that the check of one declaration may take
 fn tiny::a::lost: not proved
@@ -360,7 +364,7 @@ fn tiny::a::wrong: no proof: expected answers in ./proofs/a/wrong/Answers.antt;
 `search` did not prove `loop`
 fn tiny::a::calls: no proof:
 it calls `tiny::a::wrong`, which is not proved
-only=6 proved=0
+only=7 proved=0
 """
 
     def test_messages_over_several_lines(self):
@@ -369,6 +373,7 @@ only=6 proved=0
             ("a::lost", trial.LOST, "has no field `count`"),
             ("a::far", trial.LOST, "`octets` is not in scope"),
             ("a::goal", trial.REFUSED, "no proof of `x ≡ y`"),
+            ("a::differs", trial.REFUSED, "the two types differ"),
             ("a::deep", trial.NO_VERDICT, "ran out of the steps"),
             ("a::wrong", trial.REFUSED, "the invariant of the loop holds (`loop`)"),
             ("a::calls", trial.WAITING, "it calls `tiny::a::wrong`"),
