@@ -60,7 +60,7 @@ pub use x509_keys::{
 
 // Names, times and character strings.
 pub use x509_names::{
-    AttributeTypeAndValue, AttributeTypeAndValueParameters, Boxed, DirectoryName, DirectoryString,
+    AttributeTypeAndValue, AttributeTypeAndValueParameters, DirectoryName, DirectoryString,
     EdiPartyName, GeneralName, GeneralNames, Name, NameAttr, NamePrettyFormatter, OtherName,
     RdnSequence, RelativeDistinguishedName, Time, Validity, Version,
 };

@@ -22,6 +22,7 @@ pub mod Partly
 pub mod Retagged
 pub mod ObjectIdentifier
 pub mod OidContent
+pub mod ShortContent
 pub mod OidLast
 pub mod BitEdits
 pub mod BitString

@@ -8,6 +8,16 @@ use std::alloc::{AllocError, Allocator};
 pub trait CloneEq: Clone {
     /// What may be a clone of a value is that value.
     ghost exact: { (x y : Self) → Self.is_clone x y → y ≡ x };
+
+    /// A value equal to this one, by its `clone`.
+    ///
+    /// # Errors
+    /// `AllocError` where memory is refused.
+    final fn clone_eq(&self) -> Result<Self, AllocError>
+        ensures { IfOk result (λ copy. copy ≡ self.now) }
+    {
+        self.clone()
+    }
 }
 
 impl CloneEq for () {

@@ -13,11 +13,13 @@ use crate::traits::{AnyDefinedBy, Field, ToDer};
 use std::alloc::Allocator;
 use std::marker::Model;
 
-/// Goes back to a key that allows no value that is known: then nothing behind it was looked at.
+/// Goes back to a key that allows no value that is known, and to one whose value is missing: it is the key that is told,
+/// and not what stands behind the whole.
 fn stand_at_key<A: Allocator>(error: ReadError, reader: &mut Reader<'_, A>, key: Spot, value: Spot)
     ensures { MayGoBack reader.old reader.new key }
 {
-    if error == ReadError::Unsupported && reader.spot().start == value.start {
+    let is_at_key = error == ReadError::Unsupported || reader.is_empty();
+    if is_at_key && reader.spot().start == value.start {
         reader.go_back(key);
     }
 }
@@ -27,7 +29,7 @@ fn stand_at_key<A: Allocator>(error: ReadError, reader: &mut Reader<'_, A>, key:
 ///
 /// # Errors
 /// A read is refused where the key is, or where no value that the key allows follows it. Where the key allows none that is
-/// known, the reader then stands where the key begins.
+/// known, and where none follows at all, the reader then stands where the key begins.
 #[derive(Drop)]
 pub struct DefinedBy<K, V>(pub K, pub V);
 

@@ -7,10 +7,9 @@ use Rattle.x509_der.specs.Tagged.{tagged}
 use Rattle.x509_der.specs.Optional.{OptionalAt}
 use Rattle.x509_der.specs.Fields.{FieldAt, Stands}
 use Rattle.x509_der.specs.ObjectIdentifier.{oids}
-use Rattle.x509_der.specs.Integer.{integers}
 use Rattle.x509_der.specs.PrimitiveContent.{octets}
 use Rattle.x509_keys_parts.specs.HashAlgorithms.{hash_name, null, hash_algorithm}
-use Rattle.x509_keys_parts.specs.RsassaPss.{mask_gen, salt_of}
+use Rattle.x509_keys_parts.specs.RsassaPss.{mask_gen, salt_lengths, salt_of}
 use Rattle.x509_keys_parts.specs.AlgorithmIdentifier.{algorithm_identifier}
 use Rattle.x509_keys_parts.specs.declared.hash_algorithm.HashAlgorithm.{HashAlgorithm}
 use Rattle.x509_keys_parts.specs.declared.rsassa_pss.MaskGenAlgorithm.{MaskGenAlgorithm}
@@ -51,7 +50,7 @@ pub record PssAt {A : Type 0} (v : RsassaPssParams A) (string : List ℕ) (y : T
   pub means : salt_of salt ≡ Some (v.salt_length, kinds)
   pub hash_at : Stands (tagged 160 hash_algorithm) v.hash_algorithm (header content) hashes string y
   pub mask_at : Stands (tagged 161 mask_gen) v.mask_gen_algorithm (header content + length hashes) masks string y
-  pub salt_at : Stands (tagged 162 (tagged 2 integers)) salt (header content + length hashes + length masks) salts string y
+  pub salt_at : Stands (tagged 162 salt_lengths) salt (header content + length hashes + length masks) salts string y
 
 -- the algorithm, and the digest behind it
 pub record DigestInfoAt {A : Type 0} (v : DigestInfo A) (string : List ℕ) (y : Tally) : Type 0 where

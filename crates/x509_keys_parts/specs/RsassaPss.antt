@@ -1,5 +1,5 @@
 -- Parameters of RSASSA-PSS, and of its mask generation function (RFC 4055, 2.2 and 3.1).
-use Rattle.std.specs.Prelude.{ℕ, ◌<◌, ◌^◌, nat_lt, if◌then◌else◌, List, [], ◌∷◌, Option, Some, None}
+use Rattle.std.specs.Prelude.{◌≡◌, false, ℕ, ◌<◌, ◌^◌, nat_lt, if◌then◌else◌, List, [], ◌∷◌, Option, Some, None}
 use Rattle.x509_der.specs.Types.{Deviation}
 use Rattle.x509_der.specs.Types.deviation
 use Rattle.x509_der.specs.declared.integer.Magnitude.{Magnitude}
@@ -11,6 +11,7 @@ use Rattle.x509_der.specs.Structure.{structure}
 use Rattle.x509_der.specs.ObjectIdentifier.{oids}
 use Rattle.x509_der.specs.Integer.{sign_bit, unsigned_value, integers, natural_content}
 use Rattle.x509_der.specs.View.{Meaning, seen}
+use Rattle.x509_der.specs.Partly.{unmarked}
 use Rattle.x509_keys_parts.specs.HashAlgorithms.{hash_algorithm, hash_len}
 use Rattle.x509_keys_parts.specs.declared.hash_algorithm.HashAlgorithm.{HashAlgorithm}
 use Rattle.x509_keys_parts.specs.declared.rsassa_pss.MaskGenAlgorithm.{MaskGenAlgorithm}
@@ -37,10 +38,24 @@ mgf1 h = record { mask_gen_algorithm = 1 ∷ 2 ∷ 840 ∷ 113549 ∷ 1 ∷ 1 �
 abbrev pub PssFields : Type 0 → Type 0
 PssFields A = HashAlgorithm × (MaskGenAlgorithm A × List ℕ)
 
-abbrev pub pss_inner : {A : Type 0} → Shape (PssFields A)
-pss_inner = join (λ j. j.0) (λ j. j.1) (tagged 160 hash_algorithm) (join (λ j. j.0) (λ j. j.1) (tagged 161 mask_gen) (tagged 162 (tagged 2 integers)))
+-- the content of an INTEGER that isn't negative; another means nothing
+abbrev pub natural_of : List ℕ → Option (List ℕ)
+natural_of c = if sign_bit c then None else Some c
 
--- SEQUENCE { hashAlgorithm [0] HashAlgorithm, maskGenAlgorithm [1] MaskGenAlgorithm, saltLength [2] INTEGER }
+abbrev pub salt_base : Shape (List ℕ)
+salt_base = tagged 2 integers
+
+abbrev pub salt_meaning : Meaning (List ℕ) (List ℕ)
+salt_meaning = record { of = λ c. unmarked (natural_of c); back = λ c. c; valid = λ c. (sign_bit c ≡ false) × salt_base.valid c; readable = salt_base.readable }
+
+-- INTEGER (0..MAX)
+abbrev pub salt_lengths : Shape (List ℕ)
+salt_lengths = seen salt_meaning salt_base
+
+abbrev pub pss_inner : {A : Type 0} → Shape (PssFields A)
+pss_inner = join (λ j. j.0) (λ j. j.1) (tagged 160 hash_algorithm) (join (λ j. j.0) (λ j. j.1) (tagged 161 mask_gen) (tagged 162 salt_lengths))
+
+-- SEQUENCE { hashAlgorithm [0] HashAlgorithm, maskGenAlgorithm [1] MaskGenAlgorithm, saltLength [2] INTEGER (0..MAX) }
 -- (RFC 4055, 3.1): all three stand there
 abbrev pub pss_base : {A : Type 0} → Shape (PssFields A)
 pss_base = tagged 48 pss_inner

@@ -13,6 +13,7 @@ use crate::aes::AesParameters;
 use crate::ec_parameters::EcParameters;
 use crate::hash_algorithm::HashAlgorithm;
 use crate::key_kind::{KeyKind, key_kind};
+use crate::pss_form::{pass_pss, read_pss};
 use crate::rsassa_pss::{MaskGenAlgorithm, RsassaPssParams};
 use std::alloc::{Allocator, Global};
 use x509_der::parts::{AnyDefinedBy, Field, OidRef, Optional, Output, Reader, pass_oid};
@@ -115,7 +116,7 @@ fn end_alike(one: &[u8], other: &[u8]) -> bool
 }
 
 /// Whether an object identifier has this content.
-fn has_content(identifier: &OidRef<'_>, content: &[u8]) -> bool
+pub(crate) fn has_content(identifier: &OidRef<'_>, content: &[u8]) -> bool
     ensures { result ≡ is_arcs identifier.now (arcs_spelled content.now) }
 {
     end_alike(identifier.content(), content) && identifier.is_content(content)
@@ -144,15 +145,16 @@ fn is_bare_algorithm(identifier: &OidRef<'_>) -> bool
     is_among(identifier, BARE_CONTENTS)
 }
 
-/// The kind that an object identifier says.
+/// The kind that an object identifier says. Contents are compared, and arcs are decoded of the last kinds alone.
+#[tactic(auto, unfolding(x509_der::specs::ObjectIdentifier::numbers_from))]
 pub fn kind_of(identifier: &OidRef<'_>) -> AlgorithmKind
     ensures { result ≡ kind_by identifier.now }
 {
     if is_rsa_algorithm(identifier) {
         AlgorithmKind::Rsa
-    } else if identifier.is_arcs(&[1, 2, 840, 113549, 1, 1, 10]) {
+    } else if has_content(identifier, &[0x2A, 0x86, 0x48, 0x86, 0xF7, 0x0D, 1, 1, 10]) {
         AlgorithmKind::RsassaPss
-    } else if identifier.is_arcs(&[1, 2, 840, 10045, 2, 1]) {
+    } else if has_content(identifier, &[0x2A, 0x86, 0x48, 0xCE, 0x3D, 2, 1]) {
         AlgorithmKind::EcPublicKey
     } else if is_bare_algorithm(identifier) {
         AlgorithmKind::Bare
@@ -227,9 +229,9 @@ fn read_as<A: Allocator + Copy>(
 {
     match kind {
         AlgorithmKind::Rsa => Ok(if_null(Optional::read(alloc, reader)?)),
-        AlgorithmKind::RsassaPss => Ok(AlgorithmIdentifierParameters::RsassaPss(
-            RsassaPssParams::read(alloc, reader)?,
-        )),
+        AlgorithmKind::RsassaPss => Ok(AlgorithmIdentifierParameters::RsassaPss(read_pss(
+            alloc, reader,
+        )?)),
         AlgorithmKind::EcPublicKey => Ok(AlgorithmIdentifierParameters::Ec(EcParameters::read(
             alloc, reader,
         )?)),
@@ -280,7 +282,7 @@ fn pass_as<A: Allocator + Copy>(
             Ok(is_left_out(there))
         }
         AlgorithmKind::RsassaPss => {
-            RsassaPssParams::pass(alloc, reader)?;
+            pass_pss(alloc, reader)?;
             Ok(false)
         }
         AlgorithmKind::EcPublicKey => {

@@ -5,7 +5,7 @@ ghost use Rattle.std.specs.List.{list_any};
 ghost use Rattle.x509_der.specs.ObjectIdentifier.{is_arcs};
 ghost use Rattle.x509_keys_parts.specs.KeyKinds.{ed_algorithms, mldsa_algorithms, key_kind};
 
-use crate::algorithm_parameters::is_among;
+use crate::algorithm_parameters::{has_content, is_among};
 use x509_der::parts::OidRef;
 
 /// What an object identifier says of the keys of an algorithm.
@@ -52,13 +52,14 @@ fn is_mldsa_algorithm(identifier: &OidRef<'_>) -> bool
     is_among(identifier, MLDSA_CONTENTS)
 }
 
-/// The kind of keys that an object identifier says.
+/// The kind of keys that an object identifier says. Contents are compared, and no arcs are decoded.
+#[tactic(auto, unfolding(x509_der::specs::ObjectIdentifier::numbers_from))]
 pub fn key_kind(identifier: &OidRef<'_>) -> KeyKind
     ensures { result ≡ key_kind identifier.now }
 {
-    if identifier.is_arcs(&[1, 2, 840, 113549, 1, 1, 1]) {
+    if has_content(identifier, &[0x2A, 0x86, 0x48, 0x86, 0xF7, 0x0D, 1, 1, 1]) {
         KeyKind::Rsa
-    } else if identifier.is_arcs(&[1, 2, 840, 10045, 2, 1]) {
+    } else if has_content(identifier, &[0x2A, 0x86, 0x48, 0xCE, 0x3D, 2, 1]) {
         KeyKind::Ec
     } else if is_ed_algorithm(identifier) {
         KeyKind::Ed

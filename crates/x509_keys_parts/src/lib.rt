@@ -12,8 +12,10 @@ pub mod hash_algorithm;
 pub mod key_kind;
 pub mod laws;
 pub mod makers;
+mod pss_form;
 pub mod raw_algorithm_identifier;
 pub mod rsassa_pss;
+mod salt;
 mod salt_length;
 pub mod sha_variant;
 

@@ -1,7 +1,7 @@
 //! Parameters of RSASSA-PSS.
 
 ghost use Rattle.std.specs.Prelude.{MatchResult, None, Some, ◌≡◌, refl, IfOk, IfErr};
-ghost use Rattle.x509_der.specs.Types.read_error.{Unsupported};
+ghost use Rattle.x509_der.specs.Types.read_error.{BadNumber};
 ghost use Rattle.x509_der.specs.View.{kinds_in, meant};
 ghost use Rattle.x509_der.specs.Integer.{magnitude};
 ghost use Rattle.x509_der.specs.laws.Meaning.{seen_element, seen_lawful, sequence_keeps};
@@ -10,6 +10,7 @@ ghost use Rattle.x509_keys_parts.specs.RsassaPss.{salt_kinds, mask_gen_parts, ma
 ghost use Rattle.x509_keys_parts.specs.facts.RsassaPssFacts.{mask_gen_of, mask_gen_same, pss_is, pss_one};
 
 use crate::hash_algorithm::HashAlgorithm;
+use crate::salt::Salt;
 use crate::salt_length::SaltLength;
 use std::alloc::{AllocError, Allocator, Global};
 use x509_der::parts::{
@@ -184,7 +185,7 @@ type Nest<M, S> = Join<
 >;
 
 /// The fields in the SEQUENCE, owned.
-type Inner<A> = Nest<MaskGenAlgorithm<A>, IntegerAsn1<A>>;
+type Inner<A> = Nest<MaskGenAlgorithm<A>, Salt<A>>;
 
 /// The fields, owned.
 type Fields<A> = Tagged<Sequence, Inner<A>>;
@@ -213,14 +214,14 @@ impl<A: Allocator> ToDer for RsassaPssParams<A> {
 /// The salt length that an INTEGER says, and the deviation of one that is too large.
 ///
 /// # Errors
-/// `Unsupported` exactly where it is negative.
+/// `BadNumber` exactly where it is negative.
 #[tactic(auto, using(crate::specs::facts::RsassaPssFacts::salt_small, crate::specs::facts::RsassaPssFacts::salt_large, crate::specs::facts::RsassaPssFacts::salt_negative))]
 fn salt_in<A: Allocator>(salt: &IntegerAsn1<A>) -> Result<(usize, WholeDeviations), ReadError>
     ensures meaning { salt_of salt.now ≡ meant result }
-    ensures refusal { IfErr result (λ e. e ≡ Unsupported) }
+    ensures refusal { IfErr result (λ e. e ≡ BadNumber) }
 {
     if salt.is_negative() {
-        return Err(ReadError::Unsupported);
+        return Err(ReadError::BadNumber);
     }
     match salt.to_u64() {
         Some(number) => Ok((number as usize, WholeDeviations::Nothing)),
@@ -238,7 +239,7 @@ impl<A: Allocator + Copy> View<Fields<A>, A> for RsassaPssParams<A> {
 
     fn meaning(_alloc: A, parts: Fields<A>) -> Result<(Self, WholeDeviations), ReadError> {
         let Join(hash_algorithm, Join(mask_gen_algorithm, One(salt))) = parts.into_inner();
-        let (salt_length, found) = salt_in(&salt.into_value())?;
+        let (salt_length, found) = salt_in(salt.into_value().number())?;
         let parameters = RsassaPssParams {
             hash_algorithm: hash_algorithm.into_value(),
             mask_gen_algorithm: mask_gen_algorithm.into_value(),
@@ -251,12 +252,12 @@ impl<A: Allocator + Copy> View<Fields<A>, A> for RsassaPssParams<A> {
 /// What a length says that is so large.
 ///
 /// # Errors
-/// `Unsupported` exactly where it is negative.
+/// `BadNumber` exactly where it is negative.
 fn salt_within(magnitude: Magnitude) -> Result<WholeDeviations, ReadError>
-    ensures { MatchResult result (λ w. salt_kinds magnitude ≡ Some (kinds_in w)) (λ e. (salt_kinds magnitude ≡ None) × (e ≡ Unsupported)) }
+    ensures { MatchResult result (λ w. salt_kinds magnitude ≡ Some (kinds_in w)) (λ e. (salt_kinds magnitude ≡ None) × (e ≡ BadNumber)) }
 {
     match magnitude {
-        Magnitude::Negative => Err(ReadError::Unsupported),
+        Magnitude::Negative => Err(ReadError::BadNumber),
         Magnitude::Byte(_) | Magnitude::Small => Ok(WholeDeviations::Nothing),
         Magnitude::Large => Ok(WholeDeviations::One(Deviation::SaltTooLarge)),
     }

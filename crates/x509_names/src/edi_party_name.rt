@@ -5,7 +5,6 @@ ghost use Rattle.x509_der.specs.laws.Structure.{structure_lawful};
 ghost use Rattle.x509_names.specs.EdiPartyNames.{edi_parts, edi_inner, edi_content};
 ghost use Rattle.x509_names.specs.facts.EdiPartyNames.{edi_of, edi_same, assigner_apart};
 
-use crate::boxed::TakesMemory;
 use std::alloc::{Allocator, Global};
 use x509_der::parts::{
     Content, ContextConstructed, Field, FromContent, Join, One, Optional, Output, OwnTag, Reader,
@@ -112,10 +111,6 @@ impl<A: Allocator + Copy> Content<A> for EdiPartyName<A> {
     }
 
     ghost content_agrees = { λ v. refl };
-}
-
-impl<A: Allocator + Copy> TakesMemory<A> for EdiPartyName<A> {
-    ghost takes_memory = { λ h. h.0.0 };
 }
 
 impl<A: Allocator + Copy> FromContent<A> for EdiPartyName<A> {

@@ -1,6 +1,6 @@
 //! General names: what alternative names, key identifiers and other extensions hold.
 
-ghost use Rattle.std.specs.Prelude.{◌≡◌, ℕ, List, refl, IfOk};
+ghost use Rattle.std.specs.Prelude.{◌≡◌, ℕ, List, refl};
 ghost use Rattle.x509_der.specs.Types.{Choice as fields};
 ghost use Rattle.x509_der.specs.Choice.{choice, is_first};
 ghost use Rattle.x509_der.specs.Reading.{Ready, Reads, Passes, thrifty};
@@ -11,11 +11,10 @@ ghost use Rattle.x509_names.specs.GeneralNames.{strict_name, loose_name, general
 ghost use Rattle.x509_names.specs.GeneralNames.{general_name as general_names};
 ghost use Rattle.x509_names.specs.facts.GeneralNames.{general_keeps, general_lawful, general_element};
 
-use crate::boxed::Boxed;
 use crate::edi_party_name::EdiPartyName;
 use crate::name::Name;
 use crate::other_name::OtherName;
-use std::alloc::{AllocError, Allocator, Global};
+use std::alloc::{Allocator, Global};
 use x509_der::parts::Choice::{First, Second};
 use x509_der::parts::{
     Choice, Content, ContextConstructed, ContextPrimitive, Field, Judge, One, Output, Reader, Ref,
@@ -44,15 +43,12 @@ pub type GeneralNames<A = Global> = Asn1SequenceOf<GeneralName<A>, A>;
 ///
 /// The forms under 1, 2, 6, 7 and 8 are also read under the explicit tag, and a `Name` under the byte 84 with its
 /// content alone, each with the deviation `GeneralNameForm`.
-///
-/// # Memory
-/// The two large forms, which are rare, are on the heap, so that a list of names is small.
 #[derive(Drop)]
 #[derive_where(Debug, PartialEq, Eq)]
 #[derive_where(Clone; A: Copy)]
 pub enum GeneralName<A: Allocator = Global> {
     /// A name of the form that an object identifier tells.
-    OtherName(Boxed<OtherName<A>, A>),
+    OtherName(OtherName<A>),
     /// A mail address (RFC 5280, 4.2.1.6; RFC 2821). What stands in it isn't looked at.
     Rfc822Name(Ia5StringAsn1<A>),
     /// A name of the domain name system. What stands in it isn't looked at.
@@ -60,7 +56,7 @@ pub enum GeneralName<A: Allocator = Global> {
     /// A name of the directory.
     DirectoryName(Name<A>),
     /// A party to electronic data interchange.
-    EdiPartyName(Boxed<EdiPartyName<A>, A>),
+    EdiPartyName(EdiPartyName<A>),
     /// A URI. What stands in it isn't looked at.
     Uri(Ia5StringAsn1<A>),
     /// An address of the internet protocol, in network byte order: 4 or 16 bytes by the standard, and any number here.
@@ -70,25 +66,20 @@ pub enum GeneralName<A: Allocator = Global> {
 }
 
 impl<A: Allocator> GeneralName<A> {
-    /// A party to electronic data interchange, and who named it, where that is to be said.
-    ///
-    /// # Errors
-    /// `AllocError` where memory is refused. The names are dropped then.
+    /// A party to electronic data interchange, and who named it, where that is to be said. Takes no memory.
     pub fn new_edi_party_name(
-        alloc: A,
         party_name: DirectoryString<A>,
         name_assigner: Option<DirectoryString<A>>,
-    ) -> Result<Self, AllocError>
-        ensures { IfOk result (λ general. general ≡ form.EdiPartyName (record {
+    ) -> Self
+        ensures { result ≡ form.EdiPartyName (record {
           name_assigner = name_assigner;
           party_name = party_name;
-        })) }
+        }) }
     {
-        let name = EdiPartyName {
+        GeneralName::EdiPartyName(EdiPartyName {
             name_assigner,
             party_name,
-        };
-        Ok(GeneralName::EdiPartyName(Boxed::new(alloc, name)?))
+        })
     }
 }
 
@@ -120,7 +111,7 @@ impl<A: Allocator> SameEq for GeneralName<A> {
 /// The alternatives that are written, the first half of them.
 type StrictFront<A> = Choice<
     Choice<
-        Tagged<ContextConstructed<0>, Boxed<OtherName<A>, A>>,
+        Tagged<ContextConstructed<0>, OtherName<A>>,
         Tagged<ContextPrimitive<1>, Ia5StringAsn1<A>>,
     >,
     Choice<
@@ -132,7 +123,7 @@ type StrictFront<A> = Choice<
 /// The other half.
 type StrictBack<A> = Choice<
     Choice<
-        Tagged<ContextConstructed<5>, Boxed<EdiPartyName<A>, A>>,
+        Tagged<ContextConstructed<5>, EdiPartyName<A>>,
         Tagged<ContextPrimitive<6>, Ia5StringAsn1<A>>,
     >,
     Choice<
@@ -307,6 +298,7 @@ fn read_of_four<
 ///
 /// # Errors
 /// As the fields; also where none begins there.
+#[inline]
 fn pass_of_four<
     T: Judge<OfFour<F, G, H, I>, A, Glimpse = bool>,
     F: Field<A>,

@@ -2,7 +2,6 @@
 #![tactic(auto)]
 
 pub mod attribute_type_and_value;
-mod boxed;
 pub mod edi_party_name;
 pub mod general_name;
 pub mod laws;
@@ -12,7 +11,6 @@ pub mod other_name;
 pub mod pretty;
 
 pub use crate::attribute_type_and_value::{AttributeTypeAndValue, AttributeTypeAndValueParameters};
-pub use crate::boxed::Boxed;
 pub use crate::edi_party_name::EdiPartyName;
 pub use crate::general_name::{GeneralName, GeneralNames};
 pub use crate::name::{DirectoryName, Name, RdnSequence, RelativeDistinguishedName};

@@ -5,7 +5,6 @@ ghost use Rattle.x509_der.specs.laws.Structure.{structure_lawful};
 ghost use Rattle.x509_names.specs.OtherNames.{other_parts, other_inner, other_content};
 ghost use Rattle.x509_names.specs.facts.OtherNames.{other_of, other_same};
 
-use crate::boxed::TakesMemory;
 use std::alloc::{Allocator, Global};
 use x509_der::parts::{
     Content, ContextConstructed, Field, FromContent, Join, One, Output, OwnTag, Reader, Ref,
@@ -106,10 +105,6 @@ impl<A: Allocator + Copy> Content<A> for OtherName<A> {
     }
 
     ghost content_agrees = { λ v. refl };
-}
-
-impl<A: Allocator + Copy> TakesMemory<A> for OtherName<A> {
-    ghost takes_memory = { λ h. h.1 };
 }
 
 impl<A: Allocator + Copy> FromContent<A> for OtherName<A> {

@@ -10,6 +10,7 @@ mod damages;
 mod elements;
 mod explained;
 mod explained_parts;
+mod explained_values;
 mod extension_lists;
 mod extensions;
 mod fields;

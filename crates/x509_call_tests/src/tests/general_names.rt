@@ -1,12 +1,12 @@
-//! General names, times and versions that are made, with every request for memory refused, or each in turn.
+//! General names, times and versions that are made, with every request for memory refused.
 
 use super::Heap;
-use super::checks::{is_so, is_written, made_turn, same};
-use refusing::{Refusing, in_turn};
-use std::alloc::{AllocError, Allocator};
+use super::checks::{is_so, is_written, same};
+use refusing::Refusing;
+use std::alloc::AllocError;
 use std::process::Abort;
 use x509_der::{Asn1RawDer, ObjectIdentifierAsn1, ToDer, from_bytes};
-use x509_names::{Boxed, DirectoryString, GeneralName, Name, OtherName, Time, Validity, Version};
+use x509_names::{DirectoryString, GeneralName, Name, OtherName, Time, Validity, Version};
 use x509_oids_objects::user_principal_name;
 use x509_prim::{GeneralizedTime, GeneralizedTimeAsn1, UTCTime, UtcTimeAsn1, Utf8String};
 
@@ -18,28 +18,17 @@ fn is_made<A: Heap, T: ToDer + Drop>(rt: &impl Abort, heap: A, value: T, stated:
 }
 
 /// The text as a directory string, in its own memory.
-fn directory_string<A: Allocator>(heap: A, text: &str) -> Result<DirectoryString<A>, AllocError> {
-    let text = String::from_str(heap, text)?;
-    Ok(DirectoryString::Utf8String(Utf8String::from(text)))
+fn directory_string<A: Heap>(rt: &impl Abort, heap: A, text: &str) -> DirectoryString<A> {
+    let text = String::from_str(heap, text).expect(rt, "memory");
+    DirectoryString::Utf8String(Utf8String::from(text))
 }
 
-/// A party `a`: a request for its text, and one for the party.
-fn party<A: Allocator + Copy>(heap: A) -> Result<GeneralName<A>, AllocError> {
-    GeneralName::new_edi_party_name(heap, directory_string(heap, "a")?, None)
-}
-
-/// A party `a`, which `b` named.
-fn assigned_party<A: Allocator + Copy>(heap: A) -> Result<GeneralName<A>, AllocError> {
-    let party = directory_string(heap, "a")?;
-    let assigner = Some(directory_string(heap, "b")?);
-    GeneralName::new_edi_party_name(heap, party, assigner)
-}
-
-/// A party alone.
+/// A party `a`.
 fn parties_are_named_over<A: Heap>(rt: &impl Abort, heap: A) {
-    let stated = b"\xA5\x05\xA1\x03\x0C\x01a";
-    let made = in_turn!(heap, made_turn(party(heap), stated));
-    same(rt, &made, &Some(2), "requests");
+    let party = directory_string(rt, heap, "a");
+    heap.refuse_all();
+    let name = GeneralName::new_edi_party_name(party, None);
+    is_made(rt, heap, name, b"\xA5\x05\xA1\x03\x0C\x01a");
 }
 
 #[test]
@@ -48,11 +37,18 @@ fn parties_are_named(rt: HostRuntime) {
     parties_are_named_over(&rt, &heap);
 }
 
-/// A party with who named it.
+/// A party `a`, which `b` named.
 fn parties_are_assigned_over<A: Heap>(rt: &impl Abort, heap: A) {
-    let stated = b"\xA5\x0A\xA0\x03\x0C\x01b\xA1\x03\x0C\x01a";
-    let made = in_turn!(heap, made_turn(assigned_party(heap), stated));
-    same(rt, &made, &Some(3), "requests");
+    let party = directory_string(rt, heap, "a");
+    let assigner = Some(directory_string(rt, heap, "b"));
+    heap.refuse_all();
+    let name = GeneralName::new_edi_party_name(party, assigner);
+    is_made(
+        rt,
+        heap,
+        name,
+        b"\xA5\x0A\xA0\x03\x0C\x01b\xA1\x03\x0C\x01a",
+    );
 }
 
 #[test]
@@ -80,10 +76,9 @@ fn other_names_are_made_over<A: Heap>(rt: &impl Abort, heap: A) {
     let type_id = user_principal_name(heap).expect(rt, "memory");
     let value = Vec::from_slice(heap, b"\x0C\x01a").expect(rt, "memory");
     let value = Asn1RawDer::from_vec(value).expect(rt, "an element");
-    let type_id = ObjectIdentifierAsn1(type_id);
-    let boxed = Boxed::new(heap, OtherName { type_id, value }).expect(rt, "memory");
     heap.refuse_all();
-    let name = GeneralName::OtherName(boxed);
+    let type_id = ObjectIdentifierAsn1(type_id);
+    let name = GeneralName::OtherName(OtherName { type_id, value });
     let stated = b"\xA0\x11\x06\x0A\x2B\x06\x01\x04\x01\x82\x37\x14\x02\x03\xA0\x03\x0C\x01a";
     is_made(rt, heap, name, stated);
 }

@@ -1,6 +1,6 @@
 //! Which bytes are the content of an object identifier.
 
-ghost use Rattle.std.specs.Prelude.{◌≡◌, ◌+◌, ◌&&◌, ◌==◌, ℕ, List, IfOk, IfErr, IsTrue, count_by, nat_lt};
+ghost use Rattle.std.specs.Prelude.{◌≡◌, ◌+◌, ◌≤◌, ◌<◌, ◌&&◌, ◌==◌, ℕ, List, length, IfOk, IfErr, IsTrue, count_by, nat_lt};
 ghost use Rattle.x509_der_parts.specs.declared.errors.ReadError.TheVariants.{OutOfMemory};
 ghost use Rattle.x509_der.specs.ObjectIdentifier.{IsOid, arcs_spelled, oid_content};
 
@@ -40,6 +40,46 @@ pub(crate) fn arcs_len(bytes: &[u8]) -> usize
     len
 }
 
+/// Up to so many bytes no number passes 63 bits, since each digit has seven.
+const FEW: usize = 9;
+
+/// Whether a digit begins a number, and says nothing.
+fn pads(is_fresh: bool, digit: u8) -> bool
+    ensures { result ≡ (is_fresh && digit == 128) }
+{
+    is_fresh && digit == 128
+}
+
+/// Checks that nine bytes at most are the content of an object identifier.
+///
+/// # Errors
+/// As `check`.
+fn check_few(bytes: &[u8]) -> Result<(), ReadError>
+    requires some { 0 < length bytes.now }
+    requires few { length bytes.now ≤ 9 }
+    ensures ok { IfOk result (λ _. IsOid (arcs_spelled bytes.now) bytes.now) }
+    ensures err { IfErr result (λ e. (v : List ℕ) → IsOid v bytes.now → ⊥) }
+    ensures kind { IfErr result (λ e. e ≡ OutOfMemory → ⊥) }
+{
+    let mut is_fresh = true;
+    for byte in bytes {
+        let digit = *byte;
+        if digit < 128 {
+            is_fresh = true;
+        } else {
+            if pads(is_fresh, digit) {
+                return Err(ReadError::BadOid);
+            }
+            is_fresh = false;
+        }
+    }
+    if is_fresh {
+        Ok(())
+    } else {
+        Err(ReadError::BadOid)
+    }
+}
+
 /// Checks that bytes are the content of an object identifier.
 ///
 /// # Errors
@@ -51,6 +91,9 @@ pub(crate) fn check(bytes: &[u8]) -> Result<(), ReadError>
 {
     if bytes.is_empty() {
         return Err(ReadError::BadOid);
+    }
+    if bytes.len() <= FEW {
+        return check_few(bytes);
     }
     // what was read of the number that is under way: 0 where none is
     let mut number: u64 = 0;

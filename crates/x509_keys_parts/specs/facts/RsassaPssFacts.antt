@@ -8,12 +8,17 @@ use Rattle.x509_der.specs.Types.{Deviation}
 use Rattle.x509_der.specs.Types.deviation
 use Rattle.x509_der.specs.Element.{base}
 use Rattle.x509_der.specs.Integer.{magnitude, sign_bit, signed_value, unsigned_value, unsigned_content, natural_content, integers}
-use Rattle.x509_der.specs.facts.Integer.{signed_value-low}
+use Rattle.x509_der.specs.facts.Integer.{signed_value-low, integer_lawful}
 use Rattle.x509_der.specs.facts.NaturalNumber.{natural_minimal, natural_bytes, natural_value, natural_read}
 use Rattle.x509_der.specs.facts.Lists.{same_pair}
 use Rattle.x509_der.specs.laws.View.{some_one}
-use Rattle.x509_der.specs.laws.Meaning.{IsMeaning}
-use Rattle.x509_keys_parts.specs.RsassaPss.{MaskGenFields, mask_gen_parts, mask_gen, PssFields, pss_inner, pss_base, salt_of, salt_kinds, with_salt, pss_means, pss_fields, IsPss, pss_meaning}
+use Rattle.x509_der.specs.Shape.{Lawful}
+use Rattle.x509_der.specs.View.{IsSeen}
+use Rattle.x509_der.specs.Partly.{unmarked}
+use Rattle.x509_der.specs.facts.Partly.{means_value}
+use Rattle.x509_der.specs.laws.Meaning.{IsMeaning, tagged_markable, seen_one}
+use Rattle.x509_der.specs.laws.Tagged.{tagged_lawful}
+use Rattle.x509_keys_parts.specs.RsassaPss.{MaskGenFields, mask_gen_parts, mask_gen, PssFields, natural_of, salt_base, salt_meaning, pss_inner, pss_base, salt_of, salt_kinds, with_salt, pss_means, pss_fields, IsPss, pss_meaning}
 use Rattle.x509_keys_parts.specs.declared.rsassa_pss.MaskGenAlgorithm.{MaskGenAlgorithm}
 use Rattle.x509_keys_parts.specs.declared.rsassa_pss.RsassaPssParams.{RsassaPssParams}
 
@@ -29,6 +34,9 @@ small_test n h = grind (arith, nat_tests)
 
 large_test : (n : ℕ) → 2 ^ 64 ≤ n → nat_lt n 18446744073709551616 ≡ false
 large_test n h = grind (arith, nat_tests)
+
+same_content : (c d : List ℕ) → ◌≡◌ {A = Option (List ℕ)} (Some c) (Some d) → c ≡ d
+same_content c d e = cc
 
 number_of : (c : List ℕ) (n : ℕ) → sign_bit c ≡ false → signed_value c ≡ pos n → unsigned_value c ≡ n
 number_of c n s e = ap nat_abs (sym (signed_value-low c s) ∙ e)
@@ -61,6 +69,26 @@ natural_sign n = unsigned_sign (base n)
 
 natural_salt : (n : ℕ) → n < 2 ^ 64 → salt_of (natural_content n) ≡ Some (n, [])
 natural_salt n h = salt_small (natural_content n) n (natural_sign n) (natural_value n) h
+
+-- an INTEGER that isn't negative
+natural_again : (c d : List ℕ) (t : Bool) → sign_bit c ≡ t → cond {A = Option (List ℕ)} t None (Some c) ≡ Some d → (sign_bit d ≡ false) × (c ≡ d)
+natural_again c d true s e = cc
+natural_again c d false s e = let k : c ≡ d = same_content c d e in (ap sign_bit (sym k) ∙ s, k)
+
+salt_again : (c d : List ℕ) (ks : List Deviation) → unmarked (natural_of c) ≡ Some (d, ks) → (sign_bit d ≡ false) × ((c ≡ d) × (ks ≡ []))
+salt_again c d ks e = let k = means_value (natural_of c) d ks e in let n = natural_again c d (sign_bit c) refl k.0 in (n.0, (n.1, k.1))
+
+pub salt_is : IsMeaning salt_meaning salt_base
+salt_is = record {
+  written = λ v d r. (rw d.0 refl, d.1, r);
+  stays = λ v d. d.1;
+  clean = λ b v e d r. (salt_again b v [] e).1.0;
+  kept = λ b v ks e d. let k = salt_again b v ks e in (k.0, subst salt_base.valid k.1.0 d);
+  read = λ b v ks e r. subst salt_base.readable (salt_again b v ks e).1.0 r;
+}
+
+pub salt_keeps : Lawful salt_base × IsSeen salt_meaning salt_base
+salt_keeps = (tagged_lawful 2 integers integer_lawful, seen_one salt_meaning salt_base (tagged_markable 2 integers integer_lawful) salt_is (λ b v ks e. omega (arith, ap length (salt_again b v ks e).1.1)))
 
 -- what a length that was read says of its content
 record SaltSays (c : List ℕ) (n : ℕ) (ks : List Deviation) : Type 0 where
@@ -110,7 +138,7 @@ natural_lawful : (n : ℕ) → integers.valid (natural_content n)
 natural_lawful n = (natural_bytes n, natural_minimal n)
 
 fields_valid : {A : Type 0} (v : RsassaPssParams A) → IsPss v → (pss_inner {A = A}).valid (pss_fields v)
-fields_valid v d = (tt, (d.0, natural_lawful v.salt_length))
+fields_valid v d = (tt, (d.0, (natural_sign v.salt_length, natural_lawful v.salt_length)))
 
 pub pss_is : {A : Type 0} → IsMeaning (pss_meaning {A = A}) pss_base
 pss_is {A} = record {
@@ -119,7 +147,7 @@ pss_is {A} = record {
   clean = λ b v e d r.
       let k = pss_says b v [] e in
       let s = salt_says b.1.1 v.salt_length [] k.salt in
-      let c : b.1.1 ≡ natural_content v.salt_length = natural_read b.1.1 d.1.1.0 d.1.1.1 s.sign ∙ ap natural_content (s.clean refl) in
+      let c : b.1.1 ≡ natural_content v.salt_length = natural_read b.1.1 d.1.1.1.0 d.1.1.1.1 s.sign ∙ ap natural_content (s.clean refl) in
       let m = same_pair (λ (x : MaskGenAlgorithm A × List ℕ). x.0) (λ x. x.1) (λ x y. (x, y)) (λ x. refl) b.1 (v.mask_gen_algorithm, natural_content v.salt_length) k.mask c in
       same_pair (λ (x : PssFields A). x.0) (λ x. x.1) (λ x y. (x, y)) (λ x. refl) b (pss_fields v) k.hash m;
   kept = λ b v ks e d.

@@ -177,8 +177,8 @@ const PSS: Damaged = (
         (52, 0x80, BadLength, 51),
         // longer than the content
         (50, 0x04, Truncated, 49),
-        // below 0: an INTEGER, and refused where the three fields are put together
-        (53, 0x80, Unsupported, 0),
+        // below 0
+        (53, 0x80, BadNumber, 51),
     ],
 );
 

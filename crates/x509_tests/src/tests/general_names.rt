@@ -3,7 +3,6 @@
 use super::fields::{ANY, Field};
 use super::rows::{Heap, Row, Table, all_hold};
 use refusing::Refusing;
-use std::mem::size_of;
 use std::process::Abort;
 use x509_der::Deviation;
 use x509_names::{EdiPartyName, GeneralName, GeneralNames, OtherName, Time, Validity, Version};
@@ -342,12 +341,6 @@ fn strict_forms_over<A: Heap>(rt: &impl Abort, heap: A) {
 fn strict_forms(rt: HostRuntime) {
     let heap = Refusing::new(rt.alloc());
     strict_forms_over(&rt, &heap);
-}
-
-/// A list of names is small, since the large forms are on the heap.
-#[test]
-fn general_names_are_small(rt: HostRuntime) {
-    assert!(rt; size_of::<GeneralName>() <= 40);
 }
 
 /// An IA5String under the tag of a form.

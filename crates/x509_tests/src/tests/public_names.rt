@@ -26,7 +26,6 @@ mod root {
     pub use picky_asn1_x509::BmpCharSet;
     pub use picky_asn1_x509::BmpString;
     pub use picky_asn1_x509::BmpStringAsn1;
-    pub use picky_asn1_x509::Boxed;
     pub use picky_asn1_x509::Certificate;
     pub use picky_asn1_x509::CertificationRequest;
     pub use picky_asn1_x509::CertificationRequestInfo;
@@ -197,7 +196,7 @@ mod laws {
 /// In `name`.
 mod name {
     pub use picky_asn1_x509::name::{
-        Boxed, DirectoryName, EdiPartyName, GeneralName, GeneralNames, Name, NameAttr,
+        DirectoryName, EdiPartyName, GeneralName, GeneralNames, Name, NameAttr,
         NamePrettyFormatter, OtherName, RdnSequence, RelativeDistinguishedName,
     };
 }

@@ -388,7 +388,7 @@ fn copies_in_turn<'v, A: Heap, T: CloneEq + PartialEq>(
     value: &'v T,
     before: &'v T,
 ) -> Option<u64> {
-    in_turn!(heap, copy_turn(value.clone(), value, before))
+    in_turn!(heap, copy_turn(value.clone_eq(), value, before))
 }
 
 /// The value of the encoding is cloned as itself, also where memory is refused first.

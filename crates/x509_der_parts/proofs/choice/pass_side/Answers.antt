@@ -2,14 +2,12 @@ use Rattle.std.proofs.Common.{sym, ◌∙◌, ap}
 use Rattle.std.proofs.lemmas.Result.{err_from_is_err_and}
 use Rattle.x509_der_parts.specs.declared.choice.Choice.TheVariants.{First, Second}
 use Rattle.x509_der_parts.specs.declared.choice.Side.TheVariants as side
-use Rattle.x509_der_parts.specs.Shape.{Follows}
 use Rattle.x509_der_parts.specs.Choice.{choice}
 use Rattle.x509_der_parts.specs.Reading.{thrifty}
 use Rattle.x509_der_parts.specs.reads.Choice.{first_accepts, second_accepts, first_refuses, second_refuses, neither_refuses, begun_cons}
 use Rattle.x509_der_parts.specs.reads.Optional.{follows_cons, follows_nil}
 use Rattle.x509_der_parts.specs.reads.Passing.{alike_choice, thrifty_lawful, thrifty_element, alike_accepts, alike_refuses}
 use Rattle.x509_der_parts.proofs.choice.pass_side.Goals as goal
-use Rattle.x509_der_parts.proofs.choice.pass_side.Goals.{in_default-via-in-Some-2+else-starts-2, in_default-via-in_default}
 
 pub returns-in_err-brief-in-Some : goal.returns-in_err-brief-in-Some
 returns-in_err-brief-in-Some g c =
@@ -43,14 +41,19 @@ returns-in_ok-brief-in-Some-2 g c =
     let k = c.in_ok-brief-in-Some-2.ensures in
     record { value = Second k.value; accepts = alike_accepts (choice (thrifty a) (thrifty b)) (thrifty (choice a b)) (alike_choice a b) c.args.reader.now c.pass-in-Some-2.new.reader (Second k.value) (second_accepts (thrifty a) (thrifty b) (thrifty_lawful a (g.F.Field.lawful h.0.0)) (thrifty_lawful b (g.G.Field.lawful h.0.1)) (thrifty_element a (g.F.Field.elements h.1.0.0)) (thrifty_element b (g.G.Field.elements h.1.0.1)) h.1.1 c.args.reader.now c.pass-in-Some-2.new.reader k.value (begun_cons b.starts c.in-Some.byte _ c.args.reader.now.rest c.in-Some.ensures.some (sym c.if-starts-2.ensures)) k.accepts); kept = ap side.Second k.kept }
 
-pub returns-in_default : goal.returns-in_default
-returns-in_default g c =
+pub returns-in-Some-3 : goal.returns-in-Some-3
+returns-in-Some-3 g c =
     let a = g.F.Field.shape in
     let b = g.G.Field.shape in
     let h = c.requires.fits in
     let r = c.args.reader.now.rest in
-    let f : Follows a.starts r × Follows b.starts r = elim c.in_default.branch [
-      | in_default-via-in-Some-2+else-starts-2 w ↦ (follows_cons a.starts w.in-Some.byte _ r w.in-Some.ensures.some (sym w.starts.ensures ∙ w.if-starts.false), follows_cons b.starts w.in-Some.byte _ r w.in-Some.ensures.some (sym w.if-starts-2.ensures))
-      | in_default-via-in_default w ↦ (follows_nil a.starts r w.in_default.ensures.none, follows_nil b.starts r w.in_default.ensures.none)
-    ] in
-    alike_refuses (choice (thrifty a) (thrifty b)) (thrifty (choice a b)) (alike_choice a b) c.args.reader.now c.args.reader.now _ (λ u. (tt, tt)) (neither_refuses (thrifty a) (thrifty b) (thrifty_lawful a (g.F.Field.lawful h.0.0)) (thrifty_lawful b (g.G.Field.lawful h.0.1)) (thrifty_element a (g.F.Field.elements h.1.0.0)) (thrifty_element b (g.G.Field.elements h.1.0.1)) h.1.1 c.args.reader.now _ (λ e. cc) f.0 f.1)
+    alike_refuses (choice (thrifty a) (thrifty b)) (thrifty (choice a b)) (alike_choice a b) c.args.reader.now c.args.reader.now _ (λ u. (tt, tt)) (neither_refuses (thrifty a) (thrifty b) (thrifty_lawful a (g.F.Field.lawful h.0.0)) (thrifty_lawful b (g.G.Field.lawful h.0.1)) (thrifty_element a (g.F.Field.elements h.1.0.0)) (thrifty_element b (g.G.Field.elements h.1.0.1)) h.1.1 c.args.reader.now _ (λ e. cc) (follows_cons a.starts c.in-Some.byte _ r c.in-Some.ensures.some (sym c.starts.ensures ∙ c.if-starts.false)) (follows_cons b.starts c.in-Some.byte _ r c.in-Some.ensures.some (sym c.if-starts-2.ensures)))
+
+pub returns-in-None : goal.returns-in-None
+returns-in-None g c =
+    let a = g.F.Field.shape in
+    let b = g.G.Field.shape in
+    let h = c.requires.fits in
+    let r = c.args.reader.now.rest in
+    let n = c.in-None.ensures.none in
+    alike_refuses (choice (thrifty a) (thrifty b)) (thrifty (choice a b)) (alike_choice a b) c.args.reader.now c.args.reader.now _ (λ u. (tt, tt)) (neither_refuses (thrifty a) (thrifty b) (thrifty_lawful a (g.F.Field.lawful h.0.0)) (thrifty_lawful b (g.G.Field.lawful h.0.1)) (thrifty_element a (g.F.Field.elements h.1.0.0)) (thrifty_element b (g.G.Field.elements h.1.0.1)) h.1.1 c.args.reader.now _ (λ e. cc) (follows_nil a.starts r n) (follows_nil b.starts r n))

@@ -1,5 +1,7 @@
 use Rattle.std.proofs.Common.{rules}
+use Rattle.x509_der.specs.ObjectIdentifier.{numbers_from}
 use Rattle.x509_keys_parts.proofs.algorithm_parameters.kind_of.Goals as goal
 
-pub returns-then-is_arcs-3 : goal.returns-then-is_arcs-3
-returns-then-is_arcs-3 c = search (rules)
+pub returns-then-is_arcs : goal.returns-then-is_arcs
+unfolding numbers_from
+returns-then-is_arcs c = search (rules)

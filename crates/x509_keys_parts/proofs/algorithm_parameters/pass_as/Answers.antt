@@ -1,7 +1,6 @@
 use Rattle.std.proofs.Common.{refl, ◌∙◌, sym}
 use Rattle.std.proofs.lemmas.Result.{err_from_is_err_and}
 use Rattle.x509_der.specs.Optional.{optional, brief_if}
-use Rattle.x509_der.specs.Reading.{thrifty}
 use Rattle.x509_der.specs.Variant.{bare}
 use Rattle.x509_der.specs.laws.Variant.{bare_accepts}
 use Rattle.x509_der.specs.reads.Passing.{variant_passes, variant_not_passed, read_passes}
@@ -23,13 +22,13 @@ returns-in_err-there-in-Rsa g c =
     let p = err_from_is_err_and c.from_residual.result c.from_residual.ensures.1 in
     rw (p.1, p.2, c.in-Rsa.is) (variant_not_passed if_null parameters_bytes AreParameters (optional null) c.args.reader.now c.pass.new.reader _ c.in_err-there-in-Rsa.ensures)
 
-pub returns-in_ok-pass-in-RsassaPss : goal.returns-in_ok-pass-in-RsassaPss
-returns-in_ok-pass-in-RsassaPss g c = rw c.in-RsassaPss.is (variant_passes parameters.RsassaPss parameters_bytes AreParameters rsassa_pss (λ v. tt) are_absent c.args.reader.now c.pass-in-RsassaPss.new.reader _ _ (λ u e. refl) c.in_ok-pass-in-RsassaPss.ensures)
+pub returns-in_ok-pass_pss-in-RsassaPss : goal.returns-in_ok-pass_pss-in-RsassaPss
+returns-in_ok-pass_pss-in-RsassaPss g c = rw c.in-RsassaPss.is (variant_passes parameters.RsassaPss parameters_bytes AreParameters rsassa_pss (λ v. tt) are_absent c.args.reader.now c.pass_pss.new.reader _ _ (λ u e. refl) c.in_ok-pass_pss-in-RsassaPss.ensures)
 
-pub returns-in_err-pass-in-RsassaPss : goal.returns-in_err-pass-in-RsassaPss
-returns-in_err-pass-in-RsassaPss g c =
-    let p = err_from_is_err_and c.from_residual-in_err-pass-in-RsassaPss.result c.from_residual-in_err-pass-in-RsassaPss.ensures.1 in
-    rw (p.1, p.2, c.in-RsassaPss.is) (variant_not_passed parameters.RsassaPss parameters_bytes AreParameters rsassa_pss c.args.reader.now c.pass-in-RsassaPss.new.reader _ c.in_err-pass-in-RsassaPss.ensures)
+pub returns-in_err-pass_pss-in-RsassaPss : goal.returns-in_err-pass_pss-in-RsassaPss
+returns-in_err-pass_pss-in-RsassaPss g c =
+    let p = err_from_is_err_and c.from_residual-in_err-pass_pss-in-RsassaPss.result c.from_residual-in_err-pass_pss-in-RsassaPss.ensures.1 in
+    rw (p.1, p.2, c.in-RsassaPss.is) (variant_not_passed parameters.RsassaPss parameters_bytes AreParameters rsassa_pss c.args.reader.now c.pass_pss.new.reader _ c.in_err-pass_pss-in-RsassaPss.ensures)
 
 pub returns-in_ok-pass-in-EcPublicKey : goal.returns-in_ok-pass-in-EcPublicKey
 returns-in_ok-pass-in-EcPublicKey g c = rw c.in-EcPublicKey.is (variant_passes parameters.Ec parameters_bytes AreParameters ec_parameters (λ v. tt) are_absent c.args.reader.now c.pass-in-EcPublicKey.new.reader _ _ (λ u e. refl) c.in_ok-pass-in-EcPublicKey.ensures)

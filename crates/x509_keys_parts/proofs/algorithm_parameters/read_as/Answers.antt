@@ -19,13 +19,13 @@ returns-in_err-read-in-Rsa g c =
     let p = err_from_is_err_and c.from_residual.result c.from_residual.ensures.1 in
     rw (p.1, p.2, c.in-Rsa.is) (variant_refuses if_null parameters_bytes AreParameters (optional null) c.args.reader.now c.read.new.reader _ c.in_err-read-in-Rsa.ensures)
 
-pub returns-in_ok-read-in-RsassaPss : goal.returns-in_ok-read-in-RsassaPss
-returns-in_ok-read-in-RsassaPss g c = rw c.in-RsassaPss.is (variant_accepts parameters.RsassaPss parameters_bytes AreParameters rsassa_pss c.args.reader.now c.read-in-RsassaPss.new.reader _ _ refl c.in_ok-read-in-RsassaPss.ensures)
+pub returns-in_ok-read_pss-in-RsassaPss : goal.returns-in_ok-read_pss-in-RsassaPss
+returns-in_ok-read_pss-in-RsassaPss g c = rw c.in-RsassaPss.is (variant_accepts parameters.RsassaPss parameters_bytes AreParameters rsassa_pss c.args.reader.now c.read_pss.new.reader _ _ refl c.in_ok-read_pss-in-RsassaPss.ensures)
 
-pub returns-in_err-read-in-RsassaPss : goal.returns-in_err-read-in-RsassaPss
-returns-in_err-read-in-RsassaPss g c =
-    let p = err_from_is_err_and c.from_residual-in_err-read-in-RsassaPss.result c.from_residual-in_err-read-in-RsassaPss.ensures.1 in
-    rw (p.1, p.2, c.in-RsassaPss.is) (variant_refuses parameters.RsassaPss parameters_bytes AreParameters rsassa_pss c.args.reader.now c.read-in-RsassaPss.new.reader _ c.in_err-read-in-RsassaPss.ensures)
+pub returns-in_err-read_pss-in-RsassaPss : goal.returns-in_err-read_pss-in-RsassaPss
+returns-in_err-read_pss-in-RsassaPss g c =
+    let p = err_from_is_err_and c.from_residual-in_err-read_pss-in-RsassaPss.result c.from_residual-in_err-read_pss-in-RsassaPss.ensures.1 in
+    rw (p.1, p.2, c.in-RsassaPss.is) (variant_refuses parameters.RsassaPss parameters_bytes AreParameters rsassa_pss c.args.reader.now c.read_pss.new.reader _ c.in_err-read_pss-in-RsassaPss.ensures)
 
 pub returns-in_ok-read-in-EcPublicKey : goal.returns-in_ok-read-in-EcPublicKey
 returns-in_ok-read-in-EcPublicKey g c = rw c.in-EcPublicKey.is (variant_accepts parameters.Ec parameters_bytes AreParameters ec_parameters c.args.reader.now c.read-in-EcPublicKey.new.reader _ _ refl c.in_ok-read-in-EcPublicKey.ensures)

@@ -1,4 +1,4 @@
-use Rattle.std.proofs.Common.{◌≡◌, ℕ, ◌≤◌, ◌/◌, ◌%◌, List, [], ◌∷◌, Err, arith, subst, sym}
+use Rattle.std.proofs.Common.{ℕ, ◌≤◌, ◌/◌, ◌%◌, List, [], ◌∷◌, Err, arith, subst, sym}
 use Rattle.std.proofs.lemmas.Result.{err_from_is_err_and}
 use Rattle.x509_der.specs.Integer.{natural_content}
 use Rattle.x509_keys_parts.specs.facts.NaturalContents.{natural_low, natural_more}

@@ -40,19 +40,19 @@ returns-in_ok-_brief-in-Some-2 g c =
     let k = c.in_ok-_brief-in-Some-2.ensures in
     record { value = Second k.value; accepts = alike_accepts (choice (thrifty a) (thrifty b)) (thrifty (choice a b)) (alike_choice a b) c.args.reader.now c.pass-in-Some-2.new.reader (Second k.value) (second_accepts (thrifty a) (thrifty b) (thrifty_lawful a (g.F.Field.lawful h.0.0)) (thrifty_lawful b (g.G.Field.lawful h.0.1)) (thrifty_element a (g.F.Field.elements h.1.0.0)) (thrifty_element b (g.G.Field.elements h.1.0.1)) h.1.1 c.args.reader.now c.pass-in-Some-2.new.reader k.value (begun_cons b.starts c.in-Some.byte _ c.args.reader.now.rest c.in-Some.ensures.some (sym c.if-starts-2.ensures)) k.accepts); kept = refl }
 
-pub returns-in_default : goal.returns-in_default
-returns-in_default g c =
+pub returns-in-Some-3 : goal.returns-in-Some-3
+returns-in-Some-3 g c =
     let a = g.F.Field.shape in
     let b = g.G.Field.shape in
     let h = c.requires.fits in
     let r = c.args.reader.now.rest in
     alike_refuses (choice (thrifty a) (thrifty b)) (thrifty (choice a b)) (alike_choice a b) c.args.reader.now c.args.reader.now _ (λ u. (tt, tt)) (neither_refuses (thrifty a) (thrifty b) (thrifty_lawful a (g.F.Field.lawful h.0.0)) (thrifty_lawful b (g.G.Field.lawful h.0.1)) (thrifty_element a (g.F.Field.elements h.1.0.0)) (thrifty_element b (g.G.Field.elements h.1.0.1)) h.1.1 c.args.reader.now _ (λ e. cc) (follows_cons a.starts c.in-Some.byte _ r c.in-Some.ensures.some (sym c.starts.ensures ∙ c.if-starts.false)) (follows_cons b.starts c.in-Some.byte _ r c.in-Some.ensures.some (sym c.if-starts-2.ensures)))
 
-pub returns-in_default-2 : goal.returns-in_default-2
-returns-in_default-2 g c =
+pub returns-in-None : goal.returns-in-None
+returns-in-None g c =
     let a = g.F.Field.shape in
     let b = g.G.Field.shape in
     let h = c.requires.fits in
     let r = c.args.reader.now.rest in
-    let n = rw c.in_default.is at c.peek.ensures.none in
+    let n = c.in-None.ensures.none in
     alike_refuses (choice (thrifty a) (thrifty b)) (thrifty (choice a b)) (alike_choice a b) c.args.reader.now c.args.reader.now _ (λ u. (tt, tt)) (neither_refuses (thrifty a) (thrifty b) (thrifty_lawful a (g.F.Field.lawful h.0.0)) (thrifty_lawful b (g.G.Field.lawful h.0.1)) (thrifty_element a (g.F.Field.elements h.1.0.0)) (thrifty_element b (g.G.Field.elements h.1.0.1)) h.1.1 c.args.reader.now _ (λ e. cc) (follows_nil a.starts r n) (follows_nil b.starts r n))

@@ -1,4 +1,4 @@
-use Rattle.std.proofs.Common.{ap, ◌∙◌}
+use Rattle.std.proofs.Common.{ap}
 use Rattle.x509_keys_parts.specs.declared.algorithm_parameters.Chosen.{Chosen}
 use Rattle.x509_keys_parts.proofs.algorithm_parameters.AlgorithmIdentifierParametersAnyDefinedByObjectIdentifierAsn1.pass_behind.Goals as goal
 

@@ -1,11 +1,11 @@
-use Rattle.std.proofs.Common.{◌≡◌, [], ap, sym, ◌∙◌, Some, None, refl}
+use Rattle.std.proofs.Common.{◌≡◌, [], sym, ◌∙◌, Some, None, refl}
 use Rattle.std.proofs.lemmas.Result.{err_from_is_err_and}
 use Rattle.x509_der.specs.Reading.{thrifty}
 use Rattle.x509_der.specs.View.{viewed}
 use Rattle.x509_der.specs.reads.Cursor.{booked_none}
 use Rattle.x509_der.specs.reads.Passing.{thrifty_lawful, alike_viewed, alike_accepts, alike_refuses}
 use Rattle.x509_der.specs.reads.View.{Few, viewed_accepts, viewed_refuses, viewed_meaningless}
-use Rattle.x509_keys_parts.specs.HashAlgorithms.{hash_of, hash_name_base, hash_name_meaning, hash_name}
+use Rattle.x509_keys_parts.specs.HashAlgorithms.{hash_of, hash_name_base, hash_name_meaning}
 use Rattle.x509_keys_parts.specs.facts.HashAlgorithmFacts.{hash_name_keeps}
 use Rattle.x509_keys_parts.proofs.hash_algorithm.HashNameField.pass.Goals as goal
 
