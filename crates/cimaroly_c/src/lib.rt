@@ -2,21 +2,21 @@
 //! `bindings/c/cimaroly.h` documents them.
 #![tactic(auto)]
 
-ghost use Rattle.std.specs.Prelude.{◌≡◌, length};
+ghost use Rattle.std.specs.Prelude.{◌≡◌, ◌+◌, ◌/◌, ◌≤◌, length};
 ghost use Rattle.picky_asn1_x509.specs.Certificates.{signature_fields, certificate, certificate_parts};
-ghost use Rattle.picky_asn1_x509.specs.ExtensionLists.{extensions as list_shape};
 ghost use Rattle.picky_asn1_x509.specs.Requests.{request, request_info, request_parts};
 ghost use Rattle.picky_asn1_x509.specs.TbsCertificates.{tbs_certificate};
-ghost use Rattle.x509_flat.specs.Checks.{TellsOf};
+ghost use Rattle.x509_flat.specs.Checks.{TellsOf, no_verdict};
 ghost use Rattle.x509_flat.specs.Encodings.{EncodesOf, Untouched};
-ghost use Rattle.x509_flat.specs.Extensions.{ExtensionsTold};
+ghost use Rattle.x509_flat.specs.Extensions.{CarriedTold, ListTold};
 ghost use Rattle.x509_flat.specs.Fields.{CertificateTold, PrivateKeyTold, RequestTold};
 ghost use Rattle.x509_flat.specs.Places.{PlacesOf};
-ghost use Rattle.x509_flat.specs.SignedParts.{SignedTold};
+ghost use Rattle.x509_flat.specs.SignedParts.{SignedTold, no_signed};
 ghost use Rattle.x509_flat_report.specs.Reports.{Reported};
 ghost use Rattle.cimaroly_c.specs.Exports.{Answers, AnswersFor, Arena, IsKind};
 
 mod over;
+mod version;
 
 use lent_memory::{Lent, OneBlock};
 use x509_flat::certificate_fields::FlatCertificate;
@@ -28,6 +28,7 @@ use x509_flat::private_key_fields::FlatPrivateKey;
 use x509_flat::request_fields::FlatRequest;
 use x509_flat::signed_part::FlatSigned;
 use x509_flat::status::Status;
+use x509_flat_report::{Lines, Reporter};
 
 /// Whether the input encodes a value of the kind, and how it deviates from the value's DER encoding.
 #[unsafe(no_mangle)]
@@ -38,7 +39,8 @@ pub extern "C" fn cimaroly_check(
     verdict: &mut Verdict,
 ) -> u32
     ensures known { IsKind kind → AnswersFor kind result (λ k status. TellsOf Arena k der.now status verdict.new) }
-    ensures unknown { (IsKind kind → ⊥) → result ≡ 4 }
+    ensures bound { verdict.new.headers ≤ length der.now / 2 + 1 }
+    ensures unknown { (IsKind kind → ⊥) → (result ≡ 4) × (verdict.new ≡ no_verdict) }
 {
     let Some(known) = Kind::from_number(kind) else {
         *verdict = Verdict::none();
@@ -107,7 +109,7 @@ pub extern "C" fn cimaroly_signed_part(
 ) -> u32
     ensures certificate { kind ≡ 1 → Answers result (λ status. SignedTold (certificate {A = Arena}) certificate_parts tbs_certificate signature_fields der.now status part.new) }
     ensures request { kind ≡ 2 → Answers result (λ status. SignedTold (request {A = Arena}) request_parts request_info signature_fields der.now status part.new) }
-    ensures unknown { (kind ≡ 1 → ⊥) → (kind ≡ 2 → ⊥) → result ≡ 4 }
+    ensures unknown { (kind ≡ 1 → ⊥) → (kind ≡ 2 → ⊥) → (result ≡ 4) × (part.new ≡ no_signed) }
 {
     if kind != 1 && kind != 2 {
         *part = FlatSigned::none();
@@ -181,8 +183,8 @@ pub extern "C" fn cimaroly_extensions(
     extensions: &mut [FlatExtension],
     count: &mut usize,
 ) -> u32
-    ensures certificate { kind ≡ 1 → Answers result (λ status. ExtensionsTold (certificate {A = Arena}) (λ v. v.tbs_certificate.extensions) der.now extensions.old extensions.new status count.new) }
-    ensures list { kind ≡ 9 → Answers result (λ status. ExtensionsTold (list_shape {A = Arena}) (λ v. v) der.now extensions.old extensions.new status count.new) }
+    ensures certificate { kind ≡ 1 → Answers result (λ status. CarriedTold Arena der.now extensions.old extensions.new status count.new) }
+    ensures list { kind ≡ 9 → Answers result (λ status. ListTold Arena der.now extensions.old extensions.new status count.new) }
     ensures unknown { (kind ≡ 1 → ⊥) → (kind ≡ 9 → ⊥) → (result ≡ 4) × Untouched extensions.old extensions.new count.new }
 {
     if kind != 1 && kind != 9 {
@@ -210,7 +212,24 @@ pub extern "C" fn cimaroly_report(
     out: &mut [u8],
     size: &mut usize,
 ) -> u32
-    ensures known { IsKind kind → Answers result (λ status. Reported out.old out.new status size.new) }
+    ensures known { IsKind kind → AnswersFor kind result (λ k status. Reported (⟦<Lines as Reporter>⟧.writes k der.now secrets) out.old out.new status size.new) }
+    ensures unknown { (IsKind kind → ⊥) → (result ≡ 4) × Untouched out.old out.new size.new }
+{
+    report_by(&Lines, memory, kind, der, secrets, out, size)
+}
+
+/// `cimaroly_report` over any reporter: what is written is a line of it about this input as this kind, with the secret
+/// numbers of private keys where they are asked for.
+fn report_by<R: Reporter>(
+    reporter: &R,
+    memory: &mut Lent,
+    kind: u32,
+    der: &[u8],
+    secrets: bool,
+    out: &mut [u8],
+    size: &mut usize,
+) -> u32
+    ensures known { IsKind kind → AnswersFor kind result (λ k status. Reported (R.writes k der.now secrets) out.old out.new status size.new) }
     ensures unknown { (IsKind kind → ⊥) → (result ≡ 4) × Untouched out.old out.new size.new }
 {
     let Some(known) = Kind::from_number(kind) else {
@@ -218,7 +237,7 @@ pub extern "C" fn cimaroly_report(
         return Status::UnknownKind.number();
     };
     let block = OneBlock::from_mut(memory);
-    let sized = over::report(&block, known, der, secrets, out);
+    let sized = over::report(&block, reporter, known, der, secrets, out);
     block.give_back(memory);
     *size = sized.size;
     sized.status.number()

@@ -1,13 +1,12 @@
 //! The calls over a block of memory, each in an arena of its own.
 
-ghost use Rattle.std.specs.Prelude.{◌≡◌, ◌+◌, ◌/◌, ◌≤◌, length};
+ghost use Rattle.std.specs.Prelude.{◌≡◌, ◌+◌, ◌*◌, ◌/◌, ◌<◌, ◌≤◌, length};
 ghost use Rattle.picky_asn1_x509.specs.Certificates.{signature_fields, certificate, certificate_parts};
-ghost use Rattle.picky_asn1_x509.specs.ExtensionLists.{extensions};
 ghost use Rattle.picky_asn1_x509.specs.Requests.{request, request_info, request_parts};
 ghost use Rattle.picky_asn1_x509.specs.TbsCertificates.{tbs_certificate};
 ghost use Rattle.x509_flat.specs.Checks.{TellsOf};
 ghost use Rattle.x509_flat.specs.Encodings.{EncodesOf};
-ghost use Rattle.x509_flat.specs.Extensions.{ExtensionsTold};
+ghost use Rattle.x509_flat.specs.Extensions.{CarriedTold, ListTold};
 ghost use Rattle.x509_flat.specs.Fields.{CertificateTold, PrivateKeyTold, RequestTold};
 ghost use Rattle.x509_flat.specs.Places.{PlacesOf};
 ghost use Rattle.x509_flat.specs.SignedParts.{SignedTold};
@@ -30,7 +29,7 @@ use x509_flat::private_key_fields::{
 use x509_flat::request_fields::{FlatRequest, request_fields as flat_request_fields};
 use x509_flat::signed_part::{self, SignedAnswer};
 use x509_flat::status::{Answer, Sized};
-use x509_flat_report::report as flat_report;
+use x509_flat_report::{Reporter, report as flat_report};
 
 /// How many bytes an arena keeps of a chunk for itself, and how many it takes its parent to keep.
 const KEPT: usize = 48;
@@ -40,8 +39,12 @@ const PARENT_KEPT: usize = 16;
 const PAGE: usize = 4096;
 
 /// The capacity with which an arena asks for as much of a block as it can: its chunks, with what is kept of them, come to
-/// powers of two up to a page, and else to whole pages.
-fn capacity(size: usize) -> usize {
+/// powers of two up to a page, and else to whole pages. So of a block it leaves little more than a page.
+fn capacity(size: usize) -> usize
+    ensures room { size ≤ result + PAGE + KEPT + PARENT_KEPT }
+    ensures half { size < PAGE → size ≤ 2 * (result + KEPT + PARENT_KEPT) }
+    ensures fits { result ≤ size }
+{
     let most = size.saturating_add(PARENT_KEPT);
     let total = if most >= 2 * PAGE {
         most / PAGE * PAGE
@@ -132,7 +135,7 @@ pub(crate) fn certificate_extensions(
     bytes: &[u8],
     out: &mut [FlatExtension],
 ) -> Sized
-    ensures { ExtensionsTold (certificate {A = Arena}) (λ v. v.tbs_certificate.extensions) bytes.now out.old out.new result.status result.size }
+    ensures { CarriedTold Arena bytes.now out.old out.new result.status result.size }
 {
     let arena = Bump::new(block);
     of_certificate(&arena, bytes, out)
@@ -140,22 +143,23 @@ pub(crate) fn certificate_extensions(
 
 /// The extensions of a list.
 pub(crate) fn list_extensions(block: &OneBlock, bytes: &[u8], out: &mut [FlatExtension]) -> Sized
-    ensures { ExtensionsTold (extensions {A = Arena}) (λ v. v) bytes.now out.old out.new result.status result.size }
+    ensures { ListTold Arena bytes.now out.old out.new result.status result.size }
 {
     let arena = Bump::new(block);
     of_extensions(&arena, bytes, out)
 }
 
 /// `report` of `x509_flat_report`.
-pub(crate) fn report(
+pub(crate) fn report<R: Reporter>(
     block: &OneBlock,
+    reporter: &R,
     kind: Kind,
     bytes: &[u8],
     secrets: bool,
     out: &mut [u8],
 ) -> Sized
-    ensures { Reported out.old out.new result.status result.size }
+    ensures { Reported (R.writes kind bytes.now secrets) out.old out.new result.status result.size }
 {
     let arena = arena(block);
-    flat_report(&arena, kind, bytes, secrets, out)
+    flat_report(&arena, reporter, kind, bytes, secrets, out)
 }

@@ -56,7 +56,8 @@ pub struct OneBlock {
 impl OneBlock {
     /// Takes what is lent, and leaves nothing in its place.
     pub fn from_mut(lent: &mut Lent) -> OneBlock
-        ensures { lent.new.size ≡ 0 }
+        ensures whole { result.whole ≡ lent.old.size }
+        ensures nothing { lent.new.size ≡ 0 }
     {
         let (whole, lent) = replace(lent, Lent::nothing()).measured();
         OneBlock {

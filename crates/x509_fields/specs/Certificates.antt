@@ -1,5 +1,5 @@
 -- Where the fields of a certificate stand (RFC 5280, 4.1).
-use Rattle.std.specs.Prelude.{◌≡◌, ℕ, List, Option}
+use Rattle.std.specs.Prelude.{◌≡◌, ℕ, List, [], ◌∷◌, Option, Some}
 use Rattle.x509_der.specs.BitString.{bit_strings}
 use Rattle.x509_der.specs.Integer.{integers}
 use Rattle.x509_der.specs.Tagged.{tagged}
@@ -13,9 +13,29 @@ use Rattle.picky_asn1_x509.specs.Extensions.{ExtensionFields}
 use Rattle.picky_asn1_x509.specs.TbsCertificates.{TbsFields, version_in, list_in, required_of, version_field, issuer_id_field, subject_id_field, extensions_field, tbs_certificate}
 use Rattle.picky_asn1_x509.specs.declared.certificate.Certificate.{Certificate}
 use Rattle.picky_asn1_x509.specs.declared.tbs_certificate.TbsCertificate.{TbsCertificate}
-use Rattle.x509_fields.specs.Spans.{FieldIn, OptionalIn}
+use Rattle.x509_fields.specs.Spans.{FieldIn, OptionalIn, Fill, all_of}
 use Rattle.x509_fields.specs.declared.certificate.TbsCertificateFields.{TbsCertificateFields}
 use Rattle.x509_fields.specs.declared.certificate.CertificateFields.{CertificateFields}
+use Rattle.x509_fields.specs.declared.span.Span.{Span}
+
+-- the fields of what is signed, in the order of their definition
+abbrev pub tbs_spans : TbsCertificateFields → List (Option Span)
+tbs_spans at =
+    at.version
+    ∷ Some at.serial_number
+    ∷ Some at.signature
+    ∷ Some at.issuer
+    ∷ Some at.validity
+    ∷ Some at.subject
+    ∷ Some at.subject_public_key_info
+    ∷ at.issuer_unique_id
+    ∷ at.subject_unique_id
+    ∷ at.extensions
+    ∷ []
+
+-- and those of the certificate
+abbrev pub certificate_spans : CertificateFields → List (Option Span)
+certificate_spans at = Some at.tbs_certificate ∷ Some at.signature_algorithm ∷ Some at.signature_value ∷ []
 
 -- each field as it is encoded, the version and the extensions under their tags
 pub record TbsFieldsIn {A : Type 0} (f : TbsFields A) (at : TbsCertificateFields) (string : List ℕ) (whole : Tally) : Type 0 where
@@ -43,3 +63,5 @@ pub record CertificateIn {A : Type 0} (v : Certificate A) (at : CertificateField
   pub fields : TbsIn v.tbs_certificate at.fields string whole
   pub signature_algorithm : FieldIn algorithm_identifier v.signature_algorithm at.signature_algorithm string whole
   pub signature_value : FieldIn (tagged 3 bit_strings) v.signature_value at.signature_value string whole
+  pub fill : Fill string (all_of string) (certificate_spans at)
+  pub signed : Fill string at.tbs_certificate (tbs_spans at.fields)

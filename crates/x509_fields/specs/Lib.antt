@@ -1,7 +1,7 @@
 -- What the calls promise that tell where fields stand.
 pub mod Slices
-pub mod Walks
 pub mod Spans
+pub mod Walks
 pub mod Certificates
 pub mod Requests
 pub mod Keys

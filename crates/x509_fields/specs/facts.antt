@@ -2,6 +2,7 @@
 pub mod Slices
 pub mod Steps
 pub mod Fields
+pub mod Chains
 pub mod Certificates
 pub mod Extensions
 pub mod ExtensionLists

@@ -7,7 +7,8 @@ ghost use Rattle.x509_der.specs.Tally.{Tally};
 ghost use Rattle.picky_asn1_x509.specs.Certificates.{certificate};
 ghost use Rattle.picky_asn1_x509.specs.TbsCertificates.{TbsFields, tbs_inner};
 ghost use Rattle.x509_fields.specs.Found.{CertificateWithin, Found};
-ghost use Rattle.x509_fields.specs.Certificates.{CertificateIn, TbsFieldsIn};
+ghost use Rattle.x509_fields.specs.Certificates.{CertificateIn, TbsFieldsIn, tbs_spans};
+ghost use Rattle.x509_fields.specs.Walks.{ToEnd};
 
 use crate::span::Span;
 use crate::walk::Walk;
@@ -112,7 +113,8 @@ impl CertificateFields {
 
 /// Where the fields of what is signed stand, which are walked over.
 fn tbs_fields<A: Allocator + Copy>(walk: Walk<'_>) -> TbsCertificateFields
-    ensures { (f : TbsFields A) (string : List ℕ) (y : Tally) → Stands tbs_inner f walk.entry.at walk.entry.rest string y → TbsFieldsIn f result string y }
+    ensures { (f : TbsFields A) (string : List ℕ) (y : Tally) → Stands tbs_inner f walk.entry.at walk.entry.rest string y
+        → TbsFieldsIn f result string y × ToEnd walk.entry (tbs_spans result) }
 {
     laws::spellings_are_lawful::<AlgorithmIdentifier<A>, A>();
     laws::spellings_are_lawful::<Name<A>, A>();

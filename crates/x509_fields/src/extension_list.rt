@@ -1,12 +1,10 @@
 //! Where the extensions of a list stand.
 
 ghost use Rattle.std.specs.Prelude.{ℕ, List};
-ghost use Rattle.x509_der.specs.Items.{ItemsAt};
 ghost use Rattle.x509_der.specs.Tally.{Tally};
 ghost use Rattle.picky_asn1_x509.specs.Certificates.{certificate};
 ghost use Rattle.picky_asn1_x509.specs.ExtensionLists.{extensions};
-ghost use Rattle.picky_asn1_x509.specs.Extensions.{extension};
-ghost use Rattle.x509_fields.specs.Found.{ItemsWithin};
+ghost use Rattle.x509_fields.specs.Found.{CarriedIn, CarriedWithin, ListedIn, ListWithin};
 
 use crate::certificate::CertificateFields;
 use crate::walk::Walk;
@@ -19,8 +17,7 @@ pub fn certificate_extensions<'a, A: Allocator + Copy>(
     value: &Certificate<A>,
     bytes: &'a [u8],
 ) -> Walk<'a>
-    ensures { (y : Tally) → (certificate {A = A}).spelled value.now bytes.now y
-        → ItemsAt (extension {A = A}) bytes.now y value.now.tbs_certificate.extensions result.at result.rest }
+    ensures { (y : Tally) → (certificate {A = A}).spelled value.now bytes.now y → CarriedIn value.now result bytes.now y }
 {
     let _ = value;
     certificate_items::<A>(bytes)
@@ -29,7 +26,7 @@ pub fn certificate_extensions<'a, A: Allocator + Copy>(
 /// A walk over the extensions of the certificate that the bytes encode, whatever it is: each is the next element. Takes
 /// no memory. Of bytes that encode no certificate the walk says nothing.
 pub fn certificate_items<A: Allocator + Copy>(bytes: &[u8]) -> Walk<'_>
-    ensures { ItemsWithin (certificate {A = A}) (λ v. v.tbs_certificate.extensions) bytes.now result }
+    ensures { CarriedWithin A bytes.now result }
 {
     laws::spellings_are_lawful::<Extensions<A>, A>();
     let places = CertificateFields::within::<A>(bytes);
@@ -44,8 +41,7 @@ pub fn listed_extensions<'a, A: Allocator + Copy>(
     value: &Extensions<A>,
     bytes: &'a [u8],
 ) -> Walk<'a>
-    ensures { (y : Tally) → (extensions {A = A}).spelled value.now bytes.now y
-        → ItemsAt (extension {A = A}) bytes.now y value.now result.at result.rest }
+    ensures { (y : Tally) → (extensions {A = A}).spelled value.now bytes.now y → ListedIn value.now result bytes.now y }
 {
     let _ = value;
     listed_items::<A>(bytes)
@@ -54,7 +50,7 @@ pub fn listed_extensions<'a, A: Allocator + Copy>(
 /// A walk over the extensions of the list that the bytes encode, whatever it is: each is the next element. Takes no
 /// memory. Of bytes that encode no list of extensions the walk says nothing.
 pub fn listed_items<A: Allocator + Copy>(bytes: &[u8]) -> Walk<'_>
-    ensures { ItemsWithin (extensions {A = A}) (λ v. v) bytes.now result }
+    ensures { ListWithin A bytes.now result }
 {
     laws::fields::<Extensions<A>, A>();
     Walk::of(bytes).inside()

@@ -6,7 +6,8 @@ ghost use Rattle.x509_der.specs.Fields.{Stands};
 ghost use Rattle.x509_der.specs.Tally.{Tally};
 ghost use Rattle.picky_asn1_x509.specs.Requests.{InfoFields, info_inner, request};
 ghost use Rattle.x509_fields.specs.Found.{RequestWithin, Found};
-ghost use Rattle.x509_fields.specs.Requests.{InfoFieldsIn, RequestIn};
+ghost use Rattle.x509_fields.specs.Requests.{InfoFieldsIn, RequestIn, info_spans};
+ghost use Rattle.x509_fields.specs.Walks.{ToEnd};
 
 use crate::span::Span;
 use crate::walk::Walk;
@@ -89,7 +90,8 @@ impl CertificationRequestFields {
 
 /// Where the fields of what is signed stand, which are walked over.
 fn info_fields<A: Allocator + Copy>(walk: Walk<'_>) -> CertificationRequestInfoFields
-    ensures { (f : InfoFields A) (string : List ℕ) (y : Tally) → Stands info_inner f walk.entry.at walk.entry.rest string y → InfoFieldsIn f result string y }
+    ensures { (f : InfoFields A) (string : List ℕ) (y : Tally) → Stands info_inner f walk.entry.at walk.entry.rest string y
+        → InfoFieldsIn f result string y × ToEnd walk.entry (info_spans result) }
 {
     laws::spellings_are_lawful::<Name<A>, A>();
     laws::spellings_are_lawful::<SubjectPublicKeyInfo<A>, A>();

@@ -1,6 +1,6 @@
 //! A walk over elements that stand one behind another.
 
-ghost use Rattle.std.specs.Prelude.{◌≡◌, ◌+◌, ◌<◌, ◌^◌, List, ℕ, length};
+ghost use Rattle.std.specs.Prelude.{◌≡◌, ◌+◌, ◌<◌, ◌≤◌, ◌^◌, List, [], ℕ, length};
 ghost use Rattle.x509_fields.specs.Slices.{Covers};
 ghost use Rattle.x509_fields.specs.Walks.{Counts, Inside, Steps, StepsIf, StepsOn, StepsUnless};
 
@@ -38,7 +38,8 @@ impl<'a> Walk<'a> {
 
     /// The elements in a span of an input: none where the span doesn't lie in it.
     pub fn over(bytes: &'a [u8], span: Span) -> Self
-        ensures { (slice : List ℕ) → Covers bytes.now span.start span.end slice → (result.rest ≡ slice) × (result.at ≡ span.start) }
+        ensures covered { (slice : List ℕ) → Covers bytes.now span.start span.end slice → (result.rest ≡ slice) × (result.at ≡ span.start) }
+        ensures outside { (span.start ≤ span.end → span.end ≤ length bytes.now → ⊥) → (result.rest ≡ []) × (result.at ≡ span.start) }
     {
         let at = span.start;
         match span.slice(bytes) {
@@ -73,7 +74,7 @@ impl<'a> Walk<'a> {
         }
     }
 
-    /// How many elements are left, as far as elements stand one behind another.
+    /// How many elements are left, up to where no element comes next.
     pub fn count(&self) -> usize
         ensures { Counts self.now.rest result }
     {
@@ -88,7 +89,8 @@ impl<'a> Walk<'a> {
         count
     }
 
-    /// Goes past the next element where it has the tag, and answers where it stands.
+    /// Goes past the next element where the first byte that is left is the tag, and answers where it stands; else the walk
+    /// stays. The span is empty where no element stands there.
     pub fn next_if(&mut self, tag: u8) -> Option<Span>
         ensures { StepsIf tag self.old self.new result }
     {
@@ -98,7 +100,8 @@ impl<'a> Walk<'a> {
         }
     }
 
-    /// Goes past the next element where one is left that hasn't the tag, and answers where it stands.
+    /// Goes past the next element where bytes are left and the first isn't the tag, and answers where it stands; else the
+    /// walk stays. The span is empty where no element stands there.
     pub fn next_unless(&mut self, tag: u8) -> Option<Span>
         ensures { StepsUnless tag self.old self.new result }
     {

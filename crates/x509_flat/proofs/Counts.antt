@@ -6,5 +6,5 @@ use Rattle.x509_flat.specs.Extensions.{Front, PutsExtensions}
 use Rattle.x509_flat.specs.declared.extensions.FlatExtension.{FlatExtension}
 use Rattle.x509_flat.specs.declared.status.Status.{Status}
 
-pub sized_front : {A : Type 0} (list : List (ExtensionFields A)) (string : List ℕ) (whole : Tally) (old new : List FlatExtension) (n m : ℕ) → n ≡ m → Front list string whole old new n → Front list string whole old new m
-sized_front list string whole old new n m e = let P : ℕ → Type 0 = λ k. Front list string whole old new k in subst P e
+pub sized_front : {A : Type 0} (list : List (ExtensionFields A)) (first : ℕ) (string : List ℕ) (whole : Tally) (old new : List FlatExtension) (n m : ℕ) → n ≡ m → Front list first string whole old new n → Front list first string whole old new m
+sized_front list first string whole old new n m e = let P : ℕ → Type 0 = λ k. Front list first string whole old new k in subst P e

@@ -6,6 +6,7 @@ use Rattle.std.specs.Prelude.{IsSomeAnd, unwrap_or}
 use Rattle.x509_der.specs.Boolean.{booleans}
 use Rattle.x509_der.specs.Items.{ItemsAt}
 use Rattle.x509_der.specs.ObjectIdentifier.{oids}
+use Rattle.x509_der.specs.Reading.{NoFirst}
 use Rattle.x509_der.specs.Shape.{Shape, IsElement}
 use Rattle.x509_der.specs.Tagged.{tagged}
 use Rattle.x509_der.specs.Tally.{Tally}
@@ -13,12 +14,13 @@ use Rattle.picky_asn1_x509.specs.Extensions.{ExtensionFields, extension, by_kind
 use Rattle.x509_fields.specs.Extensions.{ExtensionIn}
 use Rattle.x509_fields.specs.Slices.{SliceAt}
 use Rattle.x509_fields.specs.Spans.{FieldIn, OptionalIn}
-use Rattle.x509_fields.specs.Walks.{Walk, Steps, AreElements, Counts}
+use Rattle.x509_fields.specs.Walks.{Walk, Steps, BeginWith, Counts}
 use Rattle.x509_fields.specs.declared.extension.ExtensionFields.{ExtensionFields as Places}
 use Rattle.x509_fields.specs.declared.span.Span.{Span}
 use Rattle.x509_fields.specs.facts.ExtensionLists.{moved_items}
 use Rattle.x509_fields.specs.facts.Fields.{field_step}
 use Rattle.x509_fields.specs.facts.Slices.{same_slice}
+use Rattle.x509_fields.specs.facts.Steps.{nothing_first}
 use Rattle.x509_flat.specs.Extensions.{EachStands, ExtensionStands, Front, span_behind, span_behind_if}
 use Rattle.x509_flat.specs.Spans.{flat_span}
 use Rattle.x509_flat.specs.declared.extensions.FlatExtension.{FlatExtension}
@@ -62,11 +64,10 @@ one_more {A} el all more v first n items next span at old new string whole t fit
       each = λ rest e. subst F (sym (append_assoc t.places (at ∷ []) rest)) (t.each (at ∷ rest) (start, (stands k.field, subst (λ m. E m rest) (sym end) e)));
     }
 
-pub all_told : {A : Type 0} (all : List (ExtensionFields A)) (first n : ℕ) (items : Walk) (old new : List FlatExtension) (string : List ℕ) (whole : Tally) → Told all [] first items old new n string whole → Front all string whole old new n
+pub all_told : {A : Type 0} (all : List (ExtensionFields A)) (first n : ℕ) (items : Walk) (old new : List FlatExtension) (string : List ℕ) (whole : Tally) → Told all [] first items old new n string whole → Front all first string whole old new n
 all_told all first n items old new string whole t =
     let F : List FlatExtension → Type 0 = λ x. EachStands all x first string whole in
     record {
-      first = first;
       places = t.places;
       stand = subst F (append-nil t.places) (t.each [] tt);
       filled = record { told = sym t.size; filled = t.written ∙ ap (λ m. t.places ++ drop m old) (sym t.size) };
@@ -155,8 +156,8 @@ item_at [] n h = absurd (omega (arith, h))
 item_at (x ∷ xs) n h = (get_or (x ∷ xs) n x, drop_more (x ∷ xs) n x h)
 
 -- the items are as many elements
-pub items_are : {V : Type 0} (s : Shape V) → IsElement s → (vs : List V) (n : ℕ) (slice string : List ℕ) (whole : Tally) → ItemsAt s string whole vs n slice → (parts : List (List ℕ)) × ((length parts ≡ length vs) × AreElements parts slice)
-items_are s el [] n slice string whole h = ([], (refl, h))
+pub items_are : {V : Type 0} (s : Shape V) → IsElement s → (vs : List V) (n : ℕ) (slice string : List ℕ) (whole : Tally) → ItemsAt s string whole vs n slice → (parts : List (List ℕ)) × ((length parts ≡ length vs) × BeginWith parts slice)
+items_are s el [] n slice string whole h = let P : List ℕ → Type 0 = NoFirst in ([], (refl, subst P (sym h) nothing_first))
 items_are s el (v ∷ vs) n slice string whole h =
     let more = items_are s el vs (n + length h.front) h.back string whole h.second in
     (h.front ∷ more.0, (omega (arith, more.1.0), (el.one v h.front h.first.field.tally h.first.field.spelled, (h.back, (h.bytes, more.1.1)))))

@@ -1,10 +1,11 @@
 -- What is told of a check.
-use Rattle.std.proofs.Common.{◌≡◌, ℕ, List, refl, sym, ◌∙◌, subst, Result, Ok, Err, arith}
+use Rattle.std.proofs.Common.{◌≡◌, ℕ, List, refl, subst, Result, Ok, Err}
 use Rattle.x509_der.specs.Calls.{Located, LocatedCheck, MeteredCheck}
 use Rattle.x509_der.specs.Shape.{Shape}
 use Rattle.x509_der.specs.Tally.{Mark}
 use Rattle.picky_asn1_x509.specs.Types.{ReadError, Refused}
-use Rattle.x509_flat.specs.Checks.{IsRefusalOf, Tells}
+use Rattle.picky_asn1_x509.specs.Types.read_error as read_error
+use Rattle.x509_flat.specs.Checks.{Tells, verdict_of}
 use Rattle.x509_flat.specs.Encodings.{Untouched}
 use Rattle.x509_flat.specs.Places.{Places, PutsPlaces}
 use Rattle.x509_flat.specs.Statuses.{IsStatusOf}
@@ -13,34 +14,25 @@ use Rattle.x509_flat.specs.declared.places.FlatPlace.{FlatPlace}
 use Rattle.x509_flat.specs.declared.status.Status.{Status}
 use Rattle.x509_flat.specs.declared.status.Status.TheVariants as answer
 
-pub accepted : {V : Type 0} (s : Shape V) (bytes counts : List ℕ) (headers : ℕ) (r : Result (List ℕ) Refused) → r ≡ Ok counts → MeteredCheck s bytes r headers → Tells s bytes answer.Done (record { counts = counts; headers = headers; error = 0; at = 0 })
+pub accepted : {V : Type 0} (s : Shape V) (bytes counts : List ℕ) (headers : ℕ) (r : Result (List ℕ) Refused) → r ≡ Ok counts → MeteredCheck s bytes r headers → Tells s bytes answer.Done (verdict_of (Ok counts) headers)
 accepted s bytes counts headers r e m =
     let P : Result (List ℕ) Refused → Type 0 = λ x. MeteredCheck s bytes x headers in
-    let k = subst P e m in
-    record {
-      done = λ _. record { value = k.0; counted = k.1; metered = k.2; error = refl; at = refl };
-      refused = λ q. cc;
-      memory = λ q. cc;
-      others = record { short = λ q. cc; unknown = λ q. cc; long = λ q. cc };
-    }
+    record { outcome = Ok counts; headers = headers; check = subst P e m; status_is = refl; verdict_is = refl }
 
-pub refused : {V : Type 0} (s : Shape V) (bytes : List ℕ) (why : Refused) (headers : ℕ) (r : Result (List ℕ) Refused) (status : Status) (verdict : Verdict) → r ≡ Err why → MeteredCheck s bytes r headers → IsStatusOf why.error status → IsRefusalOf why headers verdict → Tells s bytes status verdict
+-- a read that asked for no memory is refused
+refused_status : (error : ReadError) (status : Status) → IsStatusOf error status → (error ≡ read_error.OutOfMemory → ⊥) → status ≡ answer.Refused
+refused_status error answer.Refused is known = refl
+refused_status error answer.Done is known = absurd (is.done refl)
+refused_status error answer.OutOfMemory is known = absurd (known (is.memory refl))
+refused_status error answer.TooShort is known = absurd (is.others.short refl)
+refused_status error answer.UnknownKind is known = absurd (is.others.unknown refl)
+refused_status error answer.TooLong is known = absurd (is.others.long refl)
+
+pub refused : {V : Type 0} (s : Shape V) (bytes : List ℕ) (why : Refused) (headers : ℕ) (r : Result (List ℕ) Refused) (status : Status) (verdict : Verdict) → r ≡ Err why → MeteredCheck s bytes r headers → IsStatusOf why.error status → verdict ≡ verdict_of (Err why) headers → Tells s bytes status verdict
 refused s bytes why headers r status verdict e m is told =
     let P : Result (List ℕ) Refused → Type 0 = λ x. MeteredCheck s bytes x headers in
     let k = subst P e m in
-    record {
-      done = λ q. absurd (is.done q);
-      refused = λ _. record {
-        none = k.0.1;
-        refused = why;
-        told = record { counts = told.counts; decoded = refl; error = told.error; at = told.at };
-        known = k.0.0;
-        got = k.1;
-        metered = λ n h. omega (arith, k.2 n h, told.decoded);
-      };
-      memory = λ q. k.0.0 (is.memory q);
-      others = is.others;
-    }
+    record { outcome = Err why; headers = headers; check = k; status_is = refused_status why.error status is k.0.0; verdict_is = told }
 
 pub placed : {V : Type 0} (s : Shape V) (bytes : List ℕ) (value : V) (marks lent : List Mark) (old new : List FlatPlace) (status : Status) (size : ℕ) → lent ≡ marks → Located s bytes value marks → PutsPlaces lent old new status size → Places s bytes old new status size
 placed s bytes value marks lent old new status size e located puts =

@@ -1,9 +1,8 @@
 -- What a check tells.
-use Rattle.std.specs.Prelude.{◌≡◌, ℕ, ◌≤◌, List, replicate, Ok}
-use Rattle.x509_der.specs.Calls.{Counted, GotTo, MeteredRead}
+use Rattle.std.specs.Prelude.{◌≡◌, ℕ, List, replicate, Result, Ok, Err}
+use Rattle.x509_der.specs.Calls.{MeteredCheck}
 use Rattle.x509_der.specs.ReadErrors.{error_number}
 use Rattle.x509_der.specs.Shape.{Shape}
-use Rattle.x509_der.specs.Tally.{Tally}
 use Rattle.x509_keys.specs.AlgorithmIdentifier.{algorithm_identifier}
 use Rattle.x509_keys.specs.EcPrivateKeys.{ec_private_key}
 use Rattle.x509_keys.specs.PrivateKeyInfos.{private_key_info}
@@ -16,44 +15,32 @@ use Rattle.picky_asn1_x509.specs.Certificates.{certificate}
 use Rattle.picky_asn1_x509.specs.ExtensionLists.{extensions}
 use Rattle.picky_asn1_x509.specs.Requests.{request}
 use Rattle.picky_asn1_x509.specs.Types.{Refused}
-use Rattle.picky_asn1_x509.specs.Types.read_error as read_error
-use Rattle.x509_flat.specs.Statuses.{OnlyReads}
 use Rattle.x509_flat.specs.declared.check.Verdict.{Verdict}
 use Rattle.x509_flat.specs.declared.kind.Kind.{Kind}
 use Rattle.x509_flat.specs.declared.status.Status.{Status}
 use Rattle.x509_flat.specs.declared.kind.Kind.TheVariants as kind
 use Rattle.x509_flat.specs.declared.status.Status.TheVariants as answer
 
--- the bytes encode a value, whose deviations and headers are counted
-pub record Accepts {V : Type 0} (s : Shape V) (bytes : List ℕ) (verdict : Verdict) : Type 0 where
-  pub value : V
-  pub counted : Counted s bytes value verdict.counts
-  pub metered : MeteredRead s bytes (Ok (value, verdict.counts)) verdict.headers
-  pub error : verdict.error ≡ 0
-  pub at : verdict.at ≡ 0
+-- all zeros
+abbrev pub no_verdict : Verdict
+no_verdict = record { counts = replicate 10 0; headers = 0; error = 0; at = 0 }
 
--- what is told of a read that was refused
-pub record IsRefusalOf (refused : Refused) (headers : ℕ) (verdict : Verdict) : Type 0 where
-  pub counts : verdict.counts ≡ replicate 10 0
-  pub decoded : verdict.headers ≡ headers
-  pub error : verdict.error ≡ error_number refused.error
-  pub at : verdict.at ≡ refused.at
+-- what is told of a check that decoded so many headers: the counts, or why and where the bytes are refused
+abbrev pub verdict_of : Result (List ℕ) Refused → ℕ → Verdict
+verdict_of (Ok counts) headers = record { counts = counts; headers = headers; error = 0; at = 0 }
+verdict_of (Err why) headers = record { counts = replicate 10 0; headers = headers; error = error_number why.error; at = why.at }
 
--- the bytes encode no value; why and where the read was refused, and how many headers were decoded at least
-pub record Refuses {V : Type 0} (s : Shape V) (bytes : List ℕ) (verdict : Verdict) : Type 0 where
-  pub none : (v : V) (y : Tally) → s.spelled v bytes y → ⊥
-  pub refused : Refused
-  pub told : IsRefusalOf refused verdict.headers verdict
-  pub known : refused.error ≡ read_error.OutOfMemory → ⊥
-  pub got : GotTo s bytes refused.error refused.at
-  pub metered : (n : ℕ) → s.min_headers bytes n → n ≤ verdict.headers
+abbrev pub status_of_check : Result (List ℕ) Refused → Status
+status_of_check (Ok counts) = answer.Done
+status_of_check (Err why) = answer.Refused
 
--- what a status says of the bytes as a value of a type; memory is never refused, since none is asked for
+-- the status and the verdict are those of one check of the bytes as a value of a type; memory is never refused, since none is asked for
 pub record Tells {V : Type 0} (s : Shape V) (bytes : List ℕ) (status : Status) (verdict : Verdict) : Type 0 where
-  pub done : status ≡ answer.Done → Accepts s bytes verdict
-  pub refused : status ≡ answer.Refused → Refuses s bytes verdict
-  pub memory : status ≡ answer.OutOfMemory → ⊥
-  pub others : OnlyReads status
+  pub outcome : Result (List ℕ) Refused
+  pub headers : ℕ
+  pub check : MeteredCheck s bytes outcome headers
+  pub status_is : status ≡ status_of_check outcome
+  pub verdict_is : verdict ≡ verdict_of outcome headers
 
 -- the same of the type of a number
 abbrev pub TellsOf : (A : Type 0) → Kind → List ℕ → Status → Verdict → Type 0

@@ -4,9 +4,13 @@ use Rattle.x509_der.specs.Calls.{IsWhole}
 use Rattle.x509_der.specs.Items.{ItemsAt}
 use Rattle.x509_der.specs.Shape.{Shape}
 use Rattle.x509_der.specs.Tally.{Tally}
+use Rattle.picky_asn1_x509.specs.Certificates.{certificate}
+use Rattle.picky_asn1_x509.specs.ExtensionLists.{extensions}
 use Rattle.picky_asn1_x509.specs.Extensions.{ExtensionFields, extension}
 use Rattle.x509_fields.specs.Extensions.{ExtensionIn}
+use Rattle.x509_fields.specs.Found.{CarriedIn, ListedIn}
 use Rattle.x509_fields.specs.Spans.{FieldIn}
+use Rattle.x509_fields.specs.Walks.{Walk}
 use Rattle.x509_fields.specs.declared.extension.ExtensionFields.{ExtensionFields as Places}
 use Rattle.x509_fields.specs.declared.span.Span.{Span}
 use Rattle.x509_flat.specs.Encodings.{Filled, Untouched}
@@ -43,9 +47,8 @@ EachStands [] (at ∷ more) n string whole = ⊥
 EachStands (v ∷ vs) [] n string whole = ⊥
 EachStands (v ∷ vs) (at ∷ more) n string whole = (at.whole.start ≡ n) × (ExtensionStands v at string whole × EachStands vs more at.whole.end string whole)
 
--- the places of a list's extensions stand in front of what the slice had behind them
-pub record Front {A : Type 0} (list : List (ExtensionFields A)) (string : List ℕ) (whole : Tally) (old new : List FlatExtension) (size : ℕ) : Type 0 where
-  pub first : ℕ
+-- the places of a list's extensions, which stand behind so many bytes, are in front of what the slice had behind them
+pub record Front {A : Type 0} (list : List (ExtensionFields A)) (first : ℕ) (string : List ℕ) (whole : Tally) (old new : List FlatExtension) (size : ℕ) : Type 0 where
   pub places : List FlatExtension
   pub stand : EachStands list places first string whole
   pub filled : Filled places old new size
@@ -62,33 +65,42 @@ PlacedAt A string span at = (v : ExtensionFields A) (whole : Tally) → FieldIn 
 
 -- whatever list of so many extensions stands in a string from a place on, their places are in front
 abbrev pub Fronts : (A : Type 0) → ℕ → List ℕ → ℕ → List ℕ → List FlatExtension → List FlatExtension → Type 0
-Fronts A size string at slice old new = (list : List (ExtensionFields A)) (whole : Tally) → length list ≡ size → ItemsAt extension string whole list at slice → Front list string whole old new size
+Fronts A size string at slice old new = (list : List (ExtensionFields A)) (whole : Tally) → length list ≡ size → ItemsAt extension string whole list at slice → Front list at string whole old new size
 
 -- what a status says of writing the places of a list's extensions, which stand in a string one behind another from a place on
-pub record PutsExtensions {A : Type 0} (list : List (ExtensionFields A)) (string : List ℕ) (whole : Tally) (old new : List FlatExtension) (status : Status) (size : ℕ) : Type 0 where
-  pub done : status ≡ answer.Done → Front list string whole old new size
+pub record PutsExtensions {A : Type 0} (list : List (ExtensionFields A)) (first : ℕ) (string : List ℕ) (whole : Tally) (old new : List FlatExtension) (status : Status) (size : ℕ) : Type 0 where
+  pub done : status ≡ answer.Done → Front list first string whole old new size
   pub short : status ≡ answer.TooShort → NoRoom (length list) old new size
 
 -- the same, whatever list it is; no other status is told
 pub record PutsAll (A : Type 0) (string : List ℕ) (at : ℕ) (slice : List ℕ) (old new : List FlatExtension) (status : Status) (size : ℕ) : Type 0 where
-  pub puts : (list : List (ExtensionFields A)) (whole : Tally) → ItemsAt extension string whole list at slice → PutsExtensions list string whole old new status size
+  pub puts : (list : List (ExtensionFields A)) (whole : Tally) → ItemsAt extension string whole list at slice → PutsExtensions list at string whole old new status size
   pub refused : status ≡ answer.Refused → ⊥
   pub memory : status ≡ answer.OutOfMemory → ⊥
   pub unknown : status ≡ answer.UnknownKind → ⊥
   pub long : status ≡ answer.TooLong → ⊥
 
--- a value that the bytes encode, of whose extensions a fact holds
-pub record Listing {A V : Type 0} (s : Shape V) (list : V → List (ExtensionFields A)) (bytes : List ℕ) (fact : List (ExtensionFields A) → Tally → Type 0) : Type 0 where
+-- a value that the bytes encode, and a walk over its extensions, of which, and of where they begin, a fact holds
+pub record Listing {A V : Type 0} (s : Shape V) (list : V → List (ExtensionFields A)) (WalkedIn : V → Walk → List ℕ → Tally → Type 0) (bytes : List ℕ) (fact : List (ExtensionFields A) → ℕ → Tally → Type 0) : Type 0 where
   pub value : V
   pub tally : Tally
   pub whole : IsWhole s bytes value tally
-  pub holds : fact (list value) tally
+  pub walk : Walk
+  pub walked : WalkedIn value walk bytes tally
+  pub holds : fact (list value) walk.at tally
 
 -- what a status says of telling the extensions in bytes that encode a value of a type; memory is never refused
-pub record ExtensionsTold {A V : Type 0} (s : Shape V) (list : V → List (ExtensionFields A)) (bytes : List ℕ) (old new : List FlatExtension) (status : Status) (size : ℕ) : Type 0 where
-  pub done : status ≡ answer.Done → Listing s list bytes (λ es y. Front es bytes y old new size)
-  pub short : status ≡ answer.TooShort → Listing s list bytes (λ es y. NoRoom (length es) old new size)
+pub record ExtensionsTold {A V : Type 0} (s : Shape V) (list : V → List (ExtensionFields A)) (WalkedIn : V → Walk → List ℕ → Tally → Type 0) (bytes : List ℕ) (old new : List FlatExtension) (status : Status) (size : ℕ) : Type 0 where
+  pub done : status ≡ answer.Done → Listing s list WalkedIn bytes (λ es first y. Front es first bytes y old new size)
+  pub short : status ≡ answer.TooShort → Listing s list WalkedIn bytes (λ es first y. NoRoom (length es) old new size)
   pub refused : status ≡ answer.Refused → Untouched old new size × ((v : V) (y : Tally) → s.spelled v bytes y → ⊥)
   pub memory : status ≡ answer.OutOfMemory → ⊥
   pub unknown : status ≡ answer.UnknownKind → ⊥
   pub long : status ≡ answer.TooLong → ⊥
+
+-- of a certificate, and of a list
+abbrev pub CarriedTold : (A : Type 0) → List ℕ → List FlatExtension → List FlatExtension → Status → ℕ → Type 0
+CarriedTold A = ExtensionsTold (certificate {A = A}) (λ v. v.tbs_certificate.extensions) CarriedIn
+
+abbrev pub ListTold : (A : Type 0) → List ℕ → List FlatExtension → List FlatExtension → Status → ℕ → Type 0
+ListTold A = ExtensionsTold (extensions {A = A}) (λ v. v) ListedIn

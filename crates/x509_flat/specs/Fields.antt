@@ -12,7 +12,7 @@ use Rattle.x509_fields.specs.Requests.{RequestIn}
 use Rattle.x509_fields.specs.declared.certificate.CertificateFields.{CertificateFields}
 use Rattle.x509_fields.specs.declared.private_key.PrivateKeyInfoFields.{PrivateKeyInfoFields}
 use Rattle.x509_fields.specs.declared.request.CertificationRequestFields.{CertificationRequestFields}
-use Rattle.x509_flat.specs.Spans.{flat_span, flat_span_if}
+use Rattle.x509_flat.specs.Spans.{flat_span, flat_span_if, no_span}
 use Rattle.x509_flat.specs.Statuses.{OnlyReads}
 use Rattle.x509_flat.specs.declared.certificate_fields.FlatCertificate.{FlatCertificate}
 use Rattle.x509_flat.specs.declared.private_key_fields.FlatPrivateKey.{FlatPrivateKey}
@@ -57,6 +57,44 @@ flat_private_key at = record {
   public_key = flat_span_if at.public_key;
 }
 
+-- all zeros
+abbrev pub no_certificate : FlatCertificate
+no_certificate = record {
+  tbs_certificate = no_span;
+  version = no_span;
+  serial_number = no_span;
+  signature = no_span;
+  issuer = no_span;
+  validity = no_span;
+  subject = no_span;
+  subject_public_key_info = no_span;
+  issuer_unique_id = no_span;
+  subject_unique_id = no_span;
+  extensions = no_span;
+  signature_algorithm = no_span;
+  signature_value = no_span;
+}
+
+abbrev pub no_request : FlatRequest
+no_request = record {
+  certification_request_info = no_span;
+  version = no_span;
+  subject = no_span;
+  subject_public_key_info = no_span;
+  attributes = no_span;
+  signature_algorithm = no_span;
+  signature = no_span;
+}
+
+abbrev pub no_private_key : FlatPrivateKey
+no_private_key = record {
+  version = no_span;
+  private_key_algorithm = no_span;
+  private_key = no_span;
+  skipped = no_span;
+  public_key = no_span;
+}
+
 -- a value that the bytes encode, whose fields stand at places of which a fact holds
 pub record Fielded {V Places : Type 0} (s : Shape V) (bytes : List ℕ) (StandIn : V → Places → List ℕ → Tally → Type 0) (fact : Places → Type 0) : Type 0 where
   pub value : V
@@ -67,17 +105,17 @@ pub record Fielded {V Places : Type 0} (s : Shape V) (bytes : List ℕ) (StandIn
   pub holds : fact places
 
 -- what a status says of telling where fields stand; memory is never refused
-pub record FieldsTold {V Places : Type 0} (s : Shape V) (bytes : List ℕ) (StandIn : V → Places → List ℕ → Tally → Type 0) (status : Status) (fact : Places → Type 0) : Type 0 where
-  pub done : status ≡ answer.Done → Fielded s bytes StandIn fact
-  pub refused : status ≡ answer.Refused → (v : V) (y : Tally) → s.spelled v bytes y → ⊥
+pub record FieldsTold {V Places Flat : Type 0} (s : Shape V) (bytes : List ℕ) (StandIn : V → Places → List ℕ → Tally → Type 0) (flat : Places → Flat) (none : Flat) (status : Status) (fields : Flat) : Type 0 where
+  pub done : status ≡ answer.Done → Fielded s bytes StandIn (λ at. fields ≡ flat at)
+  pub refused : status ≡ answer.Refused → (fields ≡ none) × ((v : V) (y : Tally) → s.spelled v bytes y → ⊥)
   pub memory : status ≡ answer.OutOfMemory → ⊥
   pub others : OnlyReads status
 
 abbrev pub CertificateTold : (A : Type 0) → List ℕ → Status → FlatCertificate → Type 0
-CertificateTold A bytes status fields = FieldsTold (certificate {A = A}) bytes CertificateIn status (λ at. fields ≡ flat_certificate at)
+CertificateTold A bytes status fields = FieldsTold (certificate {A = A}) bytes CertificateIn flat_certificate no_certificate status fields
 
 abbrev pub RequestTold : (A : Type 0) → List ℕ → Status → FlatRequest → Type 0
-RequestTold A bytes status fields = FieldsTold (request {A = A}) bytes RequestIn status (λ at. fields ≡ flat_request at)
+RequestTold A bytes status fields = FieldsTold (request {A = A}) bytes RequestIn flat_request no_request status fields
 
 abbrev pub PrivateKeyTold : (A : Type 0) → List ℕ → Status → FlatPrivateKey → Type 0
-PrivateKeyTold A bytes status fields = FieldsTold (private_key_info {A = A}) bytes PrivateKeyIn status (λ at. fields ≡ flat_private_key at)
+PrivateKeyTold A bytes status fields = FieldsTold (private_key_info {A = A}) bytes PrivateKeyIn flat_private_key no_private_key status fields

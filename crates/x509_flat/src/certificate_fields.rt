@@ -1,7 +1,7 @@
 //! Where the fields of a certificate stand.
 
 ghost use Rattle.std.specs.Prelude.{◌≡◌};
-ghost use Rattle.x509_flat.specs.Fields.{flat_certificate, CertificateTold};
+ghost use Rattle.x509_flat.specs.Fields.{flat_certificate, CertificateTold, no_certificate};
 
 use crate::span::FlatSpan;
 use crate::status::Answer;
@@ -63,7 +63,9 @@ impl FlatCertificate {
     }
 
     /// All zeros.
-    fn none() -> Self {
+    fn none() -> Self
+        ensures { result ≡ no_certificate }
+    {
         FlatCertificate {
             tbs_certificate: FlatSpan { start: 0, end: 0 },
             version: FlatSpan { start: 0, end: 0 },

@@ -2,7 +2,7 @@
 
 ghost use Rattle.std.specs.Prelude.{◌≡◌, ◌+◌, ◌/◌, ◌≤◌, length};
 ghost use Rattle.x509_flat.specs.Statuses.{IsStatusOf};
-ghost use Rattle.x509_flat.specs.Checks.{IsRefusalOf, Tells, TellsOf};
+ghost use Rattle.x509_flat.specs.Checks.{Tells, TellsOf, no_verdict, verdict_of};
 
 use crate::kind::Kind;
 use crate::status::{Status, status_of};
@@ -29,7 +29,9 @@ pub struct Verdict {
 
 impl Verdict {
     /// All zeros.
-    pub fn none() -> Self {
+    pub fn none() -> Self
+        ensures { result ≡ no_verdict }
+    {
         Verdict {
             counts: [0; 10],
             headers: 0,
@@ -51,7 +53,7 @@ pub struct Checked {
 /// The verdict on bytes that were refused.
 fn refused_by(refused: Refused, headers: usize) -> Checked
     ensures status { IsStatusOf refused.error result.status }
-    ensures verdict { IsRefusalOf refused headers result.verdict }
+    ensures verdict { result.verdict ≡ verdict_of (Err refused) headers }
 {
     Checked {
         status: status_of(refused.error),

@@ -1,9 +1,7 @@
 //! Where extensions stand.
 
 ghost use Rattle.std.specs.Prelude.{◌≡◌, ◌+◌, ◌<◌, ◌≤◌, ◌^◌, length};
-ghost use Rattle.picky_asn1_x509.specs.Certificates.{certificate};
-ghost use Rattle.picky_asn1_x509.specs.ExtensionLists.{extensions};
-ghost use Rattle.x509_flat.specs.Extensions.{ExtensionsTold, Fronts, PlacedAt, PutsAll};
+ghost use Rattle.x509_flat.specs.Extensions.{CarriedTold, Fronts, ListTold, PlacedAt, PutsAll};
 ghost use Rattle.x509_flat.specs.Spans.{flat_span};
 
 use crate::span::FlatSpan;
@@ -100,8 +98,7 @@ pub fn of_certificate<A: Allocator + Copy>(
     bytes: &[u8],
     out: &mut [FlatExtension],
 ) -> Sized
-    ensures { ExtensionsTold (certificate {A = A}) (λ v. v.tbs_certificate.extensions) bytes.now out.old out.new
-        result.status result.size }
+    ensures { CarriedTold A bytes.now out.old out.new result.status result.size }
 {
     match check::<Certificate<A>, A>(alloc, bytes) {
         Ok(_deviations) => put_places::<A>(bytes, certificate_items::<A>(bytes), out),
@@ -115,7 +112,7 @@ pub fn of_extensions<A: Allocator + Copy>(
     bytes: &[u8],
     out: &mut [FlatExtension],
 ) -> Sized
-    ensures { ExtensionsTold (extensions {A = A}) (λ v. v) bytes.now out.old out.new result.status result.size }
+    ensures { ListTold A bytes.now out.old out.new result.status result.size }
 {
     match check::<Extensions<A>, A>(alloc, bytes) {
         Ok(_deviations) => put_places::<A>(bytes, listed_items::<A>(bytes), out),

@@ -1,7 +1,7 @@
 //! Where the fields of a private key stand.
 
 ghost use Rattle.std.specs.Prelude.{◌≡◌};
-ghost use Rattle.x509_flat.specs.Fields.{flat_private_key, PrivateKeyTold};
+ghost use Rattle.x509_flat.specs.Fields.{flat_private_key, PrivateKeyTold, no_private_key};
 
 use crate::span::FlatSpan;
 use crate::status::Answer;
@@ -39,7 +39,9 @@ impl FlatPrivateKey {
     }
 
     /// All zeros.
-    fn none() -> Self {
+    fn none() -> Self
+        ensures { result ≡ no_private_key }
+    {
         FlatPrivateKey {
             version: FlatSpan { start: 0, end: 0 },
             private_key_algorithm: FlatSpan { start: 0, end: 0 },

@@ -1,7 +1,7 @@
 //! Where the fields of a request stand.
 
 ghost use Rattle.std.specs.Prelude.{◌≡◌};
-ghost use Rattle.x509_flat.specs.Fields.{flat_request, RequestTold};
+ghost use Rattle.x509_flat.specs.Fields.{flat_request, RequestTold, no_request};
 
 use crate::span::FlatSpan;
 use crate::status::Answer;
@@ -45,7 +45,9 @@ impl FlatRequest {
     }
 
     /// All zeros.
-    fn none() -> Self {
+    fn none() -> Self
+        ensures { result ≡ no_request }
+    {
         FlatRequest {
             certification_request_info: FlatSpan { start: 0, end: 0 },
             version: FlatSpan { start: 0, end: 0 },

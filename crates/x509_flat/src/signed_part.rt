@@ -4,7 +4,7 @@ ghost use Rattle.std.specs.Prelude.{◌≡◌, ◌+◌, ◌<◌, ◌^◌, length
 ghost use Rattle.picky_asn1_x509.specs.Certificates.{signature_fields, certificate, certificate_parts};
 ghost use Rattle.picky_asn1_x509.specs.Requests.{request, request_info, request_parts};
 ghost use Rattle.picky_asn1_x509.specs.TbsCertificates.{tbs_certificate};
-ghost use Rattle.x509_flat.specs.SignedParts.{IsSigned, SignedTold};
+ghost use Rattle.x509_flat.specs.SignedParts.{IsSigned, SignedTold, no_signed};
 ghost use Rattle.x509_flat.specs.Statuses.{IsStatusOf};
 
 use crate::span::FlatSpan;
@@ -26,7 +26,9 @@ pub struct FlatSigned {
 
 impl FlatSigned {
     /// All zeros.
-    pub fn none() -> Self {
+    pub fn none() -> Self
+        ensures { result ≡ no_signed }
+    {
         FlatSigned {
             part: FlatSpan { start: 0, end: 0 },
             inside: [0; 10],
@@ -46,7 +48,8 @@ pub struct SignedAnswer {
 
 /// The answer to bytes that were refused.
 fn refused(error: ReadError) -> SignedAnswer
-    ensures { IsStatusOf error result.status }
+    ensures status { IsStatusOf error result.status }
+    ensures signed { result.signed ≡ no_signed }
 {
     SignedAnswer {
         status: status_of(error),

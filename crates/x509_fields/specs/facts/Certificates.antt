@@ -19,10 +19,11 @@ use Rattle.picky_asn1_x509.specs.CertificatePlaces.{CertificateAt}
 use Rattle.picky_asn1_x509.specs.facts.TbsCertificates.{means_tbs}
 use Rattle.picky_asn1_x509.specs.declared.certificate.Certificate.{Certificate}
 use Rattle.picky_asn1_x509.specs.declared.tbs_certificate.TbsCertificate.{TbsCertificate}
-use Rattle.x509_fields.specs.Certificates.{TbsFieldsIn, TbsIn, CertificateIn}
-use Rattle.x509_fields.specs.Walks.{Walk, Steps, StepsIf, Inside}
+use Rattle.x509_fields.specs.Certificates.{TbsFieldsIn, TbsIn, CertificateIn, tbs_spans, certificate_spans}
+use Rattle.x509_fields.specs.Walks.{Walk, Steps, StepsIf, Inside, ToEnd}
 use Rattle.x509_fields.specs.declared.certificate.TbsCertificateFields.{TbsCertificateFields}
 use Rattle.x509_fields.specs.declared.certificate.CertificateFields.{CertificateFields}
+use Rattle.x509_fields.specs.facts.Chains.{Passes, passes_none, passes_one, passes_if, to_end, fill_all, fill_part}
 use Rattle.x509_fields.specs.facts.Fields.{Before, append_one, at_front, at_back, field_step, optional_step, other_tag, other_tag_if, element_raw, whole_content}
 
 -- the walk before the first step, and behind each of the ten, with what each found
@@ -49,7 +50,20 @@ pub record TbsWalk (at : TbsCertificateFields) : Type 0 where
   pub t9 : StepsIf 130 w8 w9 at.subject_unique_id
   pub t10 : StepsIf 163 w9 w10 at.extensions
 
-pub walked_tbs : {A : Type 0} → IsElement (algorithm_identifier {A = A}) → IsElement (name {A = A}) → IsElement validity → IsElement (subject_public_key_info {A = A}) → (at : TbsCertificateFields) (k : TbsWalk at) (f : TbsFields A) (string : List ℕ) (y : Tally) → Stands tbs_inner f k.w.at k.w.rest string y → TbsFieldsIn f at string y
+tbs_passes : (at : TbsCertificateFields) (k : TbsWalk at) → Passes k.w k.w10 (tbs_spans at)
+tbs_passes at k =
+    passes_if 160 k.w k.w1 k.w10 at.version _ k.t1
+    (passes_one k.w1 k.w2 k.w10 at.serial_number _ k.t2
+    (passes_one k.w2 k.w3 k.w10 at.signature _ k.t3
+    (passes_one k.w3 k.w4 k.w10 at.issuer _ k.t4
+    (passes_one k.w4 k.w5 k.w10 at.validity _ k.t5
+    (passes_one k.w5 k.w6 k.w10 at.subject _ k.t6
+    (passes_one k.w6 k.w7 k.w10 at.subject_public_key_info _ k.t7
+    (passes_if 129 k.w7 k.w8 k.w10 at.issuer_unique_id _ k.t8
+    (passes_if 130 k.w8 k.w9 k.w10 at.subject_unique_id _ k.t9
+    (passes_if 163 k.w9 k.w10 k.w10 at.extensions _ k.t10 (passes_none k.w10))))))))))
+
+pub walked_tbs : {A : Type 0} → IsElement (algorithm_identifier {A = A}) → IsElement (name {A = A}) → IsElement validity → IsElement (subject_public_key_info {A = A}) → (at : TbsCertificateFields) (k : TbsWalk at) (f : TbsFields A) (string : List ℕ) (y : Tally) → Stands tbs_inner f k.w.at k.w.rest string y → TbsFieldsIn f at string y × ToEnd k.w (tbs_spans at)
 walked_tbs algorithms names validities keys at k f string y st =
     let j0 = st.parts in
     let j1 = j0.second.parts in
@@ -88,19 +102,21 @@ walked_tbs algorithms names validities keys at k f string y st =
     let m8 = m7 + length e1.front in
     let r9 = optional_step 130 bit_strings refl (lit< tt) f.1.1.1.0 m8 e2.front (e2.back ++ []) string y k.w8 k.w9 at.subject_unique_id e2.first.parts (at_front k.w8 m8 e1.back e2.front e2.back [] e2.bytes (at_back k.w8 m7 e1.front e1.back [] r8.behind)) (other_tag_if 130 163 extensions f.1.1.1.1 e2.back [] _ refl e2.second.field.spelled tt) k.t9 in
     let m9 = m8 + length e2.front in
-    let r10 = optional_step 163 extensions refl (lit< tt) f.1.1.1.1 m9 e2.back [] string y k.w9 k.w10 at.extensions e2.second.parts (at_back k.w9 m8 e2.front e2.back [] r9.behind) tt k.t10 in
-    record {
-      version = r1.field;
-      serial_number = r2.field;
-      signature = r3.field;
-      issuer = r4.field;
-      validity = r5.field;
-      subject = r6.field;
-      subject_public_key_info = r7.field;
-      issuer_unique_id = r8.field;
-      subject_unique_id = r9.field;
-      extensions = r10.field;
-    }
+    let r10 = optional_step 163 extensions refl (lit< tt) f.1.1.1.1 m9 e2.back [] string y k.w9 k.w10 at.extensions e2.second.parts (at_back k.w9 m8 e2.front e2.back [] r9.behind) tt k.t10 in (
+      record {
+        version = r1.field;
+        serial_number = r2.field;
+        signature = r3.field;
+        issuer = r4.field;
+        validity = r5.field;
+        subject = r6.field;
+        subject_public_key_info = r7.field;
+        issuer_unique_id = r8.field;
+        subject_unique_id = r9.field;
+        extensions = r10.field;
+      },
+      to_end k.w k.w10 (tbs_spans at) (tbs_passes at k) r10.behind.rest,
+    )
 
 -- the walk over a certificate, which begins inside of its element, and the one inside of what is signed
 pub record CertificateWalk (at : CertificateFields) (outer : Walk) : Type 0 where
@@ -115,7 +131,13 @@ pub record CertificateWalk (at : CertificateFields) (outer : Walk) : Type 0 wher
   pub t2 : Steps w1 w2 at.signature_algorithm
   pub t3 : Steps w2 w3 at.signature_value
 
-pub walked_certificate : {A : Type 0} → IsElement (tbs_certificate {A = A}) → IsElement (algorithm_identifier {A = A}) → (at : CertificateFields) (outer : Walk) (k : CertificateWalk at outer) (v : Certificate A) (string : List ℕ) (y : Tally) → CertificateAt v string y → outer.rest ≡ string → outer.at ≡ 0 → ((f : TbsFields A) (s : List ℕ) (z : Tally) → Stands tbs_inner f k.inner.at k.inner.rest s z → TbsFieldsIn f at.fields s z) → CertificateIn v at string y
+certificate_passes : (at : CertificateFields) (outer : Walk) (k : CertificateWalk at outer) → Passes k.w k.w3 (certificate_spans at)
+certificate_passes at outer k =
+    passes_one k.w k.w1 k.w3 at.tbs_certificate _ k.t1
+    (passes_one k.w1 k.w2 k.w3 at.signature_algorithm _ k.t2
+    (passes_one k.w2 k.w3 k.w3 at.signature_value _ k.t3 (passes_none k.w3)))
+
+pub walked_certificate : {A : Type 0} → IsElement (tbs_certificate {A = A}) → IsElement (algorithm_identifier {A = A}) → (at : CertificateFields) (outer : Walk) (k : CertificateWalk at outer) (v : Certificate A) (string : List ℕ) (y : Tally) → CertificateAt v string y → outer.rest ≡ string → outer.at ≡ 0 → ((f : TbsFields A) (s : List ℕ) (z : Tally) → Stands tbs_inner f k.inner.at k.inner.rest s z → TbsFieldsIn f at.fields s z × ToEnd k.inner (tbs_spans at.fields)) → CertificateIn v at string y
 walked_certificate {A} parts algorithms at outer k v string y a rest start fields =
     let i = whole_content 48 a.content string outer k.w refl (lit< tt) a.bytes rest start k.inside in
     let m = header a.content in
@@ -134,6 +156,8 @@ walked_certificate {A} parts algorithms at outer k v string y a rest start field
     let place : k.inner.at ≡ m + header s.content = n.1 ∙ ap (λ x. x + header s.content) i.1 in
     let St : ℕ → List ℕ → Type 0 = λ x p. Stands tbs_inner b.base x p string y in
     let st = subst (λ x. St x k.inner.rest) (sym place) (subst (St (m + header s.content)) (sym n.0) s.inner) in
+    let inner = fields b.base string y st in
+    let here : at.tbs_certificate.start ≡ m = k.t1.start ∙ i.1 in
     let P : TbsCertificate A → Type 0 = λ w. TbsIn w at.fields string y in
     record {
       tbs_certificate = r1.field;
@@ -142,8 +166,10 @@ walked_certificate {A} parts algorithms at outer k v string y a rest start field
         version_means = refl;
         extensions = b.base.1.1.1.1;
         extensions_mean = refl;
-        fields = fields b.base string y st;
+        fields = inner.0;
       });
       signature_algorithm = r2.field;
       signature_value = r3.field;
+      fill = fill_all string a.content (certificate_spans at) k.w a.bytes i.0 i.1 (to_end k.w k.w3 (certificate_spans at) (certificate_passes at outer k) r3.behind.rest);
+      signed = fill_part string a.signed s.content y a.signed_at.field.tally m at.tbs_certificate (tbs_spans at.fields) k.inner a.signed_at.field.part here (k.t1.end ∙ r1.behind.at) s.bytes n.0 place inner.1;
     }

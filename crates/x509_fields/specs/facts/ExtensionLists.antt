@@ -1,5 +1,5 @@
 -- A walk over the extensions of a list.
-use Rattle.std.proofs.Common.{◌≡◌, ℕ, ◌+◌, List, [], Option, Some, None, refl, sym, ◌∙◌, append-nil, lit<, arith, subst}
+use Rattle.std.proofs.Common.{◌≡◌, ℕ, ◌+◌, List, [], Option, Some, None, refl, sym, ap, ◌∙◌, append-nil, lit<, arith, subst}
 use Rattle.x509_der.specs.Element.{IsRaw, element, header}
 use Rattle.x509_der.specs.Items.{ItemsAt}
 use Rattle.x509_der.specs.Shape.{Shape, Lawful}
@@ -9,9 +9,13 @@ use Rattle.x509_der.specs.laws.Tagged.{tagged_lawful}
 use Rattle.picky_asn1_x509.specs.Extensions.{ExtensionFields, extension}
 use Rattle.picky_asn1_x509.specs.ExtensionLists.{extensions}
 use Rattle.picky_asn1_x509.specs.TbsCertificates.{list_in, extensions_field}
+use Rattle.picky_asn1_x509.specs.declared.certificate.Certificate.{Certificate}
+use Rattle.x509_fields.specs.Certificates.{CertificateIn}
+use Rattle.x509_fields.specs.Found.{CarriedIn, WalksTagged}
 use Rattle.x509_fields.specs.Slices.{Covers}
 use Rattle.x509_fields.specs.Spans.{FieldIn, OptionalIn}
 use Rattle.x509_fields.specs.Walks.{Walk, Inside}
+use Rattle.x509_fields.specs.declared.certificate.CertificateFields.{CertificateFields}
 use Rattle.x509_fields.specs.declared.span.Span.{Span}
 use Rattle.x509_fields.specs.facts.Fields.{element_raw}
 
@@ -38,31 +42,46 @@ pub record ListWalk (string : List ℕ) (span : Span) (inner : Walk) : Type 0 wh
   pub tag : Inside w w1
   pub list : Inside w1 inner
 
-some_items : {A : Type 0} → Lawful (extensions {A = A}) → (es : Option (List (ExtensionFields A))) (span : Span) (string : List ℕ) (y : Tally) (inner : Walk) → OptionalIn extensions_field es (Some span) string y → ListWalk string span inner → ItemsAt extension string y (list_in es) inner.at inner.rest
+-- the walk is where the list's content is, and over its items
+pub record Told {A : Type 0} (es : Option (List (ExtensionFields A))) (at : Option Span) (string : List ℕ) (y : Tally) (inner : Walk) : Type 0 where
+  pub list : WalksTagged at string inner
+  pub items : ItemsAt extension string y (list_in es) inner.at inner.rest
+
+some_items : {A : Type 0} → Lawful (extensions {A = A}) → (es : Option (List (ExtensionFields A))) (span : Span) (string : List ℕ) (y : Tally) (inner : Walk) → OptionalIn extensions_field es (Some span) string y → ListWalk string span inner → Told es (Some span) string y inner
 some_items l None span string y inner f k = absurd f
 some_items l (Some es) span string y inner f k =
-    let w = k.over f.slice (covered extensions_field es span string y f) in
+    let here = covered extensions_field es span string y f in
+    let w = k.over f.slice here in
     let a : ContentAt 163 extensions es span.start f.slice string y = (tagged_lawful 163 extensions l).parts es f.slice f.at.tally f.at.spelled span.start string y f.at.part in
     let b = a.inner.parts in
     let w1 = step_in 163 a.content k.w k.w1 k.tag (w.0 ∙ a.bytes) (element_raw 163 a.content (element 163 a.content) refl (lit< tt) refl) in
     let w2 = step_in 48 b.content k.w1 inner k.list (w1.0 ∙ b.bytes) (element_raw 48 b.content (element 48 b.content) refl (lit< tt) refl) in
-    moved_items extension es (span.start + header a.content + header b.content) inner.at b.content inner.rest string y b.inner.parts (omega (arith, w2.1, w1.1, w.1)) w2.0
+    let list : a.content ≡ element 48 inner.rest = b.bytes ∙ ap (element 48) (sym w2.0) in
+    let C : List ℕ → Type 0 = λ x. Covers string span.start span.end x in
+    record {
+      list = (subst C (a.bytes ∙ ap (element 163) list) here, omega (arith, w2.1, w1.1, w.1, ap header list, ap header w2.0));
+      items = moved_items extension es (span.start + header a.content + header b.content) inner.at b.content inner.rest string y b.inner.parts (omega (arith, w2.1, w1.1, w.1)) w2.0;
+    }
 
-no_items : {A : Type 0} (es : Option (List (ExtensionFields A))) (string : List ℕ) (y : Tally) (inner : Walk) → OptionalIn extensions_field es None string y → inner.rest ≡ [] → ItemsAt extension string y (list_in es) inner.at inner.rest
-no_items None string y inner f rest = rest
-no_items (Some es) string y inner f rest = absurd f
+no_items : {A : Type 0} (es : Option (List (ExtensionFields A))) (string : List ℕ) (y : Tally) (inner : Walk) → OptionalIn extensions_field es None string y → inner.rest ≡ [] → inner.at ≡ 0 → Told es None string y inner
+no_items None string y inner f rest at = record { list = (rest, at); items = rest }
+no_items (Some es) string y inner f rest at = absurd f
 
 -- the same by what the fields' places say
-pub items_there : {A : Type 0} → Lawful (extensions {A = A}) → (es : Option (List (ExtensionFields A))) (at : Option Span) (span : Span) (string : List ℕ) (y : Tally) (inner : Walk) → OptionalIn extensions_field es at string y → at ≡ Some span → ListWalk string span inner → ItemsAt extension string y (list_in es) inner.at inner.rest
+pub items_there : {A : Type 0} → Lawful (extensions {A = A}) → (es : Option (List (ExtensionFields A))) (at : Option Span) (span : Span) (string : List ℕ) (y : Tally) (inner : Walk) → OptionalIn extensions_field es at string y → at ≡ Some span → ListWalk string span inner → Told es at string y inner
 items_there l es at span string y inner f is k =
     let P : Option Span → Type 0 = λ o. OptionalIn extensions_field es o string y in
-    some_items l es span string y inner (subst P is f) k
+    let Q : Option Span → Type 0 = λ o. Told es o string y inner in
+    subst Q (sym is) (some_items l es span string y inner (subst P is f) k)
 
-pub items_absent : {A : Type 0} (es : Option (List (ExtensionFields A))) (at : Option Span) (string : List ℕ) (y : Tally) (inner : Walk) → OptionalIn extensions_field es at string y → at ≡ None → inner.rest ≡ [] → ItemsAt extension string y (list_in es) inner.at inner.rest
-items_absent es at string y inner f is rest =
+pub items_absent : {A : Type 0} (es : Option (List (ExtensionFields A))) (at : Option Span) (string : List ℕ) (y : Tally) (inner : Walk) → OptionalIn extensions_field es at string y → at ≡ None → inner.rest ≡ [] → inner.at ≡ 0 → Told es at string y inner
+items_absent es at string y inner f is rest place =
     let P : Option Span → Type 0 = λ o. OptionalIn extensions_field es o string y in
-    no_items es string y inner (subst P is f) rest
+    let Q : Option Span → Type 0 = λ o. Told es o string y inner in
+    subst Q (sym is) (no_items es string y inner (subst P is f) rest place)
 
--- of the list that an absent one means, too
-pub items_of : {A : Type 0} (es : Option (List (ExtensionFields A))) (vs : List (ExtensionFields A)) (string : List ℕ) (y : Tally) (inner : Walk) → list_in es ≡ vs → ItemsAt extension string y (list_in es) inner.at inner.rest → ItemsAt extension string y vs inner.at inner.rest
-items_of {A} es vs string y inner mean = let P : List (ExtensionFields A) → Type 0 = λ l. ItemsAt extension string y l inner.at inner.rest in subst P mean
+-- of a certificate, whose list may be left out
+pub carried : {A : Type 0} (v : Certificate A) (places : CertificateFields) (string : List ℕ) (y : Tally) (inner : Walk) → (r : CertificateIn v places string y) → Told r.fields.extensions places.fields.extensions string y inner → CarriedIn v inner string y
+carried {A} v places string y inner r t =
+    let P : List (ExtensionFields A) → Type 0 = λ l. ItemsAt extension string y l inner.at inner.rest in
+    record { places = places; stand = r; list = t.list; items = subst P r.fields.extensions_mean t.items }

@@ -7,9 +7,10 @@ use Rattle.x509_der.specs.Tagged.{tagged}
 use Rattle.x509_der.specs.Tally.{Tally}
 use Rattle.x509_der.specs.laws.Tagged.{tagged_element}
 use Rattle.picky_asn1_x509.specs.Extensions.{ExtensionFields, ExtensionAt, by_kind, kind_of}
-use Rattle.x509_fields.specs.Extensions.{ExtensionIn}
+use Rattle.x509_fields.specs.Extensions.{ExtensionIn, extension_spans}
 use Rattle.x509_fields.specs.Walks.{Walk, Steps, StepsIf}
 use Rattle.x509_fields.specs.declared.extension.ExtensionFields.{ExtensionFields as Places}
+use Rattle.x509_fields.specs.facts.Chains.{Passes, passes_none, passes_one, passes_if, to_end, fill_all}
 use Rattle.x509_fields.specs.facts.Fields.{Before, at_front, at_back, field_step, raw_step, optional_step, element_raw, element_follows}
 
 -- the walk before the first step, and behind each of the three, with what each found
@@ -21,6 +22,12 @@ pub record ExtensionWalk (at : Places) : Type 0 where
   pub t1 : Steps w w1 at.extn_id
   pub t2 : StepsIf 1 w1 w2 at.critical
   pub t3 : Steps w2 w3 at.extn_value
+
+extension_passes : (at : Places) (k : ExtensionWalk at) → Passes k.w k.w3 (extension_spans at)
+extension_passes at k =
+    passes_one k.w k.w1 k.w3 at.extn_id _ k.t1
+    (passes_if 1 k.w1 k.w2 k.w3 at.critical _ k.t2
+    (passes_one k.w2 k.w3 k.w3 at.extn_value _ k.t3 (passes_none k.w3)))
 
 pub walked_extension : {A : Type 0} (at : Places) (k : ExtensionWalk at) (v : ExtensionFields A) (string : List ℕ) (y : Tally) → (a : ExtensionAt v string y) → k.w.rest ≡ a.content → k.w.at ≡ header a.content → ExtensionIn v at string y
 walked_extension at k v string y a rest start =
@@ -34,4 +41,12 @@ walked_extension at k v string y a rest start =
     let m2 = m + length a.keys in
     let b3 : Before k.w2 m2 a.values [] = record { rest = r2.behind.rest; at = omega (arith, r2.behind.at, ap length a.key_fields, length-append a.ids a.flags) } in
     let r3 = raw_step (by_kind (kind_of v.extn_id)) v.extn_value m2 a.values [] string y k.w2 k.w3 at.extn_value (element_raw 4 a.octets a.values refl (lit< tt) a.value_bytes) a.value_at.field b3 k.t3 in
-    record { critical = a.spelled; critical_means = a.means; extn_id = r1.field; critical_at = r2.field; extn_value = r3.field }
+    let all = to_end k.w k.w3 (extension_spans at) (extension_passes at k) r3.behind.rest in
+    record {
+      critical = a.spelled;
+      critical_means = a.means;
+      extn_id = r1.field;
+      critical_at = r2.field;
+      extn_value = r3.field;
+      fill = fill_all string a.content (extension_spans at) k.w a.bytes rest start all;
+    }

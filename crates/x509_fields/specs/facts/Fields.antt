@@ -1,5 +1,5 @@
 -- A walk over fields that stand one behind another.
-use Rattle.std.proofs.Common.{◌≡◌, ℕ, ◌+◌, ◌==◌, ◌<◌, true, false, List, [], ◌∷◌, ◌++◌, length, refl, sym, ap, ◌∙◌, subst, arith, Option, Some, None}
+use Rattle.std.proofs.Common.{◌≡◌, ℕ, ◌+◌, ◌==◌, ◌<◌, true, false, List, [], ◌∷◌, ◌++◌, length, refl, sym, ap, ◌∙◌, subst, arith, eq-eqb, true≢false, Option, Some, None}
 use Rattle.x509_der.specs.Element.{IsRaw, element, header, is_tag}
 use Rattle.x509_der.specs.Fields.{FieldAt}
 use Rattle.x509_der.specs.Optional.{Optional, OptionalAt}
@@ -57,6 +57,11 @@ pub record FoundIf {V : Type 0} (s : Shape V) (v : Option V) (span : Option Span
 pub empty_behind : (old new : Walk) (m : ℕ) (p q : List ℕ) → p ≡ [] → new ≡ old → Before old m p q → Behind new m p q
 empty_behind old new m p q e n h = record { rest = ap (λ (w : Walk). w.rest) n ∙ h.rest ∙ ap (λ x. x ++ q) e; at = omega (arith, ap (λ (w : Walk). w.at) n, h.at, ap length e) }
 
+-- an element begins with its tag
+begins : (t : ℕ) (c q rest : List ℕ) → rest ≡ element t c ++ q → Follows (λ b. b == t) rest → ⊥
+unfolding element
+begins t c q rest e f = let h : (t == t) ≡ false = rw e at f in absurd (true≢false (sym (eq-eqb t t refl) ∙ h))
+
 -- nothing behind the field begins as it does
 pub optional_step : {V : Type 0} (t : ℕ) (s : Shape V) → is_tag t ≡ true → t < 256 → (v : Option V) (m : ℕ) (p q string : List ℕ) (whole : Tally) (old new : Walk) (span : Option Span) → OptionalAt (tagged t s) v m p string whole → Before old m p q → Follows (λ b. b == t) q → StepsIf t old new span → FoundIf (tagged t s) v span new m p q string whole
 optional_step t s fits byte None m p q string whole old new None f h g n = record { field = tt; behind = empty_behind old new m p q f n.0 h }
@@ -65,7 +70,7 @@ optional_step t s fits byte None m p q string whole old new (Some span) f h g n 
     absurd (n.1 (rw e g))
 optional_step t s fits byte (Some v) m p q string whole old new None f h g n =
     let i : IsTagged t s v p f.field.tally = f.field.spelled in
-    absurd (n.1 q i.content (h.rest ∙ ap (λ x. x ++ q) i.bytes))
+    absurd (begins t i.content q old.rest (h.rest ∙ ap (λ x. x ++ q) i.bytes) n.1)
 optional_step t s fits byte (Some v) m p q string whole old new (Some span) f h g n =
     let k = field_step (tagged t s) (tagged_element t s fits byte) v m p q string whole old new span f.field h n.0 in
     record { field = k.field; behind = k.behind }

@@ -16,10 +16,11 @@ use Rattle.picky_asn1_x509.specs.Attribute.{attribute}
 use Rattle.picky_asn1_x509.specs.Requests.{InfoFields, info_inner, info_parts, request_attributes, request_info}
 use Rattle.picky_asn1_x509.specs.CertificatePlaces.{RequestAt}
 use Rattle.picky_asn1_x509.specs.declared.certification_request.CertificationRequest.{CertificationRequest}
-use Rattle.x509_fields.specs.Requests.{InfoFieldsIn, RequestIn}
-use Rattle.x509_fields.specs.Walks.{Walk, Steps, Inside}
+use Rattle.x509_fields.specs.Requests.{InfoFieldsIn, RequestIn, info_spans, request_spans}
+use Rattle.x509_fields.specs.Walks.{Walk, Steps, Inside, ToEnd}
 use Rattle.x509_fields.specs.declared.request.CertificationRequestInfoFields.{CertificationRequestInfoFields}
 use Rattle.x509_fields.specs.declared.request.CertificationRequestFields.{CertificationRequestFields}
+use Rattle.x509_fields.specs.facts.Chains.{Passes, passes_none, passes_one, to_end, fill_all, fill_part}
 use Rattle.x509_fields.specs.facts.Fields.{Before, at_front, at_back, field_step, element_raw, whole_content}
 
 -- the walk before the first step, and behind each of the four, with what each found
@@ -34,7 +35,14 @@ pub record InfoWalk (at : CertificationRequestInfoFields) : Type 0 where
   pub t3 : Steps w2 w3 at.subject_public_key_info
   pub t4 : Steps w3 w4 at.attributes
 
-pub walked_info : {A : Type 0} → IsElement (name {A = A}) → IsElement (subject_public_key_info {A = A}) → (at : CertificationRequestInfoFields) (k : InfoWalk at) (f : InfoFields A) (string : List ℕ) (y : Tally) → Stands info_inner f k.w.at k.w.rest string y → InfoFieldsIn f at string y
+info_passes : (at : CertificationRequestInfoFields) (k : InfoWalk at) → Passes k.w k.w4 (info_spans at)
+info_passes at k =
+    passes_one k.w k.w1 k.w4 at.version _ k.t1
+    (passes_one k.w1 k.w2 k.w4 at.subject _ k.t2
+    (passes_one k.w2 k.w3 k.w4 at.subject_public_key_info _ k.t3
+    (passes_one k.w3 k.w4 k.w4 at.attributes _ k.t4 (passes_none k.w4))))
+
+pub walked_info : {A : Type 0} → IsElement (name {A = A}) → IsElement (subject_public_key_info {A = A}) → (at : CertificationRequestInfoFields) (k : InfoWalk at) (f : InfoFields A) (string : List ℕ) (y : Tally) → Stands info_inner f k.w.at k.w.rest string y → InfoFieldsIn f at string y × ToEnd k.w (info_spans at)
 walked_info names keys at k f string y st =
     let j0 = st.parts in
     let j1 = j0.second.parts in
@@ -47,7 +55,7 @@ walked_info names keys at k f string y st =
     let r3 = field_step subject_public_key_info keys f.1.1.0 m2 j2.front (j2.back ++ []) string y k.w2 k.w3 at.subject_public_key_info j2.first.field (at_front k.w2 m2 j1.back j2.front j2.back [] j2.bytes (at_back k.w2 m1 j1.front j1.back [] r2.behind)) k.t3 in
     let m3 = m2 + length j2.front in
     let r4 = field_step request_attributes (tagged_element 160 (items attribute) refl (lit< tt)) f.1.1.1 m3 j2.back [] string y k.w3 k.w4 at.attributes j2.second.field (at_back k.w3 m2 j2.front j2.back [] r3.behind) k.t4 in
-    record { version = r1.field; subject = r2.field; subject_public_key_info = r3.field; attributes = r4.field }
+    (record { version = r1.field; subject = r2.field; subject_public_key_info = r3.field; attributes = r4.field }, to_end k.w k.w4 (info_spans at) (info_passes at k) r4.behind.rest)
 
 -- the walk over a request, which begins inside of its element, and the one inside of what is signed
 pub record RequestWalk (at : CertificationRequestFields) (outer : Walk) : Type 0 where
@@ -62,7 +70,13 @@ pub record RequestWalk (at : CertificationRequestFields) (outer : Walk) : Type 0
   pub t2 : Steps w1 w2 at.signature_algorithm
   pub t3 : Steps w2 w3 at.signature
 
-pub walked_request : {A : Type 0} → IsElement (request_info {A = A}) → IsElement (algorithm_identifier {A = A}) → (at : CertificationRequestFields) (outer : Walk) (k : RequestWalk at outer) (v : CertificationRequest A) (string : List ℕ) (y : Tally) → RequestAt v string y → outer.rest ≡ string → outer.at ≡ 0 → ((f : InfoFields A) (s : List ℕ) (z : Tally) → Stands info_inner f k.inner.at k.inner.rest s z → InfoFieldsIn f at.fields s z) → RequestIn v at string y
+request_passes : (at : CertificationRequestFields) (outer : Walk) (k : RequestWalk at outer) → Passes k.w k.w3 (request_spans at)
+request_passes at outer k =
+    passes_one k.w k.w1 k.w3 at.certification_request_info _ k.t1
+    (passes_one k.w1 k.w2 k.w3 at.signature_algorithm _ k.t2
+    (passes_one k.w2 k.w3 k.w3 at.signature _ k.t3 (passes_none k.w3)))
+
+pub walked_request : {A : Type 0} → IsElement (request_info {A = A}) → IsElement (algorithm_identifier {A = A}) → (at : CertificationRequestFields) (outer : Walk) (k : RequestWalk at outer) (v : CertificationRequest A) (string : List ℕ) (y : Tally) → RequestAt v string y → outer.rest ≡ string → outer.at ≡ 0 → ((f : InfoFields A) (s : List ℕ) (z : Tally) → Stands info_inner f k.inner.at k.inner.rest s z → InfoFieldsIn f at.fields s z × ToEnd k.inner (info_spans at.fields)) → RequestIn v at string y
 walked_request {A} parts algorithms at outer k v string y a rest start fields =
     let i = whole_content 48 a.content string outer k.w refl (lit< tt) a.bytes rest start k.inside in
     let m = header a.content in
@@ -80,9 +94,13 @@ walked_request {A} parts algorithms at outer k v string y a rest start fields =
     let place : k.inner.at ≡ m + header s.content = n.1 ∙ ap (λ x. x + header s.content) i.1 in
     let St : ℕ → List ℕ → Type 0 = λ x p. Stands info_inner (info_parts v.certification_request_info) x p string y in
     let st = subst (λ x. St x k.inner.rest) (sym place) (subst (St (m + header s.content)) (sym n.0) s.inner) in
+    let inner = fields (info_parts v.certification_request_info) string y st in
+    let here : at.certification_request_info.start ≡ m = k.t1.start ∙ i.1 in
     record {
       certification_request_info = r1.field;
-      fields = fields (info_parts v.certification_request_info) string y st;
+      fields = inner.0;
       signature_algorithm = r2.field;
       signature = r3.field;
+      fill = fill_all string a.content (request_spans at) k.w a.bytes i.0 i.1 (to_end k.w k.w3 (request_spans at) (request_passes at outer k) r3.behind.rest);
+      signed = fill_part string a.signed s.content y a.signed_at.field.tally m at.certification_request_info (info_spans at.fields) k.inner a.signed_at.field.part here (k.t1.end ∙ r1.behind.at) s.bytes n.0 place inner.1;
     }

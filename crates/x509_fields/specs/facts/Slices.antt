@@ -23,6 +23,10 @@ cut string slice start end order within is =
       to = omega (arith, front, before, ap length whole, length-append (take start (take end string)) slice);
     }
 
+-- what is covered lies in the string
+pub covers_lies : (string slice : List ℕ) (start end : ℕ) → Covers string start end slice → (start ≤ end) × (end ≤ length string)
+covers_lies string slice start end k = (omega (arith, k.from, k.to), omega (arith, k.to, ap length k.bytes, length-append k.before (slice ++ k.after), length-append slice k.after))
+
 -- a span covers one slice
 pub same_slice : (string slice other : List ℕ) (start end : ℕ) → Covers string start end slice → Covers string start end other → slice ≡ other
 same_slice string slice other start end k f =

@@ -1,5 +1,6 @@
 -- What a walk does where elements stand.
-use Rattle.std.proofs.Common.{subst, ◌≡◌, ℕ, ◌+◌, ◌≤◌, ◌==◌, true, List, [], ◌∷◌, ◌++◌, length, take, drop, get_or, refl, sym, ap, ◌∙◌, arith, length-append, eq-eqb, false, ◌<◌}
+use Rattle.std.proofs.Common.{subst, ◌≡◌, ℕ, ◌+◌, ◌≤◌, ◌==◌, not, true, Bool, List, [], ◌∷◌, ◌++◌, length, take, drop, get_or, refl, sym, ap, ◌∙◌, arith, length-append, eq-eqb, false, true≢false, ◌<◌}
+use Rattle.std.proofs.lemmas.Bool.{ne_eqb}
 use Rattle.std.proofs.Math.Seq.{drop-append_seam, take-append_seam}
 use Rattle.x509_der.specs.Types.{Element}
 use Rattle.x509_der.specs.Element.{IsRaw, digits, element, header, is_tag}
@@ -7,7 +8,7 @@ use Rattle.x509_der.specs.facts.Element.{element_one, element_length}
 use Rattle.x509_der.specs.FirstElement.{FoundAt}
 use Rattle.x509_der.specs.Reading.{NoFirst}
 use Rattle.x509_der.specs.Shape.{Follows}
-use Rattle.x509_fields.specs.Walks.{Walk, Steps, StepsOn, AreElements, Counts, Inside}
+use Rattle.x509_fields.specs.Walks.{Walk, Steps, StepsOn, BeginWith, Counts, Inside}
 use Rattle.x509_fields.specs.declared.span.Span.{Span}
 
 pub found_end : (string : List ℕ) (e : Element) → FoundAt string e → e.end ≤ length string
@@ -31,6 +32,7 @@ steps old new e span f rest at start end =
       past = λ p q h g.
           let k = element_one h.tag e.tag h.content f.content q f.after (ap (λ x. x ++ q) (sym h.bytes) ∙ sym g ∙ f.first.bytes) in
           (after ∙ sym k.rest, omega (arith, at, f.end, ap length h.bytes, element_length h.tag h.content, ap header k.content, ap length k.content));
+      stays = λ n. absurd (n e.tag f.content f.after f.first.tag f.first.bytes);
     }
 
 header_positive : (c : List ℕ) → 1 ≤ header c
@@ -46,6 +48,7 @@ stays old span n start end = record {
   end = end;
   goes = record { forward = omega arith; ends = refl };
   past = λ p q h g. absurd (n h.tag h.content q h.fits (g ∙ ap (λ x. x ++ q) h.bytes));
+  stays = λ n. refl;
 }
 
 content_from : (t : ℕ) (c : List ℕ) → drop (header c) (element t c) ≡ c
@@ -64,6 +67,7 @@ inside_found outer inner e f rest at =
       content = λ t c q h g.
           let k = element_one t e.tag c f.content q f.after (sym g ∙ f.first.bytes) in
           (content ∙ sym k.content, at ∙ ap (λ n. outer.at + n) f.start ∙ ap (λ x. outer.at + header x) (sym k.content));
+      nothing = λ n. absurd (n e.tag f.content f.after f.first.tag f.first.bytes);
     }
 
 tag_of : (t : ℕ) (c : List ℕ) → IsRaw (element t c) → is_tag t ≡ true
@@ -76,48 +80,50 @@ inside_none outer inner n rest at = record {
   after = omega (arith, at);
   within = omega (arith, at, ap length rest);
   content = λ t c q h g. absurd (n t c q (tag_of t c h) g);
+  nothing = λ m. (rest, at);
 }
 
--- an element begins with its tag
-begins_with : (t : ℕ) (c q : List ℕ) (first : ℕ) (r : List ℕ) → first ∷ r ≡ element t c ++ q → first ≡ t
-unfolding element
-begins_with t c q first r e = cc
+not_both : (b : Bool) → b ≡ false → not b ≡ false → ⊥
+not_both true e f = true≢false e
+not_both false e f = true≢false f
 
-pub no_element : (t : ℕ) (rest : List ℕ) → length rest < 1 → (q c : List ℕ) → rest ≡ element t c ++ q → ⊥
-no_element t rest n q c e = omega (arith, n, ap length e, length-append (element t c) q, element_length t c, header_positive c)
+-- nothing is left, or what is left begins with a byte outside of the set
+pub none_begun : (set : ℕ → Bool) (rest : List ℕ) → length rest < 1 → Follows set rest
+none_begun set [] n = tt
+none_begun set (b ∷ r) n = absurd (omega (arith, n))
 
-pub other_element : (t : ℕ) (rest : List ℕ) → 1 ≤ length rest → (get_or rest 0 0 ≡ t → ⊥) → (q c : List ℕ) → rest ≡ element t c ++ q → ⊥
-other_element t [] l n q c e = omega (arith, l)
-other_element t (b ∷ r) l n q c e = n (begins_with t c q b r e)
+pub not_begun : (t : ℕ) (rest : List ℕ) → 1 ≤ length rest → (get_or rest 0 0 ≡ t → ⊥) → Follows (λ b. b == t) rest
+not_begun t [] l n = tt
+not_begun t (b ∷ r) l n = ne_eqb b t n
 
 pub begun : (t : ℕ) (rest : List ℕ) → 1 ≤ length rest → get_or rest 0 0 ≡ t → Follows (λ b. b == t) rest → ⊥
 begun t [] l e f = omega (arith, l)
 begun t (b ∷ r) l e f = let h : (b == t) ≡ true = eq-eqb b t e in cc
 
-pub not_empty : (rest : List ℕ) → 1 ≤ length rest → rest ≡ [] → ⊥
-not_empty rest l e = omega (arith, l, ap length e)
+-- the same of another tag
+pub other_begun : (t : ℕ) (rest : List ℕ) → 1 ≤ length rest → (get_or rest 0 0 ≡ t → ⊥) → Follows (λ b. not (b == t)) rest → ⊥
+other_begun t [] l n f = omega (arith, l)
+other_begun t (b ∷ r) l n f = not_both (b == t) (ne_eqb b t n) f
 
-pub no_elements : (tag : ℕ) (rest : List ℕ) → length rest < 1 → (q : List ℕ) (t : ℕ) (c : List ℕ) → (t == tag) ≡ false → rest ≡ element t c ++ q → ⊥
-no_elements tag rest n q t c other e = no_element t rest n q c e
+pub no_other_begun : (t : ℕ) (rest : List ℕ) → 1 ≤ length rest → get_or rest 0 0 ≡ t → Follows (λ b. not (b == t)) rest
+no_other_begun t [] l e = tt
+no_other_begun t (b ∷ r) l e = ap not (eq-eqb b t e)
 
--- what begins with the tag begins with no other
-pub same_element : (tag : ℕ) (rest : List ℕ) → 1 ≤ length rest → get_or rest 0 0 ≡ tag → (q : List ℕ) (t : ℕ) (c : List ℕ) → (t == tag) ≡ false → rest ≡ element t c ++ q → ⊥
-same_element tag [] l h q t c n e = omega (arith, l)
-same_element tag (b ∷ r) l h q t c n e =
-    let k : (t == tag) ≡ true = eq-eqb t tag (sym (begins_with t c q b r e) ∙ h) in
-    cc
+-- nothing begins with no element
+pub nothing_first : NoFirst []
+nothing_first t c q fits e = omega (arith, ap length e, length-append (element t c) q, element_length t c, header_positive c)
 
 -- a walk over what is left of elements, of which so many are gone past
 pub record Gone (first now : Walk) (count : ℕ) : Type 0 where
   pub at : first.at + count ≤ now.at
   pub ends : now.at + length now.rest ≡ first.at + length first.rest
-  pub left : (parts : List (List ℕ)) → AreElements parts first.rest → (more : List (List ℕ)) × ((count + length more ≡ length parts) × AreElements more now.rest)
+  pub left : (parts : List (List ℕ)) → BeginWith parts first.rest → (more : List (List ℕ)) × ((count + length more ≡ length parts) × BeginWith more now.rest)
 
-next_gone : (now next : Walk) (span : Span) (count : ℕ) (parts more : List (List ℕ)) → Steps now next span → now.at < next.at → count + length more ≡ length parts → AreElements more now.rest → (after : List (List ℕ)) × (((count + 1) + length after ≡ length parts) × AreElements after next.rest)
-next_gone now next span count parts [] s forward size h = absurd (omega (arith, s.goes.ends, forward, ap length h))
+next_gone : (now next : Walk) (span : Span) (count : ℕ) (parts more : List (List ℕ)) → Steps now next span → now.at < next.at → count + length more ≡ length parts → BeginWith more now.rest → (after : List (List ℕ)) × (((count + 1) + length after ≡ length parts) × BeginWith after next.rest)
+next_gone now next span count parts [] s forward size h = absurd (omega (arith, forward, ap (λ (w : Walk). w.at) (s.stays h)))
 next_gone now next span count parts (p ∷ ps) s forward size h =
     let k = s.past p h.1.0 h.0 h.1.1.0 in
-    let P : List ℕ → Type 0 = λ x. AreElements ps x in
+    let P : List ℕ → Type 0 = λ x. BeginWith ps x in
     (ps, (omega (arith, size), subst P (sym k.0) h.1.1.1))
 
 pub one_gone : (first now next : Walk) (span : Span) (count : ℕ) → Gone first now count → Steps now next span → now.at < next.at → Gone first next (count + 1)
@@ -127,7 +133,7 @@ one_gone first now next span count g s forward = record {
   left = λ parts h. let l = g.left parts h in next_gone now next span count parts l.0 s forward l.1.0 l.1.1;
 }
 
-no_more : (more : List (List ℕ)) (rest : List ℕ) → NoFirst rest → AreElements more rest → more ≡ []
+no_more : (more : List (List ℕ)) (rest : List ℕ) → NoFirst rest → BeginWith more rest → more ≡ []
 no_more [] rest n h = refl
 no_more (p ∷ ps) rest n h = absurd (n h.0.tag h.0.content h.1.0 h.0.fits (h.1.1.0 ∙ ap (λ x. x ++ h.1.0) h.0.bytes))
 

@@ -6,10 +6,11 @@ returns-in-Ok g c =
     let h = c.in-Ok.ensures in
     let w = h.1.whole in
     let all = c.put_places.ensures in
-    let puts = all.puts _ h.1.tally (c.listed_items.ensures h.0 h.1.tally w.spelled) in
+    let walked = c.listed_items.ensures h.0 h.1.tally w.spelled in
+    let puts = all.puts _ h.1.tally walked.items in
     record {
-      done = λ e. record { value = h.0; tally = h.1.tally; whole = w; holds = puts.done e };
-      short = λ e. record { value = h.0; tally = h.1.tally; whole = w; holds = puts.short e };
+      done = λ e. record { value = h.0; tally = h.1.tally; whole = w; walk = c.listed_items.result; walked = walked; holds = puts.done e };
+      short = λ e. record { value = h.0; tally = h.1.tally; whole = w; walk = c.listed_items.result; walked = walked; holds = puts.short e };
       refused = λ e. absurd (all.refused e);
       memory = all.memory;
       unknown = all.unknown;

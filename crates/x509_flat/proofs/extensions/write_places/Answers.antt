@@ -20,4 +20,4 @@ returns g c = λ list whole size later.
     let index = c.loop-index.index in
     let end : length list ≤ index = omega (arith, size) in
     let P : List (ExtensionFields _) → Type 0 = λ l. Told list l c.args.items.at c.loop-index.items c.args.out.now c.loop-index.out index c.args.bytes.now whole in
-    sized_front list c.args.bytes.now whole c.args.out.now c.loop-index.out index c.args.size (omega arith) (all_told list c.args.items.at index c.loop-index.items c.args.out.now c.loop-index.out c.args.bytes.now whole (subst P (drop_all index list end) (c.loop-index.invariant list whole size later)))
+    sized_front list c.args.items.at c.args.bytes.now whole c.args.out.now c.loop-index.out index c.args.size (omega arith) (all_told list c.args.items.at index c.loop-index.items c.args.out.now c.loop-index.out c.args.bytes.now whole (subst P (drop_all index list end) (c.loop-index.invariant list whole size later)))

@@ -17,8 +17,8 @@ returns-in-Ok g c = record {
 
 pub returns-in-Err : goal.returns-in-Err
 returns-in-Err g c = record {
-  done = λ e. absurd (c.refused.ensures.done e);
-  refused = λ e. c.in-Err.ensures.err.1;
-  memory = λ e. c.in-Err.ensures.err.0 (c.refused.ensures.memory e);
-  others = c.refused.ensures.others;
+  done = λ e. absurd (c.refused.ensures.status.done e);
+  refused = λ e. (c.refused.ensures.signed, c.in-Err.ensures.err.1);
+  memory = λ e. c.in-Err.ensures.err.0 (c.refused.ensures.status.memory e);
+  others = c.refused.ensures.status.others;
 }

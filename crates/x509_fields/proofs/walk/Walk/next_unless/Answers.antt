@@ -1,20 +1,19 @@
 use Rattle.std.proofs.Common.{◌≡◌, ◌≤◌, ap, refl, length, arith}
 use Rattle.x509_fields.specs.Walks.{Walk}
-use Rattle.x509_fields.specs.facts.Steps.{no_elements, same_element, other_element, not_empty}
+use Rattle.x509_fields.specs.facts.Steps.{none_begun, other_begun, no_other_begun}
 use Rattle.x509_fields.proofs.walk.Walk.next_unless.Goals as goal
 
 pub returns-in-len1-up : goal.returns-in-len1-up
 returns-in-len1-up c =
     let r : c.self.inside.rest.now ≡ c.args.self.now.rest = ap (λ (x : Walk). x.rest) c.self.view_is in
-    let l : 1 ≤ length c.args.self.now.rest = omega (arith, c.in-len1-up.len_at_least, ap length r) in
-    (c.next.ensures, other_element c.args.tag c.args.self.now.rest l (rw r at c.if-first-tag.true), not_empty c.args.self.now.rest l)
+    (c.next.ensures, other_begun c.args.tag c.args.self.now.rest (omega (arith, c.in-len1-up.len_at_least, ap length r)) (rw r at c.if-first-tag.true))
 
 pub returns-in_default : goal.returns-in_default
 returns-in_default c =
     let r : c.self.inside.rest.now ≡ c.args.self.now.rest = ap (λ (x : Walk). x.rest) c.self.view_is in
-    (refl, no_elements c.args.tag c.args.self.now.rest (omega (arith, c.in_default.len_below, ap length r)))
+    (refl, none_begun _ c.args.self.now.rest (omega (arith, c.in_default.len_below, ap length r)))
 
 pub returns-in_default-2 : goal.returns-in_default-2
 returns-in_default-2 c =
     let r : c.self.inside.rest.now ≡ c.args.self.now.rest = ap (λ (x : Walk). x.rest) c.self.view_is in
-    (refl, same_element c.args.tag c.args.self.now.rest (omega (arith, c.in-len1-up.len_at_least, ap length r)) (rw r at c.if-first-tag.false))
+    (refl, no_other_begun c.args.tag c.args.self.now.rest (omega (arith, c.in-len1-up.len_at_least, ap length r)) (rw r at c.if-first-tag.false))
