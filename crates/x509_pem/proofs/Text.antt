@@ -1,5 +1,5 @@
 -- The text of a block: what encodes the bytes of the lines that were decoded, and the symbols behind them.
-use Rattle.std.proofs.Common.{◌≡◌, ℕ, ◌+◌, ◌*◌, ◌/◌, ◌%◌, ◌≤◌, Bool, true, List, [], ◌++◌, take, drop, length, refl, sym, ap, subst, ◌∙◌, arith, Result, Ok, Err, is_ok, if◌then◌else◌}
+use Rattle.std.proofs.Common.{◌≡◌, ℕ, ◌+◌, ◌*◌, ◌/◌, ◌%◌, ◌≤◌, Bool, true, false, List, [], ◌++◌, take, drop, length, refl, sym, ap, subst, ◌∙◌, arith, Result, Ok, Err, is_ok, is_err, if◌then◌else◌}
 use Rattle.std.proofs.lemmas.List.{append-nil, length-append, take-append-drop}
 use Rattle.base64.specs.Engines.{standard}
 use Rattle.base64.specs.GeneralPurpose.{IsBytes, decode_of, encode_of, engine_symbols}
@@ -89,23 +89,29 @@ full_kept (Ok u) is_open bytes text more new limit room is kept left wide len oc
     })
 
 -- the state of a block by its parts
-abbrev pub state : Bool → List ℕ → List ℕ → List ℕ → State
-state is_open label bytes text =
-    record { is_open = is_open; label = label; text = text_of bytes text; bytes = if is_open then [] else bytes }
+abbrev pub state : Bool → List ℕ → List ℕ → List ℕ → ℕ → State
+state is_open label bytes text begun =
+    record { is_open = is_open; label = label; text = text_of bytes text; bytes = if is_open then [] else bytes; begun = begun }
 
-pub full_decodes : {T E : Type 0} → (r : Result T E) (taken is_open : Bool) (label bytes text line more new : List ℕ) → taken ≡ is_ok r
+pub full_decodes : {T E : Type 0} → (r : Result T E) (taken is_open : Bool) (label bytes text line more new : List ℕ) (begun : ℕ) → taken ≡ is_ok r
     → length bytes % 3 ≡ 0 → text ≡ [] → length line ≡ 64 → line ≡ encode_of standard more
     → new ≡ (if is_ok r then bytes ++ more else bytes)
-    → Decodes taken line (state is_open label bytes text) (state is_open label new text)
-full_decodes (Err e) taken is_open label bytes text line more new was whole empty len is grown =
-    let P : Bool → Type 0 = λ b. Decodes b line (state is_open label bytes text) (state is_open label new text) in
-    subst P (sym was) (ap (λ b. state is_open label b text) grown)
-full_decodes (Ok u) taken is_open label bytes text line more new was whole empty len is grown =
-    let P : Bool → Type 0 = λ b. Decodes b line (state is_open label bytes text) (state is_open label new text) in
-    subst P (sym was) ((len, (more, is)), (refl, refl, text_full bytes text line more new whole empty is grown))
+    → Decodes taken line (state is_open label bytes text begun) (state is_open label new text begun)
+full_decodes (Err e) taken is_open label bytes text line more new begun was whole empty len is grown =
+    let P : Bool → Type 0 = λ b. Decodes b line (state is_open label bytes text begun) (state is_open label new text begun) in
+    subst P (sym was) (ap (λ b. state is_open label b text begun) grown)
+full_decodes (Ok u) taken is_open label bytes text line more new begun was whole empty len is grown =
+    let P : Bool → Type 0 = λ b. Decodes b line (state is_open label bytes text begun) (state is_open label new text begun) in
+    subst P (sym was) ((len, (more, is)), (refl, refl, text_full bytes text line more new whole empty is grown, refl))
 
 -- what is appended if there is memory makes a list no longer than that
 pub grown_by : {T E : Type 0} → (r : Result T E) (old more new : List ℕ) → new ≡ (if is_ok r then old ++ more else old)
     → length new ≤ length old + length more
 grown_by (Err e) old more new grown = omega (arith, ap length grown)
 grown_by (Ok u) old more new grown = omega (arith, ap length grown, length-append old more)
+
+-- what is there if there was memory, where there was
+pub grown_all : {T E : Type 0} → (r : Result T E) (all old new : List ℕ) → is_err r ≡ false → new ≡ (if is_ok r then all else old)
+    → new ≡ all
+grown_all (Ok u) all old new fine grown = grown
+grown_all (Err e) all old new fine grown = absurd (cc fine)

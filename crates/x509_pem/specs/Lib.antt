@@ -5,4 +5,5 @@ pub mod Part
 pub mod Reader
 pub mod Rest
 pub mod Step
+pub mod Text
 pub mod Whole

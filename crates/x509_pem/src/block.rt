@@ -1,50 +1,18 @@
 //! A block that is read line by line.
 
-ghost use Rattle.std.specs.Prelude.{◌≡◌, ◌≢◌, ◌↔◌, ◌≤◌, ◌<◌, ◌+◌, ◌*◌, ◌/◌, ◌%◌, ◌++◌, ℕ, List, [], true, false, length, codes, OnOk, OnErr, IfOk, MatchOption, IsErrOf};
-ghost use Rattle.std.specs.Str.{IsTrimAsciiEnd};
+ghost use Rattle.std.specs.Prelude.{◌≡◌, ◌≢◌, ◌↔◌, ◌≤◌, ◌<◌, ◌+◌, ◌*◌, ◌/◌, ◌%◌, ◌++◌, [], true, false, length, OnOk, OnErr, IfOk, IsErrOf, MatchResult};
 ghost use Rattle.base64.specs.GeneralPurpose.{IsBytes};
-ghost use Rattle.x509_pem.specs.Line.{IsBoundary, Trimmed};
+ghost use Rattle.x509_pem.specs.Line.{Trimmed};
+ghost use Rattle.x509_pem.specs.Text.{solid};
 
+use crate::boundary::{Kind, kind_of};
 use crate::fault::Fault;
 use crate::full_line::decode_line;
 use crate::rest::decode_rest;
+use crate::white::{append_solid, is_line_end, solid_len, trimmed};
 use base64::DecodeAllocError;
 use memchr::memchr;
 use std::alloc::{Allocator, Global};
-
-/// The line without the white space at its end.
-fn trimmed(line: &[u8]) -> &[u8]
-    ensures { IsTrimAsciiEnd line.now result.now }
-{
-    line.trim_ascii_end()
-}
-
-/// What stands in a line behind its front.
-fn behind<'a>(front: &[u8], line: &'a [u8]) -> Option<&'a [u8]>
-    ensures { MatchOption result ((rest : List ℕ) → line.entry.now ≢ front.now ++ rest)
-        (λ rest. line.entry.now ≡ front.now ++ rest.now) }
-{
-    line.strip_prefix(front)
-}
-
-/// What stands in a line before five hyphens at its end.
-fn before_hyphens(line: &[u8]) -> Option<&[u8]>
-    ensures { MatchOption result ((rest : List ℕ) → line.now ≢ rest ++ codes "-----")
-        (λ rest. line.now ≡ rest.now ++ codes "-----") }
-{
-    line.strip_suffix(b"-----".as_slice())
-}
-
-/// The label in a line that begins with `front` and ends with five hyphens.
-fn label_behind<'a>(front: &[u8], line: &'a [u8]) -> Option<&'a [u8]>
-    ensures { MatchOption result ((label : List ℕ) → ¬ IsBoundary front.now label line.entry.now)
-        (λ label. IsBoundary front.now label.now line.entry.now) }
-{
-    match behind(front, line) {
-        Some(rest) => before_hyphens(rest),
-        None => None,
-    }
-}
 
 /// A block: its label, and the bytes that its base64 text stands for. Its memory is used again for the next block.
 #[derive(Drop)]
@@ -55,7 +23,7 @@ pub struct Block<A: Allocator = Global> {
     text: Vec<u8, A>,
     bytes: Vec<u8, A>,
     is_open: bool,
-    is_new: bool,
+    begun: u64,
     limit: usize,
     ghost octets: { is_open ≡ true → IsBytes bytes.items },
     ghost groups: { is_open ≡ true → length bytes.items % 3 ≡ 0 },
@@ -75,14 +43,14 @@ impl<A: Allocator + Copy> Block<A> {
             text: Vec::new(alloc),
             bytes: Vec::new(alloc),
             is_open: false,
-            is_new: false,
+            begun: 0,
             limit,
         }
     }
 }
 
 impl<A: Allocator> Block<A> {
-    ghost use Rattle.x509_pem.specs.Block.{state_of, limit_of, IsWhole, Opens, Adds, Decodes, DecodesFront, Goes};
+    ghost use Rattle.x509_pem.specs.Block.{state_of, limit_of, Opens, Adds, Closes, Decodes, DecodesFront, Goes, GivenUp, AddsNot, ClosesNot, Refuses, TextRefused};
 
     /// The label, such as `CERTIFICATE`: the bytes between `-----BEGIN ` and `-----`, whatever they are.
     pub fn label(&self) -> &[u8]
@@ -108,15 +76,18 @@ impl<A: Allocator> Block<A> {
         self.is_open
     }
 
-    /// Whether the last line began a block.
-    pub(crate) fn is_new(&self) -> bool {
-        self.is_new
+    /// The number of the line that began the block, from 1.
+    pub(crate) fn begun(&self) -> u64
+        ensures { result ≡ (state_of self.now).begun }
+    {
+        self.begun
     }
 
     /// Forgets what was read of a block.
     fn forget(&mut self)
         ensures bytes { self.new.bytes.items ≡ [] }
         ensures text { self.new.text.items ≡ [] }
+        ensures limit { limit_of self.new ≡ limit_of self.old }
     {
         self.text.clear();
         self.bytes.clear();
@@ -124,19 +95,21 @@ impl<A: Allocator> Block<A> {
 
     /// Gives up a block whose end never came.
     pub(crate) fn give_up(&mut self)
-        ensures { (state_of self.new).is_open ≡ false }
+        ensures given_up { GivenUp (state_of self.new) }
+        ensures limit { limit_of self.new ≡ limit_of self.old }
     {
         self.forget();
         self.is_open = false;
     }
 
-    /// Begins a block.
+    /// Begins a block in the line of a number.
     ///
     /// # Errors
     /// Memory is refused; no block is open then.
-    fn begin(&mut self, label: &[u8]) -> Result<(), Fault>
-        ensures ok { OnOk result (Opens label.now (state_of self.new)) }
-        ensures err { OnErr result ((state_of self.new).is_open ≡ false) }
+    fn begin(&mut self, label: &[u8], number: u64) -> Result<(), Fault>
+        ensures opens { MatchResult result (λ _. Opens label.now number (state_of self.new))
+            (λ fault. (fault ≡ Fault.OutOfMemory) × GivenUp (state_of self.new)) }
+        ensures limit { limit_of self.new ≡ limit_of self.old }
     {
         self.forget();
         self.is_open = false;
@@ -145,7 +118,7 @@ impl<A: Allocator> Block<A> {
             return Err(Fault::OutOfMemory);
         }
         self.is_open = true;
-        self.is_new = true;
+        self.begun = number;
         Ok(())
     }
 
@@ -159,7 +132,8 @@ impl<A: Allocator> Block<A> {
 
     /// Takes a full line of symbols and decodes it, and answers whether it did: where it didn't, the block is as it was.
     pub(crate) fn add_full(&mut self, line: &[u8; 64]) -> bool
-        ensures { Decodes result line.now (state_of self.old) (state_of self.new) }
+        ensures decodes { Decodes result line.now (state_of self.old) (state_of self.new) }
+        ensures limit { limit_of self.new ≡ limit_of self.old }
     {
         if !self.is_open || !self.text.is_empty() || self.room() < 64 {
             return false;
@@ -170,11 +144,12 @@ impl<A: Allocator> Block<A> {
         }
     }
 
-    /// As `add_full`, where the bytes begin with a line of 64 symbols and a line feed.
+    /// As `add_full`, where the bytes begin with a line of 64 symbols and its end.
     pub(crate) fn add_front(&mut self, bytes: &[u8]) -> bool
-        ensures { DecodesFront result bytes.now (state_of self.old) (state_of self.new) }
+        ensures decodes { DecodesFront result bytes.now (state_of self.old) (state_of self.new) }
+        ensures limit { limit_of self.new ≡ limit_of self.old }
     {
-        if bytes.len() <= 64 || bytes[64] != b'\n' {
+        if bytes.len() <= 64 || !is_line_end(bytes[64]) {
             return false;
         }
         match bytes.first_chunk::<64>() {
@@ -185,7 +160,8 @@ impl<A: Allocator> Block<A> {
 
     /// As `add_full`, where the line has 64 symbols.
     fn add_if_full(&mut self, line: &[u8]) -> bool
-        ensures { Decodes result line.now (state_of self.old) (state_of self.new) }
+        ensures decodes { Decodes result line.now (state_of self.old) (state_of self.new) }
+        ensures limit { limit_of self.new ≡ limit_of self.old }
     {
         match line.as_array::<64>() {
             Some(line) => self.add_full(line),
@@ -193,43 +169,40 @@ impl<A: Allocator> Block<A> {
         }
     }
 
-    /// Takes a line of base64 text.
+    /// Takes a line of base64 text, without its white space.
     ///
     /// # Errors
-    /// `TooLong`, exactly where the text would be longer than the limit; else memory is refused. No block is open then.
-    fn add(&mut self, symbols: &[u8]) -> Result<(), Fault>
+    /// `TooLong`, where the text would be longer than the limit; else memory is refused. The block is given up.
+    fn add(&mut self, line: &[u8]) -> Result<(), Fault>
         requires { (state_of self.old).is_open ≡ true }
-        ensures ok { OnOk result (Adds symbols.now (state_of self.old) (state_of self.new)) }
-        ensures too_long { IsErrOf result Fault.TooLong
-            ↔ (limit_of self.old < length ((state_of self.old).text) + length symbols.now) }
-        ensures err { OnErr result ((state_of self.new).is_open ≡ false) }
+        ensures adds { MatchResult result (λ _. Adds (solid line.now) (state_of self.old) (state_of self.new))
+            (λ fault. AddsNot (limit_of self.old) fault (solid line.now) (state_of self.old) × GivenUp (state_of self.new)) }
+        ensures limit { limit_of self.new ≡ limit_of self.old }
     {
-        if symbols.len() > self.room() {
-            self.is_open = false;
+        if solid_len(line) > self.room() {
+            self.give_up();
             return Err(Fault::TooLong);
         }
-        if self.text.extend_from_slice(symbols).is_err() {
-            self.is_open = false;
+        if append_solid(&mut self.text, line).is_err() {
+            self.give_up();
             return Err(Fault::OutOfMemory);
         }
         Ok(())
     }
 
-    /// Ends the block, and decodes what is left of its text.
+    /// Ends the block, and decodes what is left of its text. No block is open in any case.
     ///
     /// # Errors
-    /// `LabelMismatch`, exactly where the label is another; else the text is invalid base64, or memory is refused. No block
-    /// is open in any case.
+    /// `LabelMismatch`, where the label is another; else the text is invalid base64, or memory is refused.
     fn close(&mut self, label: &[u8]) -> Result<(), Fault>
         requires { (state_of self.old).is_open ≡ true }
-        ensures ok { OnOk result (((state_of self.old).label ≡ label.now) × IsWhole (state_of self.new)) }
-        ensures kept { ((state_of self.new).label ≡ (state_of self.old).label)
-            × ((state_of self.new).text ≡ (state_of self.old).text) }
-        ensures shut { (state_of self.new).is_open ≡ false }
-        ensures mismatch { IsErrOf result Fault.LabelMismatch ↔ ((state_of self.old).label ≢ label.now) }
+        ensures closes { MatchResult result (λ _. ((state_of self.old).label ≡ label.now) × Closes (state_of self.old) (state_of self.new))
+            (λ fault. ClosesNot fault label.now (state_of self.old) × GivenUp (state_of self.new)) }
+        ensures limit { limit_of self.new ≡ limit_of self.old }
     {
         self.is_open = false;
         if self.label.as_slice() != label {
+            self.give_up();
             return Err(Fault::LabelMismatch);
         }
         match decode_rest(self.text.as_slice(), &mut self.bytes) {
@@ -237,82 +210,110 @@ impl<A: Allocator> Block<A> {
                 self.text.clear();
                 Ok(())
             }
-            Err(DecodeAllocError::OutOfMemory) => Err(Fault::OutOfMemory),
-            Err(DecodeAllocError::DecodeError(_)) => Err(Fault::BadBase64),
+            Err(error) => {
+                self.give_up();
+                Err(match error {
+                    DecodeAllocError::OutOfMemory => Fault::OutOfMemory,
+                    DecodeAllocError::DecodeError(_) => Fault::BadBase64,
+                })
+            }
         }
     }
 
-    /// Takes a line inside of a block.
+    /// Takes a line inside of a block that is no boundary.
+    ///
+    /// # Errors
+    /// `HasHeaders`, where the line has a colon, and else those of `add`.
+    fn take_text(&mut self, line: &[u8]) -> Result<bool, Fault>
+        requires { (state_of self.old).is_open ≡ true }
+        ensures adds { MatchResult result (λ ends. (ends ≡ false) × Adds (solid line.now) (state_of self.old) (state_of self.new))
+            (λ fault. TextRefused (limit_of self.old) fault line.now (state_of self.old) × GivenUp (state_of self.new)) }
+        ensures limit { limit_of self.new ≡ limit_of self.old }
+    {
+        if memchr(b':', line).is_some() {
+            self.give_up();
+            return Err(Fault::HasHeaders);
+        }
+        match self.add(line) {
+            Ok(()) => Ok(false),
+            Err(fault) => Err(fault),
+        }
+    }
+
+    /// Takes a line inside of a block, the one of a number.
     ///
     /// # Errors
     /// Those of `begin`, `add` and `close`; `NoEnd`, where another block begins, which is open then; `HasHeaders`, where
     /// the line has a colon, and no block is open then.
-    fn take_inner(&mut self, line: &[u8]) -> Result<bool, Fault>
+    fn take_inner(&mut self, line: &[u8], number: u64) -> Result<bool, Fault>
         requires { (state_of self.old).is_open ≡ true }
-        ensures { IfOk result (λ ends. Goes ends line.now (state_of self.old) (state_of self.new)) }
+        ensures goes { MatchResult result (λ ends. Goes ends number line.now (state_of self.old) (state_of self.new))
+            (λ fault. Refuses (limit_of self.old) number fault line.now (state_of self.old) (state_of self.new)) }
+        ensures limit { limit_of self.new ≡ limit_of self.old }
     {
-        if let Some(label) = label_behind(b"-----END ".as_slice(), line) {
-            self.close(label)?;
-            return Ok(true);
+        match kind_of(line) {
+            Kind::End(label) => match self.close(label) {
+                Ok(()) => Ok(true),
+                Err(fault) => Err(fault),
+            },
+            Kind::Begin(label) => match self.begin(label, number) {
+                Ok(()) => Err(Fault::NoEnd),
+                Err(fault) => Err(fault),
+            },
+            Kind::Text => self.take_text(line),
         }
-        if let Some(label) = label_behind(b"-----BEGIN ".as_slice(), line) {
-            self.begin(label)?;
-            return Err(Fault::NoEnd);
-        }
-        if memchr(b':', line).is_some() {
-            self.is_open = false;
-            return Err(Fault::HasHeaders);
-        }
-        self.add(line)?;
-        Ok(false)
     }
 
     /// Takes a line inside of a block, most of which are full lines of symbols.
     ///
     /// # Errors
     /// Those of `take_inner`.
-    fn take_open(&mut self, line: &[u8]) -> Result<bool, Fault>
+    fn take_open(&mut self, line: &[u8], number: u64) -> Result<bool, Fault>
         requires { (state_of self.old).is_open ≡ true }
-        ensures { IfOk result (λ ends. Goes ends line.now (state_of self.old) (state_of self.new)) }
+        ensures goes { MatchResult result (λ ends. Goes ends number line.now (state_of self.old) (state_of self.new))
+            (λ fault. Refuses (limit_of self.old) number fault line.now (state_of self.old) (state_of self.new)) }
+        ensures limit { limit_of self.new ≡ limit_of self.old }
     {
         if self.add_if_full(line) {
             return Ok(false);
         }
-        self.take_inner(line)
+        self.take_inner(line, number)
     }
 
-    /// Takes a line outside of blocks.
+    /// Takes a line outside of blocks, the one of a number.
     ///
     /// # Errors
     /// That of `begin`.
-    fn take_outer(&mut self, line: &[u8]) -> Result<bool, Fault>
+    fn take_outer(&mut self, line: &[u8], number: u64) -> Result<bool, Fault>
         requires { (state_of self.old).is_open ≡ false }
-        ensures { IfOk result (λ ends. Goes ends line.now (state_of self.old) (state_of self.new)) }
+        ensures goes { MatchResult result (λ ends. Goes ends number line.now (state_of self.old) (state_of self.new))
+            (λ fault. Refuses (limit_of self.old) number fault line.now (state_of self.old) (state_of self.new)) }
+        ensures limit { limit_of self.new ≡ limit_of self.old }
     {
-        if let Some(label) = label_behind(b"-----BEGIN ".as_slice(), line) {
-            self.begin(label)?;
+        match kind_of(line) {
+            Kind::Begin(label) => match self.begin(label, number) {
+                Ok(()) => Ok(false),
+                Err(fault) => Err(fault),
+            },
+            Kind::End(_) => Ok(false),
+            Kind::Text => Ok(false),
         }
-        Ok(false)
     }
 
-    /// Takes one line, and answers whether it ends a block.
+    /// Takes the line of a number, and answers whether it ends a block.
     ///
     /// # Errors
     /// Those of `take_inner` and `take_outer`.
-    pub(crate) fn take_line(&mut self, line: &[u8]) -> Result<bool, Fault>
-        ensures { IfOk result (λ ends. Trimmed line.now (λ r. Goes ends r (state_of self.old) (state_of self.new))) }
+    pub(crate) fn take_line(&mut self, line: &[u8], number: u64) -> Result<bool, Fault>
+        ensures goes { Trimmed line.now (λ r. MatchResult result (λ ends. Goes ends number r (state_of self.old) (state_of self.new))
+            (λ fault. Refuses (limit_of self.old) number fault r (state_of self.old) (state_of self.new))) }
+        ensures limit { limit_of self.new ≡ limit_of self.old }
     {
         let line = trimmed(line);
-        self.is_new = false;
-        let taken = if self.is_open {
-            self.take_open(line)
+        if self.is_open {
+            self.take_open(line, number)
         } else {
-            self.take_outer(line)
-        };
-        // Of a block with a fault no bytes are shown.
-        if taken.is_err() {
-            self.forget();
+            self.take_outer(line, number)
         }
-        taken
     }
 }

@@ -2,6 +2,7 @@
 #![tactic(auto)]
 
 mod block;
+mod boundary;
 mod fault;
 mod full_line;
 mod lines;
@@ -10,6 +11,7 @@ mod rest;
 mod table;
 #[cfg(test)]
 mod tests;
+mod white;
 
 pub use crate::block::Block;
 pub use crate::fault::{Fault, PemError};

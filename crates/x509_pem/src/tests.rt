@@ -1,3 +1,5 @@
+mod grammar;
+
 use crate::{Fault, PemError, PemReader};
 use std::io::{BufRead, BufReader};
 use std::process::Abort;

@@ -15,11 +15,11 @@ invariant_of-self g c =
     (search rules) in
     record { octets = kept.octets; groups = kept.groups; fits = kept.fits }
 
-pub returns-in-Some : goal.returns-in-Some
-returns-in-Some g c =
+pub returns-in-Some-clause-decodes : goal.returns-in-Some-clause-decodes
+returns-in-Some-clause-decodes g c =
     let self = c.args.self.now in
     let line = c.in-Some.ensures in
     let empty = eqb-true _ 0 (sym c.is_empty.ensures ∙ c.if-not-is_empty.false) in
     full_decodes c.extend_from_slice.result c.is_ok.result self.is_open self.label.items self.bytes.items self.text.items
-    c.args.line.now c.in-Some.bytes c.extend_from_slice.new.self.items c.is_ok.ensures.value (self.groups (search rules))
+    c.args.line.now c.in-Some.bytes c.extend_from_slice.new.self.items self.begun c.is_ok.ensures.value (self.groups (search rules))
     (nil_from_length _ (omega (arith, empty))) (omega arith) line.0 (search rules)

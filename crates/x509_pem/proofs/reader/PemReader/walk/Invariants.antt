@@ -1,8 +1,13 @@
-use Rattle.x509_pem.specs.Block.{state_of}
+use Rattle.std.proofs.Common.{◌≡◌}
+use Rattle.x509_pem.specs.Reader.{limit_of, longest_of, place_of}
 use Rattle.x509_pem.specs.Step.{WalkedTo}
 use Rattle.x509_pem.proofs.reader.PemReader.walk.Given as goal
 
 abbrev pub invariant-lines : goal.invariant-lines
 invariant-lines g l =
-    WalkedTo (g.R.Read.remaining l.initial.self.lines.input) (state_of l.initial.self.block) (g.R.Read.remaining l.self.lines.input)
-    (state_of l.self.block)
+    record {
+      walked : WalkedTo (g.R.Read.remaining l.initial.self.lines.input) (place_of l.initial.self)
+          (g.R.Read.remaining l.self.lines.input) (place_of l.self);
+      limit : limit_of l.self ≡ limit_of l.initial.self;
+      longest : longest_of l.self ≡ longest_of l.initial.self;
+    }

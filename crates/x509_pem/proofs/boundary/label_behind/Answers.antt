@@ -1,6 +1,6 @@
 use Rattle.std.proofs.Common.{codes}
-use Rattle.x509_pem.proofs.Boundary.{joined_ends}
-use Rattle.x509_pem.proofs.block.label_behind.Goals as goal
+use Rattle.x509_pem.proofs.TwoEnds.{joined_ends}
+use Rattle.x509_pem.proofs.boundary.label_behind.Goals as goal
 
 pub returns-in-Some : goal.returns-in-Some
 returns-in-Some c =

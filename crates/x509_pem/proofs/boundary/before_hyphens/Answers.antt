@@ -1,7 +1,7 @@
 use Rattle.std.proofs.Common.{◌≡◌, ◌≢◌, ◌++◌, ℕ, List, subst, MatchOption}
 use Rattle.std.proofs.lemmas.Bool.Decides.{Decides-eqb}
 use Rattle.std.proofs.lemmas.Slice.Eq.{strip_suffix_is}
-use Rattle.x509_pem.proofs.block.before_hyphens.Goals as goal
+use Rattle.x509_pem.proofs.boundary.before_hyphens.Goals as goal
 
 pub returns : goal.returns
 returns c =
