@@ -10,7 +10,8 @@ import tempfile
 import time
 import unittest
 
-from cimaroly_program import DATA, HERE, NEEDS_PROGRAM, PROGRAM, name_of, openssl, read, run, shown
+from cimaroly_program import DATA, NEEDS_CC, NEEDS_MEMORY, NEEDS_PROGRAM, PROGRAM
+from cimaroly_program import name_of, openssl, read, run, shown, with_shim
 
 # The kinds of deviations by the numbers of README's table, each with the field that it stands over.
 DEVIATIONS = {
@@ -43,7 +44,7 @@ class Program(unittest.TestCase):
     def test_deviations(self):
         for number, (name, field) in DEVIATIONS.items():
             with self.subTest(number):
-                out, _, status = run("check", "--json", self.file(number))
+                out, _, status = run("check", "--json", *type_of(self.file(number)), self.file(number))
                 told = json.loads(out)
                 self.assertEqual((told["result"], status), ("deviations", 3))
                 self.assertEqual({it["name"] for it in told["deviations"]}, {name})
@@ -61,9 +62,10 @@ class Program(unittest.TestCase):
     def test_der_encodings(self):
         for number in DEVIATIONS:
             with self.subTest(number):
-                out, _, status = run("der", self.file(number))
+                words = type_of(self.file(number))
+                out, _, status = run("der", *words, self.file(number))
                 self.assertEqual(status, 3)
-                again, _, status = run("der", "--type", kind_of(self.file(number)), "-", data=out)
+                again, _, status = run("der", *words, "-", data=out)
                 self.assertEqual((again, status), (out, 0))
 
     def test_der_that_is_refused(self):
@@ -79,7 +81,7 @@ class Program(unittest.TestCase):
             (b"no certificate\n", b"refused: no PEM, DER or hexadecimal", 1),
             (b"-----BEGIN CERTIFICATE-----\nMAA=\n", b"refused: the block has no END line", 1),
             (bad, b"refused: malformed time", 1),
-            (read("algorithm.hex"), b"could be algorithm, raw-algorithm: choose one with --type", 2),
+            (read("algorithm.hex"), b"could be algorithm, raw-algorithm: choose with --type", 2),
         ):
             with self.subTest(why):
                 out, error, ended = run("der", data=data)
@@ -121,7 +123,7 @@ class Program(unittest.TestCase):
             out.decode().splitlines(),
             ["-:1: DH PARAMETERS: passed over: unknown label", "-:4: certificate: ok"],
         )
-        self.assertEqual(error, b"1 structure: 1 in DER, 0 with deviations, 0 refused; 1 block passed over\n")
+        self.assertEqual(error, b"1 structure: 1 in DER, 0 with deviations, 0 refused; 1 passed over\n")
         self.assertEqual(status, 0)
         told = [json.loads(line) for line in run("check", "--json", data=data)[0].splitlines()]
         self.assertEqual([it["result"] for it in told], ["passed over", "ok"])
@@ -172,19 +174,40 @@ class Program(unittest.TestCase):
             self.assertEqual(out.decode(), f"{room}/a.pem:1: certificate: ok\n{room}/c.pem:1: certificate: ok\n")
             self.assertIn(f"cimaroly: {room}: file names that aren't valid UTF-8 and can't be opened: 1\n".encode(), error)
             self.assertEqual(status, 4)
-            self.assertEqual(run("check", os.path.join(room.encode(), b"b\xff.pem"))[2], 2)
+            self.assertEqual(run("check", os.path.join(room.encode(), b"b\xff.pem"))[2], 4)
+
+    def test_words_that_are_no_text(self):
+        """A file that is named in other bytes than UTF-8 is told, escaped, and the other files are checked."""
+        good = f"{DATA}/certificate_rsa.pem"
+        out, error, status = run("check", good, b"bad\xff\x1b.pem", good)
+        self.assertEqual((out.decode(), status), (2 * f"{good}:1: certificate: ok\n", 4))
+        told = r"bad\xff\u{1b}.pem"
+        self.assertIn(f"cimaroly: {told}: a file name that isn't valid UTF-8 can't be opened\n", error.decode())
+        out, _, status = run("check", "--json", b"bad\xff\x1b.pem", good)
+        first, second = map(json.loads, out.splitlines())
+        self.assertEqual((first["file"], first["result"], second["result"], status), (told, "failed", "ok", 4))
+        self.assertEqual(run("show", "--type", b"\xff", good)[2], 2)
+
+    def test_files_that_fail_as_json(self):
+        out, error, status = run("check", "--json", f"{DATA}/none", f"{DATA}/certificate_rsa.pem")
+        first, second = map(json.loads, out.splitlines())
+        self.assertEqual((first["file"], first["result"]), (f"{DATA}/none", "failed"))
+        self.assertIn("No such file or directory", first["reason"])
+        self.assertEqual((second["result"], status), ("ok", 4))
+        self.assertIn(b"none: No such file or directory", error)
 
     def test_folders(self):
         """Folders within, and no folder by a link, so that nothing goes in a circle; pipes and broken links are told or left."""
         with tempfile.TemporaryDirectory() as room:
             os.makedirs(f"{room}/deep/er")
             shutil.copy(f"{DATA}/certificate_rsa.pem", f"{room}/deep/er/a.pem")
-            shutil.copy(f"{DATA}/name.hex", f"{room}/name")
+            shutil.copy(f"{DATA}/extensions.hex", f"{room}/name")
             os.symlink("..", f"{room}/deep/loop")
             os.symlink("deep/er/a.pem", f"{room}/link.pem")
             os.mkfifo(f"{room}/pipe")
             out, _, status = run("check", room)
-            found = [f"{room}/deep/er/a.pem:1: certificate: ok", f"{room}/link.pem:1: certificate: ok", f"{room}/name: name: ok"]
+            found = ["deep/er/a.pem:1: certificate: ok", "link.pem:1: certificate: ok", "name: extensions: ok"]
+            found = [f"{room}/{it}" for it in found]
             self.assertEqual((out.decode().splitlines(), status), (found, 0))
             os.symlink("nowhere", f"{room}/broken")
             out, error, status = run("check", room)
@@ -223,6 +246,7 @@ class Program(unittest.TestCase):
                 else:
                     self.assertEqual(lines, [])
 
+    @NEEDS_MEMORY
     def test_little_memory(self):
         """A structure that takes more memory than there is."""
         with tempfile.NamedTemporaryFile() as file:
@@ -238,15 +262,17 @@ class Program(unittest.TestCase):
                     out, error, status = run(*words, file.name, preexec_fn=limit_memory)
                     self.assertEqual((out, error, status), (b"", b"cimaroly: out of memory\n", 5))
 
-    @unittest.skipUnless(shutil.which("cc"), "there is no C compiler")
+    @NEEDS_CC
     def test_each_request_for_memory_refused(self):
         """The answer is status 5, or it is the same where the program can do without."""
         with tempfile.TemporaryDirectory() as room:
-            subprocess.run(["cc", "-shared", "-fPIC", "-o", f"{room}/shim.so", f"{HERE}/refuse_memory.c"], check=True)
+            environment = with_shim(room)
             for words in (
                 ["check", f"{DATA}/certificate_rsa.pem"],
                 ["check", "--json", f"{DATA}/deviation_3_hash_parameters.pem"],
                 ["check", f"{DATA}/algorithm.hex"],
+                ["der", "--pem", "-o", f"{room}/out.pem", f"{DATA}/certificate_ec.pem"],
+                [f"{DATA}/name.hex"],
                 ["show", f"{DATA}/certificate_ec.pem", f"{DATA}/refused_month_13.pem"],
                 ["show", "--json", f"{DATA}/request_rsa.pem"],
                 ["der", "--pem", f"{DATA}/deviation_1_rsa_parameters.pem"],
@@ -255,7 +281,7 @@ class Program(unittest.TestCase):
                 ["show", "--type", "cert"],
             ):
                 with self.subTest(words):
-                    self.each_refused(words, {**os.environ, "LD_PRELOAD": f"{room}/shim.so"})
+                    self.each_refused(words, environment)
 
     def each_refused(self, words, environment):
         whole = run(*words, env=environment)
@@ -269,6 +295,7 @@ class Program(unittest.TestCase):
                 self.assertEqual((ended[1][-24:], ended[2]), (b"cimaroly: out of memory\n", 5), f"request {number}")
         self.assertGreater(number, 40)
 
+    @NEEDS_MEMORY
     def test_memory_does_not_grow(self):
         """Ten times as many certificates take no more memory."""
         took = []
@@ -286,17 +313,29 @@ class Program(unittest.TestCase):
 
     def test_hexadecimal(self):
         for it in ("name", "extensions"):
-            with open(f"{DATA}/{it}.hex", "rb") as file:
-                text = file.read()
-            with self.subTest(it):
-                self.assertEqual(run("check", "-q", data=text.upper())[2], 0)
-                self.assertEqual(run("check", "-q", data=bytes.fromhex(text.decode()))[2], 0)
+            text = read(f"{it}.hex")
+            for data in (text, text.upper(), bytes.fromhex(text.decode()), text[:40] + b" \n" + text[40:]):
+                with self.subTest(it):
+                    self.assertEqual(run("check", "-q", "--type", it, data=data)[2], 0)
+        # (as bytes this would be a SEQUENCE, whose length is that of the rest)
+        for data in (b"0419" + 25 * b"00", b"0419" + 25 * b"00" + b"\n"):
+            self.assertRegex(run("tree", data=data)[0], rb"^ +0\.\.27 +OCTET STRING (00:){24}00\n$")
+        out, _, status = run("check", data=b"300")
+        self.assertEqual((out, status), (b"-: refused: an odd number of hexadecimal digits\n", 1))
 
     def test_several_types(self):
-        out, _, status = run("check", f"{DATA}/algorithm.hex")
-        self.assertIn(b"could be algorithm, raw-algorithm: choose one with --type", out)
-        self.assertEqual(status, 2)
-        self.assertEqual(run("check", "--type", "algorithm", f"{DATA}/algorithm.hex")[2], 0)
+        """A type that other structures are read as too is taken only where it is asked for."""
+        for name, kinds in (
+            ("algorithm", "algorithm, raw-algorithm"),
+            ("deviation_2_raw_algorithm", "raw-algorithm"),
+            ("name", "name"),
+        ):
+            with self.subTest(name):
+                kind = kinds.split(", ", maxsplit=1)[0]
+                out, _, status = run("check", f"{DATA}/{name}.hex")
+                self.assertIn(f"could be {kinds}: choose with --type, as in --type {kind}\n", out.decode())
+                self.assertEqual(status, 2)
+                self.assertIn(run("check", "--type", kind, f"{DATA}/{name}.hex")[2], (0, 3))
 
     def test_secrets(self):
         path = f"{DATA}/private_key_ed25519.pem"
@@ -345,10 +384,11 @@ class Program(unittest.TestCase):
             self.assertIn(told["result"], ("ok", "deviations", "refused", "passed over"))
 
 
-def kind_of(path):
+def type_of(path):
+    """The option that a file without a label is read by."""
     if "raw_algorithm" in path:
-        return "raw-algorithm"
-    return "private-key" if "private_key" in path else "certificate"
+        return ["--type", "raw-algorithm"]
+    return ["--type", "private-key"] if "private_key" in path else ["--type", "certificate"]
 
 
 def limit_memory():

@@ -1,16 +1,21 @@
 //! The command line.
 
 use crate::files;
-use crate::progress::Progress;
+use crate::progress::{Progress, Telling};
+use crate::terminal::Terminal;
+use crate::words::with_command;
+use anyhow::Error;
 use cimaroly_work::{Action, Format, Session, Settings, Status, Stop, Tally};
 use clap::error::ErrorKind;
 use clap::{Arg, ArgAction, ArgMatches, Command};
 use std::alloc::{AllocError, Global};
-use std::fs::File;
+use std::fs::{self, File};
 use std::io::{self, BufWriter, Write};
 use std::rt::Files;
 use std::time::Clock;
 use x509_inspect::{Identifiers, Kind, Options, Secrets};
+use x509_report_parts::shown::{Frame, Shown, ShownBytes};
+use x509_report_parts::{Colours, Layout};
 
 /// The names of the types, as `--type` takes them.
 const KINDS: [&'static str; 11] = [
@@ -27,9 +32,19 @@ const KINDS: [&'static str; 11] = [
     "raw-algorithm",
 ];
 
+/// What is said of files and folders.
+const FOLDERS: &str = "Files, and folders with all that is in them; - is standard input";
+
+/// What `--color` takes.
+const WHEN: [&'static str; 3] = ["auto", "always", "never"];
+
+/// What is said where bytes would be written to a terminal.
+const BINARY: &str = "DER isn't written to a terminal: use -o FILE, or --pem";
+
 /// What stands at the end of the help.
 const AFTER: &str = "\
 Input is PEM with text around it, DER, or hexadecimal with white space; - or no FILE is standard input.
+Without a command, as in cimaroly FILE, it is shown.
 
 Exit status: 0 all is in DER; 1 something was refused; 2 wrong usage; 3 something has deviations;
 4 input or output failed; 5 out of memory.
@@ -60,6 +75,21 @@ fn kind_option<'a>(alloc: Global) -> Arg<'a> {
         .help("Read everything as this type, whatever its label")
 }
 
+/// The option that says whether there are colours.
+fn color_option<'a>(alloc: Global) -> Arg<'a> {
+    Arg::new(alloc, "color")
+        .long("color")
+        .value_name("WHEN")
+        .value_parser(WHEN.as_slice())
+        .hide_possible_values(true)
+        .help("Colour the text: auto (the default), always or never")
+}
+
+/// The option that has long values shown whole.
+fn full_option<'a>(alloc: Global) -> Arg<'a> {
+    flag(alloc, "full", "Show long lines whole on a terminal")
+}
+
 /// The files.
 fn paths<'a>(alloc: Global, value_name: &'static str, help: &'static str) -> Arg<'a> {
     Arg::new(alloc, "paths")
@@ -75,8 +105,10 @@ fn show_command<'a>(alloc: Global) -> Result<Command<'a>, AllocError> {
         .arg(flag(alloc, "json", "Print one JSON object for each structure"))?
         .arg(flag(alloc, "secrets", "Show the secret numbers of private keys"))?
         .arg(flag(alloc, "oids", "Show object identifiers with dots too"))?
+        .arg(full_option(alloc))?
+        .arg(color_option(alloc))?
         .arg(kind_option(alloc))?
-        .arg(paths(alloc, "FILE", "Files; - is standard input"))
+        .arg(paths(alloc, "FILE|FOLDER", FOLDERS))
 }
 
 /// `cimaroly check`.
@@ -95,12 +127,14 @@ fn check_command<'a>(alloc: Global) -> Result<Command<'a>, AllocError> {
             "progress",
             "Report progress on standard error every second",
         ))?
-        .arg(kind_option(alloc))?
-        .arg(paths(
+        .arg(flag(
             alloc,
-            "FILE|FOLDER",
-            "Files, and folders with all that is in them; - is standard input",
-        ))
+            "strict-files",
+            "Refuse files in folders that hold nothing to check",
+        ))?
+        .arg(color_option(alloc))?
+        .arg(kind_option(alloc))?
+        .arg(paths(alloc, "FILE|FOLDER", FOLDERS))
 }
 
 /// `cimaroly der`.
@@ -112,6 +146,13 @@ fn der_command<'a>(alloc: Global) -> Result<Command<'a>, AllocError> {
             "pem",
             "Write it as PEM, and of any number of structures",
         ))?
+        .arg(
+            Arg::new(alloc, "output")
+                .short('o')
+                .long("output")
+                .value_name("FILE")
+                .help("Write to this file instead of standard output"),
+        )?
         .arg(kind_option(alloc))?
         .arg(paths(alloc, "FILE", "Files; - is standard input"))
 }
@@ -120,6 +161,8 @@ fn der_command<'a>(alloc: Global) -> Result<Command<'a>, AllocError> {
 fn tree_command<'a>(alloc: Global) -> Result<Command<'a>, AllocError> {
     Command::new(alloc, "tree")
         .about("Shows the elements of anything, with places, tags and first bytes, secret or not")
+        .arg(full_option(alloc))?
+        .arg(color_option(alloc))?
         .arg(paths(alloc, "FILE", "Files; - is standard input"))
 }
 
@@ -145,6 +188,20 @@ fn kind_of(matches: &ArgMatches<'_>) -> Option<Kind> {
     }
 }
 
+/// The colours that are asked for.
+fn colours_of(matches: &ArgMatches<'_>, terminal: Terminal) -> Colours {
+    let has_colours = match matches.get_str("color") {
+        Some("always") => true,
+        Some("never") => false,
+        _ => terminal.has_output && !terminal.is_plain,
+    };
+    if has_colours {
+        Colours::On
+    } else {
+        Colours::Off
+    }
+}
+
 /// Settings that ask for nothing but an action, as text.
 fn plain(action: Action) -> Settings {
     Settings {
@@ -155,13 +212,26 @@ fn plain(action: Action) -> Settings {
             secrets: Secrets::Hidden,
             identifiers: Identifiers::Named,
         },
+        layout: Layout::PLAIN,
         has_progress: false,
+        has_strict_files: false,
+    }
+}
+
+/// How text with long values is laid out.
+fn layout_of(matches: &ArgMatches<'_>, terminal: Terminal) -> Layout {
+    Layout {
+        width: if matches.get_flag("full") {
+            None
+        } else {
+            terminal.width
+        },
+        colours: colours_of(matches, terminal),
     }
 }
 
 /// What `cimaroly show` is asked for.
-fn show_settings(matches: &ArgMatches<'_>) -> Settings {
-    let plain = plain(Action::Show);
+fn show_settings(matches: &ArgMatches<'_>, terminal: Terminal) -> Settings {
     let secrets = if matches.get_flag("secrets") {
         Secrets::Shown
     } else {
@@ -172,23 +242,25 @@ fn show_settings(matches: &ArgMatches<'_>) -> Settings {
     } else {
         Identifiers::Named
     };
+    let format = if matches.get_flag("json") {
+        Format::Json
+    } else {
+        Format::Text
+    };
     Settings {
-        format: if matches.get_flag("json") {
-            Format::Json
-        } else {
-            Format::Text
-        },
+        format,
         kind: kind_of(matches),
         options: Options {
             secrets,
             identifiers,
         },
-        ..plain
+        layout: layout_of(matches, terminal),
+        ..plain(Action::Show)
     }
 }
 
 /// What `cimaroly check` is asked for.
-fn check_settings(matches: &ArgMatches<'_>) -> Settings {
+fn check_settings(matches: &ArgMatches<'_>, terminal: Terminal) -> Settings {
     let format = if matches.get_flag("quiet") {
         Format::Quiet
     } else if matches.get_flag("json") {
@@ -199,83 +271,175 @@ fn check_settings(matches: &ArgMatches<'_>) -> Settings {
     Settings {
         format,
         kind: kind_of(matches),
+        layout: Layout {
+            width: None,
+            colours: colours_of(matches, terminal),
+        },
         has_progress: matches.get_flag("progress"),
+        has_strict_files: matches.get_flag("strict-files"),
         ..plain(Action::Check)
     }
 }
 
 /// What `cimaroly der` is asked for.
 fn der_settings(matches: &ArgMatches<'_>) -> Settings {
+    let format = if matches.get_flag("pem") {
+        Format::Pem
+    } else {
+        Format::Quiet
+    };
     Settings {
-        format: if matches.get_flag("pem") {
-            Format::Pem
-        } else {
-            Format::Quiet
-        },
+        format,
         kind: kind_of(matches),
         ..plain(Action::Encode)
     }
 }
 
-/// Works on all paths, or on standard input where there are none.
-fn work<R>(rt: &R, matches: &ArgMatches<'_>, settings: Settings) -> Result<Tally, Stop>
+/// What `cimaroly tree` is asked for.
+fn tree_settings(matches: &ArgMatches<'_>, terminal: Terminal) -> Settings {
+    Settings {
+        layout: layout_of(matches, terminal),
+        ..plain(Action::Tree)
+    }
+}
+
+/// How progress is told: a bar only where no text comes between.
+fn telling_of(settings: Settings, terminal: Terminal) -> Telling {
+    let is_alone = !terminal.has_output || settings.format == Format::Quiet;
+    match settings.has_progress {
+        false => Telling::Never,
+        true if terminal.has_errors && is_alone => Telling::Bar,
+        true => Telling::Lines,
+    }
+}
+
+/// Works on all paths, or on standard input where there are none, and writes to a writer.
+fn work_into<R, W: Write>(
+    rt: &R,
+    matches: &ArgMatches<'_>,
+    settings: Settings,
+    telling: Telling,
+    out: &mut W,
+) -> Result<Tally, Stop>
 where
     R: Files<File = File> + Input + Print + Eprint + AllocGlobal + Clock + Clone + Drop,
 {
-    let mut out = BufWriter::new(rt.alloc(), io::writer(rt))?;
-    let mut session = Session::new(rt.alloc(), &mut out, settings);
-    let mut progress = Progress::new(rt, settings.has_progress)?;
+    let mut session = Session::new(rt.alloc(), out, settings);
+    let mut progress = Progress::new(rt, telling)?;
     let paths = matches.get_strs("paths").unwrap_or(&[]);
     session.is_one_of_many = paths.len() > 1;
+    progress.expect(paths.len());
     for path in paths {
         files::path(rt, &mut session, path, &mut progress)?;
     }
     if paths.is_empty() {
         files::path(rt, &mut session, "-", &mut progress)?;
     }
+    progress.clear(rt)?;
     session.finish()?;
     Ok(session.tally)
 }
 
-/// Does what a command asks for.
-fn dispatch<R>(rt: &R, matches: &ArgMatches<'_>) -> Result<Status, Stop>
+/// The same, which writes to standard output.
+fn work<R>(
+    rt: &R,
+    matches: &ArgMatches<'_>,
+    settings: Settings,
+    telling: Telling,
+) -> Result<Tally, Stop>
 where
     R: Files<File = File> + Input + Print + Eprint + AllocGlobal + Clock + Clone + Drop,
 {
-    match matches.subcommand() {
-        Some(("check", inner)) => {
-            let settings = check_settings(inner);
-            let tally = work(rt, inner, settings)?;
-            if settings.format != Format::Quiet {
-                eprintln!(rt; "{tally}")?;
-            }
-            Ok(tally.status)
-        }
-        Some(("show", inner)) => Ok(work(rt, inner, show_settings(inner))?.status),
-        Some(("der", inner)) => Ok(work(rt, inner, der_settings(inner))?.status),
-        Some(("tree", inner)) => Ok(work(rt, inner, plain(Action::Tree))?.status),
-        _ => Ok(Status::Usage),
+    let mut out = BufWriter::new(rt.alloc(), io::writer(rt))?;
+    work_into(rt, matches, settings, telling, &mut out)
+}
+
+/// Writes what was written to memory to a file, if there is anything.
+fn keep<R: Files + AllocGlobal>(rt: &R, path: &str, bytes: &[u8]) -> Result<(), Stop> {
+    if bytes.is_empty() {
+        return Ok(());
     }
+    match fs::write(rt, path, bytes) {
+        Ok(()) => Ok(()),
+        Err(error) => Err(Stop {
+            status: Status::Failed,
+            error: Some(Error::msg(format_args!("{}: {error}", ShownBytes(path.as_bytes())))),
+        }),
+    }
+}
+
+/// Writes encodings to standard output or a file.
+fn encode<R>(rt: &R, matches: &ArgMatches<'_>, terminal: Terminal) -> Result<Status, Stop>
+where
+    R: Files<File = File> + Input + Print + Eprint + AllocGlobal + Clock + Clone + Drop,
+{
+    let settings = der_settings(matches);
+    let Some(path) = matches.get_str("output") else {
+        if terminal.has_output && settings.format != Format::Pem {
+            return Err(Stop::usage(Error::msg(BINARY)));
+        }
+        return Ok(work(rt, matches, settings, Telling::Never)?.status);
+    };
+    let mut out = Vec::new(rt.alloc());
+    let tally = work_into(rt, matches, settings, Telling::Never, &mut out)?;
+    keep(rt, path, out.as_slice())?;
+    Ok(tally.status)
+}
+
+/// Checks, and tells standard error what it came to.
+fn check<R>(rt: &R, matches: &ArgMatches<'_>, terminal: Terminal) -> Result<Status, Stop>
+where
+    R: Files<File = File> + Input + Print + Eprint + AllocGlobal + Clock + Clone + Drop,
+{
+    let settings = check_settings(matches, terminal);
+    let tally = work(rt, matches, settings, telling_of(settings, terminal))?;
+    if settings.format != Format::Quiet {
+        eprintln!(rt; "{tally}")?;
+    }
+    Ok(tally.status)
+}
+
+/// Does what a command asks for.
+fn dispatch<R>(rt: &R, matches: &ArgMatches<'_>, terminal: Terminal) -> Result<Status, Stop>
+where
+    R: Files<File = File> + Input + Print + Eprint + AllocGlobal + Clock + Clone + Drop,
+{
+    let (inner, settings) = match matches.subcommand() {
+        Some(("check", inner)) => return check(rt, inner, terminal),
+        Some(("der", inner)) => return encode(rt, inner, terminal),
+        Some(("show", inner)) => (inner, show_settings(inner, terminal)),
+        Some(("tree", inner)) => (inner, tree_settings(inner, terminal)),
+        _ => return Ok(Status::Usage),
+    };
+    Ok(work(rt, inner, settings, Telling::Never)?.status)
+}
+
+/// Tells what is wrong with a command line, in which its words are escaped.
+fn explain<R: Eprint + AllocGlobal>(rt: &R, error: &clap::Error) -> Result<Status, Stop> {
+    let text = format!(in rt.alloc(); "{error}")?;
+    for line in text.as_str().lines() {
+        eprintln!(rt; "{}", Shown(&line, Frame::Line))?;
+    }
+    eprintln!(rt; "\n{EXAMPLE}")?;
+    Ok(Status::Usage)
 }
 
 /// Does what the command line asks for, the program's name among its words.
 ///
 /// # Errors
 /// Input or output failed, memory is refused, or the program was called in a wrong way.
-pub fn run<R>(rt: &R, words: &[String]) -> Result<Status, Stop>
+pub fn run<R>(rt: &R, words: &[String], terminal: Terminal) -> Result<Status, Stop>
 where
     R: Files<File = File> + Input + Print + Eprint + AllocGlobal + Clock + Clone + Drop,
 {
-    match command(rt.alloc())?.try_get_matches_from(words) {
-        Ok(matches) => dispatch(rt, &matches),
+    let words = with_command(rt, words)?;
+    match command(rt.alloc())?.try_get_matches_from(words.as_slice()) {
+        Ok(matches) => dispatch(rt, &matches, terminal),
         Err(error) if matches!(error.kind(), ErrorKind::OutOfMemory) => Err(Stop::memory()),
+        Err(error) if error.use_stderr() => explain(rt, &error),
         Err(error) => {
             error.print(rt)?;
-            if !error.use_stderr() {
-                return Ok(Status::Der);
-            }
-            eprintln!(rt; "\n{EXAMPLE}")?;
-            Ok(Status::Usage)
+            Ok(Status::Der)
         }
     }
 }

@@ -2,6 +2,7 @@
 
 use crate::progress::Progress;
 use crate::run::{input, tell_notes};
+use crate::words::MARK;
 use cimaroly_work::{Session, Status, Stop};
 use std::fs::{self, File};
 use std::io::{self, BufReader, ErrorKind, Write};
@@ -31,7 +32,7 @@ where
     input(rt, session, path, reader, progress)
 }
 
-/// What stands in a folder: the paths, in their order, and how many names are no text in UTF-8, by which nothing can be
+/// What stands in a folder: the paths, in their order, and how many names aren't valid UTF-8, so that nothing can be
 /// opened.
 fn listed<R>(rt: &R, path: &str) -> io::Result<(Vec<String>, usize)>
 where
@@ -78,7 +79,23 @@ fn target_of<R: Files>(rt: &R, path: &str, is_inner: bool) -> Target {
     }
 }
 
-/// Tells standard error that a file failed, unless nothing else can be done.
+/// What is said of a file by whose name nothing can be opened.
+const NO_TEXT: &str = "a file name that isn't valid UTF-8 can't be opened";
+
+/// Tells that a file failed, on standard error and in JSON.
+fn fail<R: Eprint, W: Write>(
+    rt: &R,
+    session: &mut Session<'_, W>,
+    path: &str,
+    reason: &str,
+) -> Result<(), Stop> {
+    session.fail(path, reason)?;
+    session.out.flush()?;
+    eprintln!(rt; "cimaroly: {}: {reason}", ShownBytes(path.as_bytes()))?;
+    Ok(())
+}
+
+/// Tells that a file failed, unless nothing else can be done.
 fn told<R: Eprint, W: Write>(
     rt: &R,
     session: &mut Session<'_, W>,
@@ -93,10 +110,8 @@ fn told<R: Eprint, W: Write>(
                 error: Some(error),
             },
         ) => {
-            session.tally.note(Status::Failed);
-            session.out.flush()?;
-            eprintln!(rt; "cimaroly: {}: {error}", ShownBytes(path.as_bytes()))?;
-            Ok(())
+            let reason = error.to_string(session.alloc)?;
+            fail(rt, session, path, reason.as_str())
         }
         Err(stop) => Err(stop),
     }
@@ -114,11 +129,10 @@ where
 {
     let (mut paths, nameless) = listed(rt, path)?;
     if nameless > 0 {
-        session.tally.note(Status::Failed);
-        let folder = ShownBytes(path.as_bytes());
-        eprintln!(rt;
-            "cimaroly: {folder}: file names that aren't valid UTF-8 and can't be opened: {nameless}"
+        let reason = format!(in session.alloc;
+            "file names that aren't valid UTF-8 and can't be opened: {nameless}"
         )?;
+        fail(rt, session, path, reason.as_str())?;
     }
     for _ in 0..paths.len() {
         if let Some(inner) = paths.pop() {
@@ -128,6 +142,46 @@ where
         }
     }
     Ok(())
+}
+
+/// Tells that nothing can be opened by a name that isn't UTF-8, and is escaped.
+fn fail_unnamed<R: Eprint, W: Write>(
+    rt: &R,
+    session: &mut Session<'_, W>,
+    name: &str,
+) -> Result<(), Stop> {
+    session.fail(name, NO_TEXT)?;
+    session.out.flush()?;
+    // it was escaped when it was made
+    eprintln!(rt; "cimaroly: {name}: {NO_TEXT}")?;
+    Ok(())
+}
+
+/// Works on a file, or puts what stands in a folder on a list.
+fn visit<R, W: Write>(
+    rt: &R,
+    session: &mut Session<'_, W>,
+    pending: &mut Vec<(String, bool)>,
+    (path, target): (&str, Target),
+    progress: &mut Progress,
+) -> Result<(), Stop>
+where
+    R: Files<File = File> + Input + Eprint + AllocGlobal + Clock + Clone + Drop,
+{
+    if target == Target::Folder {
+        progress.clear(rt)?;
+        session.is_one_of_many = true;
+        let before = pending.len();
+        let pushed = push_folder(rt, session, pending, path);
+        progress.open(pending.len().saturating_sub(before));
+        return pushed;
+    }
+    let read = match target {
+        Target::File => file(rt, session, path, progress),
+        _ => Ok(()),
+    };
+    progress.pass();
+    read
 }
 
 /// Works on a path: a file, or all that stands in a folder and in those in it.
@@ -144,6 +198,9 @@ pub(crate) fn path<R, W: Write>(
 where
     R: Files<File = File> + Input + Eprint + AllocGlobal + Clock + Clone + Drop,
 {
+    if let Some(name) = path.strip_prefix(MARK) {
+        return fail_unnamed(rt, session, name);
+    }
     let mut pending = Vec::new(rt.alloc());
     if pending
         .push((String::from_str(rt.alloc(), path)?, false))
@@ -155,14 +212,12 @@ where
         let Some((next, is_inner)) = pending.pop() else {
             break;
         };
-        let outcome = match target_of(rt, next.as_str(), is_inner) {
-            Target::Folder => {
-                session.is_one_of_many = true;
-                push_folder(rt, session, &mut pending, next.as_str())
-            }
-            Target::File => file(rt, session, next.as_str(), progress),
-            Target::Other => Ok(()),
-        };
+        session.is_named = !is_inner;
+        let target = target_of(rt, next.as_str(), is_inner);
+        let outcome = visit(rt, session, &mut pending, (next.as_str(), target), progress);
+        if outcome.is_err() {
+            progress.clear(rt)?;
+        }
         tell_notes(rt, session)?;
         told(rt, session, next.as_str(), outcome)?;
     }

@@ -5,5 +5,8 @@ pub mod cli;
 mod files;
 mod progress;
 mod run;
+mod terminal;
+pub mod words;
 
+pub use crate::terminal::Terminal;
 pub use cimaroly_work::{Status, Stop};

@@ -1,14 +1,19 @@
 //! The work on one input.
 
 use crate::progress::Progress;
-use cimaroly_work::input::{FRONT, Form, LONGEST, decoded, form_of, read_front, read_rest};
-use cimaroly_work::{NOTHING, Session, Stop};
+use cimaroly_work::input::{
+    FRONT, Form, LONGEST, decoded, form_of, is_hexadecimal, read_front, read_rest,
+};
+use cimaroly_work::{Action, Session, Stop};
 use std::io::{self, BufRead, Read, Write};
 use std::time::Clock;
 use x509_inspect::Source;
 use x509_pem::{Block, Fault, PemError, PemReader};
 
-/// What is said of an input that is no PEM, and too long to be a structure (`LONGEST`).
+/// What is said of hexadecimal that stands for no bytes.
+const ODD: &str = "an odd number of hexadecimal digits";
+
+/// What is said of an input other than PEM that is too long to be a structure (`LONGEST`).
 const TOO_LONG: &str = "input other than PEM must be under 64 MiB";
 
 /// Works on a PEM block that was read.
@@ -84,10 +89,11 @@ fn blocks<R: BufRead + Drop, W: Write, T: Clock + Eprint>(
     session: &mut Session<'_, W>,
     path: &str,
     input: R,
+    front: &[u8],
     progress: &mut Progress,
 ) -> Result<(), Stop> {
-    let mut reader = PemReader::new(session.alloc, input, LONGEST);
-    let before = session.tally.structures();
+    let mut reader = PemReader::new(session.alloc, front.chain(input), LONGEST);
+    let before = session.tally;
     for _ in 0..u64::MAX {
         if !next_block(session, path, &mut reader)? {
             break;
@@ -95,14 +101,18 @@ fn blocks<R: BufRead + Drop, W: Write, T: Clock + Eprint>(
         tell_notes(rt, session)?;
         progress.tick(rt, &session.tally)?;
     }
-    if session.tally.structures() > before {
+    if session.tally.structures() > before.structures() {
+        return Ok(());
+    }
+    if session.tally.passed_over > before.passed_over {
+        session.miss();
         return Ok(());
     }
     let source = Source {
         file: path,
         block: None,
     };
-    session.refuse(source, NOTHING)
+    session.unread(source, front)
 }
 
 /// Works on the bytes that hexadecimal digits stand for.
@@ -113,8 +123,15 @@ fn hexadecimal<W: Write>(
 ) -> Result<(), Stop> {
     match decoded(session.alloc, text)? {
         Some(bytes) => session.bare(source, bytes.as_slice()),
-        None => session.refuse(source, NOTHING),
+        None if is_hexadecimal(text) => session.nothing(source, ODD),
+        None => session.bare(source, text),
     }
+}
+
+/// Whether bytes that begin otherwise than any type may be read all the same.
+fn may_be_read<W: Write>(session: &Session<'_, W>, front: &[u8]) -> bool {
+    let settings = session.settings;
+    settings.action == Action::Tree || settings.kind.is_some() || front.first() == Some(&0x30)
 }
 
 /// Works on all that an input has.
@@ -131,15 +148,17 @@ pub(crate) fn input<R: BufRead + Drop, W: Write, T: Clock + Eprint>(
     let mut front = read_front(session.alloc, &mut input)?;
     let is_whole = front.len() < FRONT;
     let form = form_of(front.as_slice(), is_whole);
-    if form == Form::Pem {
-        let whole = front.as_slice().chain(input);
-        return blocks(rt, session, path, whole, progress);
-    }
-    let is_all = read_rest(&mut front, &mut input)?;
     let source = Source {
         file: path,
         block: None,
     };
+    if form == Form::Pem {
+        return blocks(rt, session, path, input, front.as_slice(), progress);
+    }
+    if form == Form::Der && !may_be_read(session, front.as_slice()) {
+        return session.unread(source, front.as_slice());
+    }
+    let is_all = read_rest(&mut front, &mut input)?;
     match form {
         _ if !is_all => session.refuse(source, TOO_LONG)?,
         Form::Hexadecimal => hexadecimal(session, source, front.as_slice())?,

@@ -7,7 +7,7 @@ use std::io::{self, Read};
 /// How many bytes the form of an input is told by.
 pub const FRONT: usize = 65536;
 
-/// How many bytes an input that is no PEM stays below, and a PEM block's text may have.
+/// How many bytes an input other than PEM must stay below, and a PEM block's text may have.
 pub const LONGEST: usize = 1 << 26;
 
 /// In which form an input is.
@@ -22,7 +22,7 @@ pub enum Form {
 }
 
 /// Whether bytes are hexadecimal digits and white space, with at least one digit.
-fn is_hexadecimal(bytes: &[u8]) -> bool {
+pub fn is_hexadecimal(bytes: &[u8]) -> bool {
     let mut has_digit = false;
     for byte in bytes {
         let is_digit = byte.is_ascii_hexdigit();
@@ -35,11 +35,13 @@ fn is_hexadecimal(bytes: &[u8]) -> bool {
 }
 
 /// Whether the front of an input begins with a SEQUENCE whose length is given in several bytes, as no text does, or whose
-/// length is that of the whole.
+/// length is that of the whole, which isn't text.
 fn is_sequence(front: &[u8], is_whole: bool) -> bool {
     match front {
         [0x30, 0x80..=0x88, ..] => true,
-        [0x30, length, rest @ ..] => is_whole && rest.len() == usize::from(*length),
+        [0x30, length, rest @ ..] => {
+            is_whole && rest.len() == usize::from(*length) && (has_control(rest) || rest.is_empty())
+        }
         _ => false,
     }
 }
@@ -58,10 +60,10 @@ fn has_block(bytes: &[u8]) -> bool {
 
 /// In which form an input is, by its front, and whether that is the whole.
 pub fn form_of(front: &[u8], is_whole: bool) -> Form {
-    if is_sequence(front, is_whole) {
-        Form::Der
-    } else if is_hexadecimal(front) {
+    if is_hexadecimal(front) {
         Form::Hexadecimal
+    } else if is_sequence(front, is_whole) {
+        Form::Der
     } else if has_block(front) || !has_control(front) {
         Form::Pem
     } else {

@@ -5,6 +5,29 @@ use std::fmt::{self, Display, Write};
 use x509_der::Place;
 use x509_inspect::{Kind, RefusalLine, Source};
 use x509_report_parts::shown::ShownBytes;
+use x509_report_parts::{Colours, Mark};
+
+/// What is made of something that isn't read as a type.
+#[derive(Clone, Copy, Debug, PartialEq, Eq)]
+pub(crate) enum Outcome {
+    /// It is refused.
+    Refused,
+    /// It is passed over.
+    PassedOver,
+    /// It can't be opened, or can't be read to its end.
+    Failed,
+}
+
+impl Outcome {
+    /// What it is called.
+    pub(crate) fn name(self) -> &'static str {
+        match self {
+            Outcome::Refused => "refused",
+            Outcome::PassedOver => "passed over",
+            Outcome::Failed => "failed",
+        }
+    }
+}
 
 /// How many deviations a line tells.
 const TOLD: usize = 16;
@@ -22,11 +45,17 @@ fn write_source(out: &mut String, source: Source<'_>) -> Result<(), AllocError> 
 pub(crate) fn write_note(
     out: &mut String,
     source: Source<'_>,
-    outcome: &str,
+    outcome: Outcome,
     reason: &str,
+    colours: Colours,
 ) -> Result<(), AllocError> {
     write_source(out, source)?;
-    writeln!(out, "{outcome}: {reason}")
+    let name = outcome.name();
+    if outcome == Outcome::PassedOver {
+        return writeln!(out, "{name}: {reason}");
+    }
+    let begin = colours.begin(Mark::Refusal);
+    writeln!(out, "{begin}{name}: {reason}{}", colours.end())
 }
 
 /// Writes where a structure comes from and as what it is read, up to the colon behind it.
@@ -75,9 +104,15 @@ pub(crate) fn write_read(
     source: Source<'_>,
     kind: Kind,
     places: &[Place],
+    colours: Colours,
 ) -> Result<(), AllocError> {
     write_structure(out, source, kind)?;
-    writeln!(out, "{}", Deviations(places))
+    let deviations = Deviations(places);
+    if places.is_empty() {
+        return writeln!(out, "{deviations}");
+    }
+    let begin = colours.begin(Mark::Deviation);
+    writeln!(out, "{begin}{deviations}{}", colours.end())
 }
 
 /// Writes the line of a structure that was refused.
@@ -85,7 +120,9 @@ pub(crate) fn write_refused(
     out: &mut String,
     source: Source<'_>,
     line: RefusalLine<'_>,
+    colours: Colours,
 ) -> Result<(), AllocError> {
     write_structure(out, source, line.kind)?;
-    writeln!(out, "refused: {line}")
+    let begin = colours.begin(Mark::Refusal);
+    writeln!(out, "{begin}refused: {line}{}", colours.end())
 }

@@ -1,15 +1,19 @@
 //! The work on structures, one after another, and what is printed of it.
 
-use crate::lines::write_note;
+use crate::lines::{Outcome, write_note};
 use crate::settings::{Action, Format, Settings};
-use crate::status::Tally;
+use crate::status::{Status, Tally};
 use crate::stop::Stop;
 use std::alloc::Global;
 use std::io::Write;
-use x509_inspect::{Kind, Source, push_note};
+use x509_inspect::{Kind, Source, Unread, push_note};
+use x509_report_parts::Colours;
 
 /// What is said of a file that has nothing in it which is read. (Every type is a SEQUENCE.)
 pub const NOTHING: &str = "no PEM, DER or hexadecimal that can be read";
+
+/// What is said of a PEM block of no type.
+const UNKNOWN: &str = "unknown label";
 
 /// Where the work stands: what was asked for, what was found, and memory that is used again.
 #[derive(Drop)]
@@ -30,6 +34,8 @@ pub struct Session<'w, W: Write> {
     pub(crate) encoding: Option<Vec<u8>>,
     /// Whether a report tells where its structure comes from.
     pub is_one_of_many: bool,
+    /// Whether the input is one that was asked for by its name, and not one that a folder has.
+    pub is_named: bool,
 }
 
 impl<'w, W: Write> Session<'w, W> {
@@ -45,6 +51,7 @@ impl<'w, W: Write> Session<'w, W> {
             notes: String::new(alloc),
             encoding: None,
             is_one_of_many: false,
+            is_named: true,
         }
     }
 
@@ -79,21 +86,22 @@ impl<'w, W: Write> Session<'w, W> {
     ///
     /// # Errors
     /// Output failed, or memory is refused.
-    fn note(&mut self, source: Source<'_>, outcome: &str, reason: &str) -> Result<(), Stop> {
+    fn note(&mut self, source: Source<'_>, outcome: Outcome, reason: &str) -> Result<(), Stop> {
         match self.settings.format {
             Format::Json => {
                 let line = self.take_line();
-                let line = push_note(self.alloc, line, source, outcome, reason)?;
+                let line = push_note(self.alloc, line, source, outcome.name(), reason)?;
                 self.put_line(line)
             }
             Format::Text => {
-                write_note(&mut self.text, source, outcome, reason)?;
+                let colours = self.settings.layout.colours;
+                write_note(&mut self.text, source, outcome, reason, colours)?;
                 self.put_text()
             }
             Format::Quiet | Format::Pem => {
                 if self.settings.action == Action::Encode {
                     write!(self.notes, "cimaroly: ")?;
-                    write_note(&mut self.notes, source, outcome, reason)?;
+                    write_note(&mut self.notes, source, outcome, reason, Colours::Off)?;
                 }
                 Ok(())
             }
@@ -106,16 +114,76 @@ impl<'w, W: Write> Session<'w, W> {
     /// Output failed, or memory is refused.
     pub fn refuse(&mut self, source: Source<'_>, reason: &str) -> Result<(), Stop> {
         self.tally.refuse();
-        self.note(source, "refused", reason)
+        self.note(source, Outcome::Refused, reason)
     }
 
-    /// Tells that a block is passed over, since its label is of no type.
+    /// Tells that an input failed: in JSON, since it is told on standard error besides.
     ///
     /// # Errors
     /// Output failed, or memory is refused.
-    pub(crate) fn pass_over(&mut self, source: Source<'_>) -> Result<(), Stop> {
+    pub fn fail(&mut self, file: &str, reason: &str) -> Result<(), Stop> {
+        self.tally.note(Status::Failed);
+        if self.settings.format != Format::Json {
+            return Ok(());
+        }
+        let source = Source { file, block: None };
+        self.note(source, Outcome::Failed, reason)
+    }
+
+    /// Tells that a block is passed over, by its label.
+    ///
+    /// # Errors
+    /// Output failed, or memory is refused.
+    pub(crate) fn pass_over(&mut self, source: Source<'_>, label: &[u8]) -> Result<(), Stop> {
         self.tally.pass_over();
-        self.note(source, "passed over", "unknown label")
+        let reason = match Unread::from_label(label) {
+            Some(unread) => unread.reason(),
+            None => UNKNOWN,
+        };
+        self.note(source, Outcome::PassedOver, reason)
+    }
+
+    /// Whether it counts as a refusal where nothing is read of the input.
+    fn is_strict(&self) -> bool {
+        self.is_named || self.settings.has_strict_files
+    }
+
+    /// Counts as refused that nothing was read of the input, where that counts.
+    pub fn miss(&mut self) {
+        if self.is_strict() {
+            self.tally.note(Status::Refused);
+        }
+    }
+
+    /// Tells that an input without PEM blocks is recognised as something that isn't read, or holds nothing which is.
+    ///
+    /// # Errors
+    /// Output failed, or memory is refused.
+    pub fn unread(&mut self, source: Source<'_>, front: &[u8]) -> Result<(), Stop> {
+        match Unread::from_bytes(front) {
+            Some(unread) => {
+                self.tally.pass_over();
+                self.miss();
+                self.note(source, Outcome::PassedOver, unread.reason())
+            }
+            None => self.nothing(source, NOTHING),
+        }
+    }
+
+    /// Tells that an input holds nothing which is read: it is refused, or where a folder has it, passed over, which text
+    /// doesn't tell.
+    ///
+    /// # Errors
+    /// Output failed, or memory is refused.
+    pub fn nothing(&mut self, source: Source<'_>, reason: &str) -> Result<(), Stop> {
+        if self.is_strict() {
+            return self.refuse(source, reason);
+        }
+        self.tally.pass_over();
+        if self.settings.format != Format::Json {
+            return Ok(());
+        }
+        self.note(source, Outcome::PassedOver, reason)
     }
 
     /// The type that everything is read as, or the one of a label.

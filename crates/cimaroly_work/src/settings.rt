@@ -1,6 +1,7 @@
 //! What the command line asks for.
 
 use x509_inspect::{Kind, Options};
+use x509_report_parts::Layout;
 
 /// What is done with each structure.
 #[derive(Clone, Copy, Debug, PartialEq, Eq)]
@@ -39,6 +40,10 @@ pub struct Settings {
     pub kind: Option<Kind>,
     /// What reports tell.
     pub options: Options,
-    /// Whether there is a line of progress each second.
+    /// How text is laid out.
+    pub layout: Layout,
+    /// Whether progress is told.
     pub has_progress: bool,
+    /// Whether files that hold nothing which is read are refused in folders too.
+    pub has_strict_files: bool,
 }

@@ -72,7 +72,7 @@ pub struct Tally {
     pub deviating: u64,
     /// How many were refused.
     pub refused: u64,
-    /// How many PEM blocks were passed over.
+    /// How many PEM blocks and files were passed over.
     pub passed_over: u64,
     /// What they came to together.
     pub status: Status,
@@ -111,7 +111,7 @@ impl Tally {
         self.status = self.status.worse(Status::Refused);
     }
 
-    /// One more block that is passed over.
+    /// One more block or file that is passed over.
     pub fn pass_over(&mut self)
         ensures { self.new.status ≡ self.old.status }
     {
@@ -146,8 +146,7 @@ impl Display for Tally {
         write!(f, "{} refused", self.refused)?;
         match self.passed_over {
             0 => Ok(()),
-            1 => f.write_str("; 1 block passed over"),
-            count => write!(f, "; {count} blocks passed over"),
+            count => write!(f, "; {count} passed over"),
         }
     }
 }

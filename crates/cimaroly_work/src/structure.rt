@@ -1,8 +1,8 @@
 //! What is done with one structure.
 
 use crate::lines::{write_read, write_refused};
-use crate::session::{NOTHING, Session};
-use crate::settings::{Action, Format};
+use crate::session::Session;
+use crate::settings::{Action, Format, Settings};
 use crate::status::Status;
 use crate::stop::Stop;
 use anyhow::Error;
@@ -10,10 +10,11 @@ use base64::engine::general_purpose::STANDARD;
 use std::io::Write;
 use x509_der::{ReadError, WriteError};
 use x509_inspect::{
-    Determined, Extent, Head, Kind, RefusalLine, Refused, Source, TreeError, check, determine,
-    encoded, push_json, write_text, write_tree,
+    Determined, Extent, Form, Head, Kind, Kinds, RefusalLine, Refused, Source, TreeError, Unread,
+    check, determine, encoded, push_json, write_text, write_tree,
 };
 use x509_report_parts::shown::ShownBytes;
+use x509_report_parts::{Colours, Columns, Mark};
 
 /// What a refusal says of bytes.
 fn line_of(refused: Refused, kind: Kind, bytes: &[u8]) -> RefusalLine<'_> {
@@ -35,7 +36,7 @@ impl<W: Write> Session<'_, W> {
         }
         match self.kind_of(label) {
             Some(kind) => self.structure(source, kind, bytes),
-            None => self.pass_over(source),
+            None => self.pass_over(source, label),
         }
     }
 
@@ -51,20 +52,24 @@ impl<W: Write> Session<'_, W> {
             return self.structure(source, kind, bytes);
         }
         if bytes.first() != Some(&0x30) {
-            return self.refuse(source, NOTHING);
+            return self.unread(source, bytes);
         }
         match determine(self.alloc, bytes) {
-            Determined::One(kind) | Determined::None(kind, _) => {
-                self.structure(source, kind, bytes)
-            }
-            Determined::Several(kinds) => {
-                self.tally.note(Status::Usage);
-                let text = format!(in self.alloc;
-                    "could be {kinds}: choose one with --type, as in --type algorithm"
-                )?;
-                self.refuse(source, text.as_str())
-            }
+            Determined::One(kind) => self.structure(source, kind, bytes),
+            _ if Unread::from_bytes(bytes).is_some() => self.unread(source, bytes),
+            Determined::None(kind, _) => self.structure(source, kind, bytes),
+            Determined::Several(kinds) => self.ask(source, kinds),
         }
+    }
+
+    /// Asks as which type bytes are to be read, which could be several, or something else too.
+    fn ask(&mut self, source: Source<'_>, kinds: Kinds) -> Result<(), Stop> {
+        self.tally.note(Status::Usage);
+        let first = kinds.first().map_or("algorithm", |kind| kind.name());
+        let text = format!(in self.alloc;
+            "could be {kinds}: choose with --type, as in --type {first}"
+        )?;
+        self.refuse(source, text.as_str())
     }
 
     /// Works on bytes as a type.
@@ -92,7 +97,7 @@ impl<W: Write> Session<'_, W> {
         if self.settings.format == Format::Quiet {
             return Ok(());
         }
-        write_refused(&mut self.text, source, line)?;
+        write_refused(&mut self.text, source, line, self.settings.layout.colours)?;
         self.put_text()
     }
 
@@ -104,7 +109,8 @@ impl<W: Write> Session<'_, W> {
                 if self.settings.format == Format::Quiet {
                     return Ok(());
                 }
-                write_read(&mut self.text, source, kind, places.as_slice())?;
+                let colours = self.settings.layout.colours;
+                write_read(&mut self.text, source, kind, places.as_slice(), colours)?;
                 self.put_text()
             }
             Err(refused) => self.refuse_as(source, line_of(refused, kind, bytes)),
@@ -152,19 +158,25 @@ impl<W: Write> Session<'_, W> {
         } else if !self.is_one_of_many {
             return Ok(());
         }
-        write!(self.text, "# {}", ShownBytes(source.file.as_bytes()))?;
-        match source.block {
-            Some((line, _)) => writeln!(self.text, ", line {line}")?,
-            None => writeln!(self.text)?,
+        let colours = self.settings.layout.colours;
+        let begin = colours.begin(Mark::Heading);
+        write!(self.text, "{begin}# {}", ShownBytes(source.file.as_bytes()))?;
+        if let Some((line, _)) = source.block {
+            write!(self.text, ", line {line}")?;
         }
+        writeln!(self.text, "{}", colours.end())?;
         Ok(())
     }
 
     /// Shows the report of a structure.
     fn show(&mut self, source: Source<'_>, kind: Kind, bytes: &[u8]) -> Result<(), Stop> {
         self.separate(source)?;
-        let options = self.settings.options;
-        match write_text(self.alloc, kind, bytes, options, &mut self.text) {
+        let Settings {
+            options,
+            layout,
+            ..
+        } = self.settings;
+        match write_text(self.alloc, kind, bytes, options, layout, &mut self.text) {
             Ok(Ok(deviations)) => {
                 self.tally.add(deviations);
                 self.put_text()
@@ -203,7 +215,7 @@ impl<W: Write> Session<'_, W> {
         }
         self.tally.refuse();
         write!(self.notes, "cimaroly: ")?;
-        write_refused(&mut self.notes, source, line)?;
+        write_refused(&mut self.notes, source, line, Colours::Off)?;
         Ok(())
     }
 
@@ -227,18 +239,27 @@ impl<W: Write> Session<'_, W> {
     /// Shows the elements of bytes.
     fn tree(&mut self, source: Source<'_>, bytes: &[u8]) -> Result<(), Stop> {
         self.separate(source)?;
-        match write_tree(self.alloc, &mut self.text, bytes) {
-            Ok(None) => {
-                self.tally.add(0);
-                self.put_text()
-            }
-            Ok(Some(at)) => {
-                self.tally.refuse();
-                writeln!(self.text, "no element at byte {at}")?;
-                self.put_text()
-            }
+        let mut columns = Columns::new(&mut self.text, self.settings.layout.width);
+        let written = write_tree(self.alloc, &mut columns, bytes);
+        match written {
+            Ok(form) => self.tell_form(form, bytes.len()),
             Err(TreeError::OutOfMemory | TreeError::Write) => Err(Stop::memory()),
         }
+    }
+
+    /// Counts what a tree came to, and writes its last line, if something is wrong with it.
+    fn tell_form(&mut self, form: Form, len: usize) -> Result<(), Stop> {
+        let colours = self.settings.layout.colours;
+        match form.stopped {
+            Some(at) => {
+                self.tally.refuse();
+                let begin = colours.begin(Mark::Refusal);
+                let what = if at < len { "no element" } else { "cut off" };
+                writeln!(self.text, "{begin}{what} at byte {at}{}", colours.end())?;
+            }
+            None => self.tally.add(form.lengths),
+        }
+        self.put_text()
     }
 
     /// Writes what was kept for the end.

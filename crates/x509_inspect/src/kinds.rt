@@ -9,17 +9,34 @@ use x509_inspect_parts::Kind;
 /// Which types accept some bytes.
 #[derive(Clone, Copy, Debug, PartialEq, Eq)]
 pub enum Determined {
-    /// One.
+    /// One, which says what the bytes are.
     One(Kind),
-    /// None; of the type whose reading got furthest, why.
+    /// None; of the type whose reading got furthest, why. It is one that says what the bytes are.
     None(Kind, Refused),
-    /// Several.
+    /// Several, or one that bytes of other kinds have too.
     Several(Kinds),
+}
+
+/// Whether bytes that a type accepts are of that type: other structures are read as names and algorithm identifiers too.
+fn is_telling(kind: Kind) -> bool {
+    !matches!(kind, Kind::Name | Kind::Algorithm | Kind::RawAlgorithm)
 }
 
 /// Some of the types, each told by whether it is among them.
 #[derive(Clone, Copy, Debug, PartialEq, Eq)]
 pub struct Kinds([bool; 11]);
+
+impl Kinds {
+    /// The first of them.
+    pub fn first(&self) -> Option<Kind> {
+        for (kind, is_in) in Kind::ALL.iter().zip(&self.0) {
+            if *is_in {
+                return Some(*kind);
+            }
+        }
+        None
+    }
+}
 
 impl Display for Kinds {
     fn fmt<W: Write>(&self, f: &mut fmt::Formatter<W>) -> fmt::Result {
@@ -66,20 +83,21 @@ impl Search {
                 self.count = self.count.saturating_add(1);
                 self.last = kind;
             }
-            Some(refused) => {
+            Some(refused) if is_telling(kind) => {
                 let this = (kind, refused);
                 self.refused = Some(match self.refused {
                     Some(before) => further(before, this),
                     None => this,
                 });
             }
+            Some(_) => {}
         }
     }
 
     /// What it comes to.
     fn outcome(&self) -> Determined {
         match (self.count, self.refused) {
-            (1, _) => Determined::One(self.last),
+            (1, _) if is_telling(self.last) => Determined::One(self.last),
             (0, Some((kind, refused))) => Determined::None(kind, refused),
             _ => Determined::Several(Kinds(self.accepting)),
         }

@@ -14,6 +14,7 @@ pub use crate::task::{check, encoded, push_json, write_text};
 pub use crate::text_report::TextReport;
 pub use x509_der::Refused;
 pub use x509_inspect_parts::{
-    Extent, Head, Kind, Options, RefusalLine, Source, TreeError, push_note, write_tree,
+    Extent, Form, Head, Kind, Options, RefusalLine, Source, TreeError, Unread, push_note,
+    write_tree,
 };
 pub use x509_report::{Identifiers, Secrets};

@@ -12,6 +12,7 @@ use std::alloc::{AllocError, Allocator};
 use std::fmt::{self, Write};
 use x509_der::Refused;
 use x509_inspect_parts::{Head, Kind, Options};
+use x509_report_parts::Layout;
 
 /// Does a task with bytes as a type.
 fn run_as<A: Allocator + Copy, K: Task<A>>(kind: Kind, task: K) -> K::Answer {
@@ -68,6 +69,7 @@ pub fn write_text<A: Allocator + Copy, W: Write>(
     kind: Kind,
     bytes: &[u8],
     options: Options,
+    layout: Layout,
     out: &mut W,
 ) -> Result<Result<usize, fmt::Error>, Refused> {
     run_as(
@@ -76,6 +78,7 @@ pub fn write_text<A: Allocator + Copy, W: Write>(
             alloc,
             bytes,
             options,
+            layout,
             out,
         },
     )

@@ -6,6 +6,7 @@ use std::fmt::{self, Display, Write};
 use x509_der::{FromDer, Place, Refused};
 use x509_inspect_parts::Options;
 use x509_report::{FieldSink, Reported, Secrets, Span, TextSink};
+use x509_report_parts::{Columns, Layout, Mark};
 
 /// Of how many deviations the field is told: to find one takes a walk over the whole.
 pub(crate) const NAMED: usize = 16;
@@ -21,6 +22,8 @@ pub struct TextReport<'a, T: Reported> {
     pub places: &'a [Place],
     /// What is told.
     pub options: Options,
+    /// How it is laid out.
+    pub layout: Layout,
 }
 
 /// The field that stands over a place: it prints the names of the nodes around it.
@@ -75,7 +78,8 @@ fn write_count<W: Write>(out: &mut W, count: usize) -> fmt::Result {
 
 impl<T: Reported> TextReport<'_, T> {
     /// Writes the line of a deviation, with the fields around it, where there are any.
-    fn write_deviation<W: Write>(&self, out: &mut W, place: &Place) -> fmt::Result {
+    fn write_deviation<W: Write>(&self, out: &mut Columns<'_, W>, place: &Place) -> fmt::Result {
+        let colours = self.layout.colours;
         let Place { kind, start, end } = *place;
         let field = FieldOf {
             value: self.value,
@@ -83,7 +87,10 @@ impl<T: Reported> TextReport<'_, T> {
             place: Span { start, end },
             separator: ", ",
         };
-        write!(out, "  deviation   {kind}, at {start}..{end}")?;
+        out.write_str("  deviation   ")?;
+        out.unseen(colours.begin(Mark::Deviation))?;
+        write!(out, "{kind}, at {start}..{end}")?;
+        out.unseen(colours.end())?;
         let mut around = Bracketed {
             out,
             has_begun: false,
@@ -93,7 +100,7 @@ impl<T: Reported> TextReport<'_, T> {
     }
 
     /// Writes the lines of the deviations.
-    fn write_deviations<W: Write>(&self, out: &mut W) -> fmt::Result {
+    fn write_deviations<W: Write>(&self, out: &mut Columns<'_, W>) -> fmt::Result {
         for place in self.places.iter().take(NAMED) {
             self.write_deviation(out, place)?;
         }
@@ -105,10 +112,13 @@ impl<T: Reported> TextReport<'_, T> {
     }
 
     /// Writes the lines that stand before the fields.
-    fn write_head<W: Write>(&self, out: &mut W) -> fmt::Result {
+    fn write_head<W: Write>(&self, out: &mut Columns<'_, W>) -> fmt::Result {
         let len = self.bytes.len();
+        let colours = self.layout.colours;
+        out.unseen(colours.begin(Mark::Heading))?;
         write!(out, "{}, {len} bytes, ", T::TITLE)?;
         write_count(out, self.places.len())?;
+        out.unseen(colours.end())?;
         out.write_str("\n")?;
         self.value.summary(out)?;
         if let Some(Span { start, end }) = self.value.signed(self.bytes) {
@@ -120,9 +130,10 @@ impl<T: Reported> TextReport<'_, T> {
 
 impl<T: Reported> Display for TextReport<'_, T> {
     fn fmt<W: Write>(&self, f: &mut fmt::Formatter<W>) -> fmt::Result {
-        self.write_head(f)?;
+        let width = self.layout.width;
+        self.write_head(&mut Columns::new(f, width))?;
         f.write_str("\n")?;
-        let mut sink = TextSink::new(f, self.options.identifiers);
+        let mut sink = TextSink::new(f, self.options.identifiers, width);
         self.value.tell(&mut sink, self.bytes, self.options.secrets)
     }
 }
@@ -136,6 +147,8 @@ pub(crate) struct WriteText<'a, 'w, A, W: Write> {
     pub(crate) bytes: &'a [u8],
     /// What is told.
     pub(crate) options: Options,
+    /// How it is laid out.
+    pub(crate) layout: Layout,
     /// What is written to.
     pub(crate) out: &'w mut W,
 }
@@ -146,13 +159,14 @@ fn write_report<T: Reported, W: Write>(
     value: &T,
     bytes: &[u8],
     places: &[Place],
-    options: Options,
+    (options, layout): (Options, Layout),
 ) -> fmt::Result {
     let report = TextReport {
         value,
         bytes,
         places,
         options,
+        layout,
     };
     write!(out, "{report}")
 }
@@ -165,10 +179,11 @@ impl<A: Allocator + Copy, W: Write> Task<A> for WriteText<'_, '_, A, W> {
             alloc,
             bytes,
             options,
+            layout,
             out,
         } = self;
         let (value, places) = read_told::<T, A>(alloc, bytes)?;
-        let written = write_report(out, &value, bytes, places.as_slice(), options);
+        let written = write_report(out, &value, bytes, places.as_slice(), (options, layout));
         drop(value);
         Ok(written.map(|()| places.len()))
     }

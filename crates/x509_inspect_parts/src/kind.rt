@@ -31,7 +31,7 @@ pub enum Kind {
 }
 
 /// Whether a label is a text.
-fn is(label: &[u8], text: &str) -> bool
+pub(crate) fn is(label: &[u8], text: &str) -> bool
     ensures { IsTrue result ↔ (label.now ≡ text.now) }
 {
     label == text.as_bytes()

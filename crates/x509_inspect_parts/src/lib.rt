@@ -3,14 +3,18 @@
 #![tactic(auto)]
 
 mod field_path;
+mod header;
+mod held;
 pub mod json_line;
 mod kind;
 mod options;
 mod refusal;
 mod tree;
+mod unread;
 
 pub use crate::json_line::{Extent, Head, Source, push_note};
 pub use crate::kind::Kind;
 pub use crate::options::Options;
 pub use crate::refusal::RefusalLine;
-pub use crate::tree::{TreeError, write_tree};
+pub use crate::tree::{Form, TreeError, write_tree};
+pub use crate::unread::Unread;

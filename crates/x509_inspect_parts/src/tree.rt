@@ -1,13 +1,10 @@
-//! The elements of any bytes in the basic encoding with definite lengths, with places, tags, names and first bytes.
+//! The elements of any bytes in the basic encoding rules, with places, tags, names and first bytes.
 
+use crate::header::{Header, Length, TagName, header_at};
+use crate::held::{before_element, write_content};
 use std::alloc::{AllocError, Allocator};
-use std::fmt::{self, Display, Write};
-use std::str;
-use x509_der::{ObjectIdentifierAsn1, ReadError, from_bytes};
-use x509_report_parts::Identifiers;
-use x509_report_parts::shown::{Frame, Shown};
-use x509_report_parts::text_sink::Named;
-use x509_report_parts::values::{ShortHex, Utf16};
+use std::fmt::{self, Write};
+use x509_report_parts::values::ShortHex;
 
 /// Why no tree was written.
 #[derive(Clone, Copy, Debug, PartialEq, Eq)]
@@ -30,233 +27,213 @@ impl From<fmt::Error> for TreeError {
     }
 }
 
-/// Where an element stands and what its header says.
+/// How the elements of some bytes are encoded.
 #[derive(Clone, Copy, Debug, PartialEq, Eq)]
-struct Header {
-    /// The first byte of the tag.
-    tag: u8,
-    /// Where it starts, where its content starts, and where it ends.
-    places: (usize, usize, usize),
-}
-
-/// How many bytes an element's tag has (X.690, 8.1.2): one, or for numbers above 30 those of the number too.
-fn tag_len(bytes: &[u8]) -> Option<usize> {
-    let first = *bytes.first()?;
-    if first % 32 != 31 {
-        return Some(1);
-    }
-    let mut count: usize = 1;
-    for byte in bytes.get(1..)? {
-        count = count.saturating_add(1);
-        if *byte < 128 {
-            return Some(count);
-        }
-    }
-    None
-}
-
-/// What length the bytes behind a tag say, and in how many bytes they say it (X.690, 8.1.3); none is indefinite.
-fn length_of(bytes: &[u8]) -> Option<(usize, usize)> {
-    let first = *bytes.first()?;
-    if first < 128 {
-        return Some((usize::from(first), 1));
-    }
-    let count = usize::from(first - 128);
-    if count == 0 || count > 8 {
-        return None;
-    }
-    let mut length: usize = 0;
-    for digit in bytes.get(1..1 + count)? {
-        length = length.wrapping_mul(256) | usize::from(*digit);
-    }
-    Some((length, 1 + count))
-}
-
-/// The header of the element that begins at a place and ends by another.
-fn header_at(bytes: &[u8], start: usize, end: usize) -> Option<Header> {
-    let within = bytes.get(start..end)?;
-    let tag = *within.first()?;
-    let tag_len = tag_len(within)?;
-    let (length, length_len) = length_of(within.get(tag_len..)?)?;
-    let content = start.checked_add(tag_len)?.checked_add(length_len)?;
-    let stop = content.checked_add(length)?;
-    if stop > end {
-        return None;
-    }
-    Some(Header {
-        tag,
-        places: (start, content, stop),
-    })
-}
-
-/// The name of a universal tag (X.680, 8.4).
-fn universal_name(number: u8) -> Option<&'static str> {
-    match number {
-        1 => Some("BOOLEAN"),
-        2 => Some("INTEGER"),
-        3 => Some("BIT STRING"),
-        4 => Some("OCTET STRING"),
-        5 => Some("NULL"),
-        6 => Some("OBJECT IDENTIFIER"),
-        10 => Some("ENUMERATED"),
-        12 => Some("UTF8String"),
-        16 => Some("SEQUENCE"),
-        17 => Some("SET"),
-        18 => Some("NumericString"),
-        19 => Some("PrintableString"),
-        20 => Some("TeletexString"),
-        22 => Some("IA5String"),
-        23 => Some("UTCTime"),
-        24 => Some("GeneralizedTime"),
-        26 => Some("VisibleString"),
-        28 => Some("UniversalString"),
-        30 => Some("BMPString"),
-        _ => None,
-    }
-}
-
-/// A tag by its name, or by its class and number.
-#[derive(Clone, Copy, Drop)]
-struct TagName(u8);
-
-impl Display for TagName {
-    fn fmt<W: Write>(&self, f: &mut fmt::Formatter<W>) -> fmt::Result {
-        let number = self.0 % 32;
-        let class = match self.0 / 64 {
-            0 => "UNIVERSAL ",
-            1 => "APPLICATION ",
-            2 => "",
-            _ => "PRIVATE ",
-        };
-        match universal_name(number) {
-            Some(name) if self.0 < 64 => f.write_str(name),
-            _ if number == 31 => write!(f, "[{class}31 or more]"),
-            _ => write!(f, "[{class}{number}]"),
-        }
-    }
-}
-
-/// Writes what stands in an element without elements in it.
-fn write_content<A: Allocator + Copy, W: Write>(
-    alloc: A,
-    out: &mut W,
-    tag: u8,
-    element: &[u8],
-    content: &[u8],
-) -> Result<(), TreeError> {
-    match tag {
-        0x06 => return write_identifier(alloc, out, element, content),
-        0x0c | 0x12 | 0x13 | 0x16 | 0x17 | 0x18 | 0x1a => write_text(out, content)?,
-        0x1e => write!(out, " \"{}\"", Shown(&Utf16(content), Frame::Quotes))?,
-        _ if content.is_empty() => {}
-        _ => write!(out, " {}", ShortHex(content))?,
-    }
-    Ok(())
-}
-
-/// Writes text, or the bytes of what is none.
-fn write_text<W: Write>(out: &mut W, content: &[u8]) -> fmt::Result {
-    match str::from_utf8(content) {
-        Ok(text) => write!(out, " \"{}\"", Shown(&text, Frame::Quotes)),
-        Err(_) => write!(out, " {}", ShortHex(content)),
-    }
-}
-
-/// Writes an object identifier, or the bytes of what is none.
-fn write_identifier<A: Allocator + Copy, W: Write>(
-    alloc: A,
-    out: &mut W,
-    element: &[u8],
-    content: &[u8],
-) -> Result<(), TreeError> {
-    match from_bytes::<ObjectIdentifierAsn1<A>, A>(alloc, element) {
-        Ok(identifier) => write!(
-            out,
-            " {}",
-            Named(identifier.0.content(), Identifiers::Dotted)
-        )?,
-        Err(ReadError::OutOfMemory) => return Err(TreeError::OutOfMemory),
-        Err(_) => write!(out, " {}", ShortHex(content))?,
-    }
-    Ok(())
+pub struct Form {
+    /// How many lengths are indefinite, or said in more bytes than needed.
+    pub lengths: usize,
+    /// The first byte at which no element could be read; where the last element is cut off, the end.
+    pub stopped: Option<usize>,
 }
 
 /// How deep lines are indented at the most.
 const DEEPEST: usize = 40;
 
-/// Writes where an element stands and its tag.
-fn write_header<W: Write>(out: &mut W, header: &Header, depth: usize) -> fmt::Result {
-    let (start, _, stop) = header.places;
-    write!(out, "{start:>8}..{stop:<8}")?;
+/// How many strings with elements in them are gone into, one inside of another.
+const STRINGS: usize = 8;
+
+/// Writes the start of a line, up to the tag.
+fn write_place<W: Write>(
+    out: &mut W,
+    start: usize,
+    stop: Option<usize>,
+    depth: usize,
+) -> fmt::Result {
+    match stop {
+        Some(stop) => write!(out, "{start:>8}..{stop:<8}")?,
+        None => write!(out, "{start:>8}..        ")?,
+    }
     for _ in 0..depth.min(DEEPEST) {
         out.write_str("  ")?;
     }
-    write!(out, "{}", TagName(header.tag))
+    Ok(())
 }
 
-/// Writes the line of an element. Answers whether it has elements in it.
-fn write_line<A: Allocator + Copy, W: Write>(
-    alloc: A,
-    out: &mut W,
-    bytes: &[u8],
-    header: &Header,
-    depth: usize,
-) -> Result<bool, TreeError> {
-    let (start, inside, stop) = header.places;
-    write_header(out, header, depth)?;
-    let is_constructed = header.tag % 64 >= 32;
-    if !is_constructed {
-        let element = bytes.get(start..stop).unwrap_or(&[]);
-        let content = bytes.get(inside..stop).unwrap_or(&[]);
-        write_content(alloc, out, header.tag, element, content)?;
+/// Writes what is to be said of a length.
+fn write_length<W: Write>(out: &mut W, header: &Header) -> fmt::Result {
+    match header.length {
+        Length::Shortest => {}
+        Length::Long => out.write_str(" (long-form length)")?,
+        Length::Indefinite => out.write_str(" (indefinite length)")?,
     }
-    out.write_str("\n")?;
-    Ok(is_constructed)
+    match header.missing {
+        0 => Ok(()),
+        1 => out.write_str(" (1 byte missing)"),
+        missing => write!(out, " ({missing} bytes missing)"),
+    }
 }
 
-/// A walk over elements: where it is, and where the elements end that it is in.
+/// What a walk is in.
+#[derive(Clone, Copy, Debug, PartialEq, Eq)]
+struct Level {
+    /// Where it ends, or else what it stands in, if its length is indefinite.
+    end: usize,
+    /// Whether its length is indefinite.
+    is_indefinite: bool,
+    /// Whether it is a string.
+    is_string: bool,
+}
+
+/// A walk over elements: where it is, and what it is in.
 #[derive(Drop)]
 struct Walk<A: Allocator> {
     at: usize,
-    ends: Vec<usize, A>,
+    levels: Vec<Level, A>,
+    strings: usize,
+    form: Form,
 }
 
 impl<A: Allocator + Copy> Walk<A> {
-    /// Goes out of the elements that end here. Answers where the innermost ends that it is in.
-    fn leave(&mut self, whole: usize) -> usize {
-        for _ in 0..self.ends.len() {
-            match self.ends.last() {
-                Some(end) if *end <= self.at => {
-                    let _ended = self.ends.pop();
-                }
-                Some(end) => return *end,
-                None => {}
-            }
+    /// Goes out of the innermost level.
+    fn up(&mut self) {
+        if let Some(level) = self.levels.pop() {
+            self.strings = self.strings.saturating_sub(usize::from(level.is_string));
         }
-        whole
     }
 
-    /// Writes the next element, and goes into it or behind it. Answers whether there was one.
-    fn step<W: Write>(&mut self, alloc: A, out: &mut W, bytes: &[u8]) -> Result<bool, TreeError> {
-        let end = self.leave(bytes.len());
-        let Some(header) = header_at(bytes, self.at, end) else {
-            return Ok(false);
-        };
-        let (_, inside, stop) = header.places;
-        if write_line(alloc, out, bytes, &header, self.ends.len())? {
-            if self.ends.push(stop).is_err() {
-                return Err(TreeError::OutOfMemory);
+    /// Goes out of the elements that end here.
+    fn leave(&mut self) {
+        for _ in 0..self.levels.len() {
+            match self.levels.last() {
+                Some(level) if level.end <= self.at => {
+                    let is_open = level.is_indefinite;
+                    self.up();
+                    // the end of contents is missing
+                    if is_open {
+                        self.stop(self.at);
+                    }
+                }
+                _ => return,
             }
-            self.at = inside;
-        } else {
-            self.at = stop;
         }
+    }
+
+    /// Goes into an element.
+    fn enter(&mut self, header: &Header, at: usize) -> Result<(), TreeError> {
+        let is_string = !header.is_constructed();
+        let level = Level {
+            end: header.stop,
+            is_indefinite: header.length == Length::Indefinite,
+            is_string,
+        };
+        if self.levels.push(level).is_err() {
+            return Err(TreeError::OutOfMemory);
+        }
+        self.strings = self.strings.saturating_add(usize::from(is_string));
+        self.at = at;
+        Ok(())
+    }
+
+    /// Notes how an element is encoded.
+    fn note(&mut self, header: &Header) {
+        if header.length != Length::Shortest && self.strings == 0 {
+            self.form.lengths = self.form.lengths.saturating_add(1);
+        }
+        if header.missing > 0 {
+            self.stop(header.stop);
+        }
+    }
+
+    /// Notes that no element can be read at a place, unless what stands there may be no element.
+    fn stop(&mut self, at: usize) {
+        if self.strings == 0 && self.form.stopped.is_none() {
+            self.form.stopped = Some(at);
+        }
+    }
+
+    /// Writes the line of an element, and goes into it or behind it.
+    fn element<W: Write>(
+        &mut self,
+        out: &mut W,
+        bytes: &[u8],
+        header: &Header,
+    ) -> Result<(), TreeError> {
+        self.note(header);
+        let is_open = header.length == Length::Indefinite;
+        let stop = if is_open { None } else { Some(header.stop) };
+        write_place(out, header.start, stop, self.levels.len())?;
+        write!(out, "{}", TagName(header.tag))?;
+        if header.is_constructed() {
+            write_length(out, header)?;
+            out.write_str("\n")?;
+            return self.enter(header, header.content);
+        }
+        self.primitive(out, bytes, header)
+    }
+
+    /// Writes the rest of the line of an element that isn't constructed, and goes into it or behind it.
+    fn primitive<W: Write>(
+        &mut self,
+        out: &mut W,
+        bytes: &[u8],
+        header: &Header,
+    ) -> Result<(), TreeError> {
+        let content = bytes.get(header.content..header.stop).unwrap_or(&[]);
+        if self.strings < STRINGS && header.missing == 0 {
+            if let Some(before) = before_element(header.tag, content) {
+                write_length(out, header)?;
+                out.write_str(", which holds\n")?;
+                return self.enter(header, header.content.saturating_add(before));
+            }
+        }
+        write_content(out, header.tag, content)?;
+        write_length(out, header)?;
+        out.write_str("\n")?;
+        self.at = header.stop;
+        Ok(())
+    }
+
+    /// Writes the line of the two bytes that end a content of indefinite length, if they stand here, and goes behind them.
+    fn end_of_contents<W: Write>(&mut self, out: &mut W, bytes: &[u8]) -> Result<bool, TreeError> {
+        let stop = self.at.saturating_add(2);
+        let is_open = self.levels.last().is_some_and(|level| level.is_indefinite);
+        if !is_open || bytes.get(self.at..stop) != Some([0, 0].as_slice()) {
+            return Ok(false);
+        }
+        self.up();
+        write_place(out, self.at, Some(stop), self.levels.len())?;
+        out.write_str("end of contents\n")?;
+        self.at = stop;
         Ok(true)
+    }
+
+    /// Writes the line of bytes that are no element, up to the end of what they stand in.
+    fn rest<W: Write>(&mut self, out: &mut W, bytes: &[u8], end: usize) -> Result<(), TreeError> {
+        self.stop(self.at);
+        write_place(out, self.at, Some(end), self.levels.len())?;
+        let rest = bytes.get(self.at..end).unwrap_or(&[]);
+        writeln!(out, "no element, {}", ShortHex(rest))?;
+        self.at = end;
+        Ok(())
+    }
+
+    /// Writes the next line.
+    fn step<W: Write>(&mut self, out: &mut W, bytes: &[u8]) -> Result<(), TreeError> {
+        self.leave();
+        if self.end_of_contents(out, bytes)? {
+            return Ok(());
+        }
+        let end = self.levels.last().map_or(bytes.len(), |level| level.end);
+        match header_at(bytes, self.at, end) {
+            Some(header) => self.element(out, bytes, &header),
+            None => self.rest(out, bytes, end),
+        }
     }
 }
 
 /// Writes a line for each element of the bytes: where it stands, its tag, and of one without elements in it what stands in
-/// it. Answers at which byte no element could be read, if there is one.
+/// it. It goes into strings that hold an element too, and marks lengths that DER doesn't have, and what is cut off or no
+/// element. Answers how the bytes are encoded.
 ///
 /// # Errors
 /// Writing failed, or memory is refused.
@@ -264,18 +241,22 @@ pub fn write_tree<A: Allocator + Copy, W: Write>(
     alloc: A,
     out: &mut W,
     bytes: &[u8],
-) -> Result<Option<usize>, TreeError> {
+) -> Result<Form, TreeError> {
     let mut walk = Walk {
         at: 0,
-        ends: Vec::new(alloc),
+        levels: Vec::new(alloc),
+        strings: 0,
+        form: Form {
+            lengths: 0,
+            stopped: None,
+        },
     };
     for _ in 0..bytes.len() {
         if walk.at >= bytes.len() {
-            return Ok(None);
+            break;
         }
-        if !walk.step(alloc, out, bytes)? {
-            return Ok(Some(walk.at));
-        }
+        walk.step(out, bytes)?;
     }
-    Ok(None)
+    walk.leave();
+    Ok(walk.form)
 }

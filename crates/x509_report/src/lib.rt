@@ -1,7 +1,7 @@
 //! Reports of X.509 structures: what stands in them and where, for people as text and for programs as JSON.
 //!
-//! One walk over a value beside the bytes that it was read from tells each field to a sink. It passes on what a caller
-//! names of the crates below.
+//! One walk over a value beside the bytes that it was read from tells each field to a sink. It re-exports what
+//! callers need of the crates below.
 #![tactic(auto)]
 
 mod attribute;

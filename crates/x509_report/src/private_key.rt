@@ -10,7 +10,7 @@ use std::alloc::Allocator;
 use std::fmt::{self, Write};
 use x509_fields::PrivateKeyInfoFields;
 use x509_report_fields::algorithm::algorithm;
-use x509_report_fields::key::{KeyLine, bits, line_of, size, sized};
+use x509_report_fields::key::{KeyLine, bits, line_of, octet_bits, rsa_line, sized};
 use x509_report_parts::{Cursor, Element, Label, Secrets, Shape, Sink, Value};
 
 /// A secret number, or how many bytes it has.
@@ -171,7 +171,8 @@ fn private_line<A: Allocator>(value: &PrivateKeyInfo<A>) -> KeyLine<'_> {
     let line = line_of(&value.private_key_algorithm);
     match &value.private_key {
         PrivateKeyValue::Rsa(key) => line.with_modulus(&key.0.modulus),
-        _ => line,
+        PrivateKeyValue::EC(key) => line.with_secret(key.0.private_key.0.as_slice()),
+        PrivateKeyValue::ED(key) => line.with_bits(octet_bits(key.0.0.as_slice())),
     }
 }
 
@@ -211,7 +212,7 @@ impl<A: Allocator> Reported for RsaPrivateKey<A> {
     }
 
     fn summary<W: Write>(&self, out: &mut W) -> fmt::Result {
-        writeln!(out, "  key         RSA, {} bits", size(&self.modulus))
+        writeln!(out, "  key         {}", rsa_line(&self.modulus))
     }
 }
 
@@ -221,7 +222,7 @@ fn ec_line<A: Allocator>(value: &ECPrivateKey<A>) -> KeyLine<'_> {
         Some(EcParameters::NamedCurve(curve)) => Some(curve.0.content()),
         None => None,
     };
-    x509_report_fields::key::ec_line(curve)
+    x509_report_fields::key::ec_line(curve).with_secret(value.private_key.0.as_slice())
 }
 
 impl<A: Allocator> Reported for ECPrivateKey<A> {

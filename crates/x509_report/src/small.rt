@@ -7,7 +7,7 @@ use picky_asn1_x509::{
 use std::alloc::Allocator;
 use std::fmt::{self, Write};
 use x509_report_fields::algorithm::algorithm;
-use x509_report_fields::key::{public_key, public_line, rsa, size};
+use x509_report_fields::key::{public_key, public_line, rsa, rsa_line};
 use x509_report_fields::name::{NameLine, name};
 use x509_report_parts::text_sink::Named;
 use x509_report_parts::{Cursor, Identifiers, Label, Secrets, Shape, Sink, Value};
@@ -93,6 +93,6 @@ impl<A: Allocator> Reported for RsaPublicKey<A> {
     }
 
     fn summary<W: Write>(&self, out: &mut W) -> fmt::Result {
-        writeln!(out, "  key         RSA, {} bits", size(&self.modulus))
+        writeln!(out, "  key         {}", rsa_line(&self.modulus))
     }
 }

@@ -119,12 +119,12 @@ impl<T: Display> Display for Shown<'_, T> {
     }
 }
 
-/// Bytes of others, such as a label or a path: as text where they are UTF-8, and else with `\x80` for each byte that is no
+/// Bytes of others, such as a label or a path: as text where they are UTF-8, and else with `\x80` for each byte that isn't
 /// ASCII.
 #[derive(Clone, Copy, Drop)]
 pub struct ShownBytes<'a>(pub &'a [u8]);
 
-/// Writes bytes that are no text.
+/// Writes bytes that aren't UTF-8.
 fn write_bytes<W: Write>(out: &mut W, bytes: &[u8]) -> fmt::Result {
     for byte in bytes {
         if byte.is_ascii() {

@@ -57,7 +57,7 @@ pub enum Value<'a> {
     Number(u64),
     /// A number in two's complement, high bytes first.
     Integer(&'a [u8]),
-    /// A number of a key, which isn't negative, with its size in bits.
+    /// A number of a key in two's complement, high bytes first, behind the number of bits of its absolute value.
     Sized(u64, &'a [u8]),
     /// Bytes.
     Octets(&'a [u8]),

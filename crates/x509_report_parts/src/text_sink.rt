@@ -1,5 +1,6 @@
 //! A report as text, a line for each node.
 
+use crate::columns::{count_of, front_of};
 use crate::cursor::Span;
 use crate::shown::{Frame, Shown, is_harmless};
 use crate::sink::{Label, Shape, Sink, Value};
@@ -25,28 +26,51 @@ const PLACES: usize = 84;
 const SPACES: &str =
     "                                                                                    ";
 
-/// A writer that counts the characters which it passes on.
+/// How many columns a report has at least.
+const NARROWEST: usize = 60;
+
+/// How many columns stand behind the last that a value may fill: for two full stops, two spaces and a place below a
+/// million.
+const BEHIND: usize = 18;
+
+/// How many columns stand behind the one in which the starts of places end.
+const ENDS: usize = 9;
+
+/// A writer that counts the characters which it passes on, and passes on no more than a line has room for.
 #[derive(Drop)]
 struct Counted<'w, W: Write> {
     out: &'w mut W,
     count: usize,
+    limit: usize,
+    is_cut: bool,
 }
 
 impl<W: Write> Write for Counted<'_, W> {
     fn write_str(&mut self, text: &str) -> fmt::Result {
-        let count = if text.is_ascii() {
-            text.len()
-        } else {
-            text.chars().count()
-        };
-        self.count = self.count.saturating_add(count);
+        let room = self.limit.saturating_sub(self.count);
+        if text.len() > room {
+            return self.cut(text, room);
+        }
+        self.count = self.count.saturating_add(count_of(text));
         self.out.write_str(text)
     }
 }
 
 impl<W: Write> Counted<'_, W> {
+    /// Writes as much of a text as there is room for.
+    fn cut(&mut self, text: &str, room: usize) -> fmt::Result {
+        let front = front_of(text, room);
+        self.is_cut = self.is_cut || front.len() < text.len();
+        self.count = self.count.saturating_add(count_of(front));
+        self.out.write_str(front)
+    }
+
     /// Writes a text of ASCII.
     fn put(&mut self, text: &str) -> fmt::Result {
+        let room = self.limit.saturating_sub(self.count);
+        if text.len() > room {
+            return self.cut(text, room);
+        }
         self.count = self.count.saturating_add(text.len());
         self.out.write_str(text)
     }
@@ -77,6 +101,8 @@ impl<W: Write> Counted<'_, W> {
 #[derive(Drop)]
 pub struct TextSink<'w, W: Write> {
     out: Counted<'w, W>,
+    /// In which column the starts of places end.
+    places: usize,
     identifiers: Identifiers,
     depth: usize,
     /// Whether the node that is open has no line of its own, in the lowest bit; in the others, those around it.
@@ -143,20 +169,39 @@ fn write_kept<W: Write>(out: &mut W, bytes: &[u8]) -> fmt::Result {
     }
 }
 
-/// Writes a number of a key: in decimal where it has at most 64 bits, and else its size in bits, and its bytes.
-fn write_number<W: Write>(out: &mut W, count: u64, bytes: &[u8]) -> fmt::Result {
-    let digits = match bytes {
-        [0, digits @ ..] => digits,
-        digits => digits,
-    };
-    if count > 64 {
-        return write_bits(out, count, digits);
-    }
-    let mut number: u64 = 0;
+/// The number whose last digits in base 256 these are, behind those of another number; modulo 2^64.
+fn joined(front: u64, digits: &[u8]) -> u64 {
+    let mut number = front;
     for digit in digits {
         number = number.wrapping_mul(256) | u64::from(*digit);
     }
-    write!(out, "{number}")
+    number
+}
+
+/// Writes a number of a key: in decimal where it has at most 64 bits, and else its size in bits, and its bytes.
+fn write_number<W: Write>(out: &mut W, count: u64, bytes: &[u8]) -> fmt::Result {
+    match bytes {
+        [128..=255, ..] => write_negative(out, count, bytes),
+        [0, digits @ ..] => write_natural(out, count, digits),
+        digits => write_natural(out, count, digits),
+    }
+}
+
+/// The same of a number that isn't below 0, by its digits in base 256.
+fn write_natural<W: Write>(out: &mut W, count: u64, digits: &[u8]) -> fmt::Result {
+    if count > 64 {
+        return write_bits(out, count, digits);
+    }
+    write!(out, "{}", joined(0, digits))
+}
+
+/// The same of a number below 0, whose bytes are in two's complement.
+fn write_negative<W: Write>(out: &mut W, count: u64, bytes: &[u8]) -> fmt::Result {
+    if bytes.len() > 8 {
+        return write!(out, "negative, {count} bits, {}", ShortHex(bytes));
+    }
+    let size = joined(u64::MAX, bytes).wrapping_neg();
+    write!(out, "-{size}")
 }
 
 /// Writes a number of bits, and bytes.
@@ -205,10 +250,24 @@ fn is_plain(value: Value<'_>) -> bool {
 }
 
 impl<'w, W: Write> TextSink<'w, W> {
-    /// Nothing is written yet.
-    pub fn new(out: &'w mut W, identifiers: Identifiers) -> Self {
+    /// Nothing is written yet. Where there is a width, values that don't fit in are cut, and end with `..`.
+    pub fn new(out: &'w mut W, identifiers: Identifiers, width: Option<usize>) -> Self {
+        let (limit, places) = match width {
+            Some(width) => {
+                let width = width.max(NARROWEST);
+                (width - BEHIND, PLACES.min(width - ENDS))
+            }
+            None => (usize::MAX, PLACES),
+        };
+        let out = Counted {
+            out,
+            count: 0,
+            limit,
+            is_cut: false,
+        };
         TextSink {
-            out: Counted { out, count: 0 },
+            out,
+            places,
             identifiers,
             depth: 0,
             only: 0,
@@ -220,6 +279,7 @@ impl<'w, W: Write> TextSink<'w, W> {
     /// value has begun.
     fn start(&mut self, label: Label<'_>) -> Result<bool, fmt::Error> {
         self.out.count = 0;
+        self.out.is_cut = false;
         self.out.space(self.depth.saturating_mul(2))?;
         self.label(label)?;
         let is_critical = matches!(
@@ -268,8 +328,18 @@ impl<'w, W: Write> TextSink<'w, W> {
             100000..=999999 => 6,
             _ => 7,
         };
-        self.out.pad(PLACES - width, 2)?;
+        let mut count = self.out.count;
+        if self.out.is_cut {
+            self.out.out.write_str("..")?;
+            count = count.saturating_add(2);
+        }
         // what a line ends with isn't counted
+        let gap = self
+            .places
+            .saturating_sub(width)
+            .saturating_sub(count)
+            .max(2);
+        self.out.out.write_str(SPACES.get(..gap).unwrap_or(SPACES))?;
         writeln!(self.out.out, "{start}..{end}")
     }
 
