@@ -6,7 +6,8 @@
 #        tools/dist.sh --sums           compares checksums alone, for which no toolchain is needed
 #        tools/dist.sh --after-ci SUMS  --check right after rt ci, which has built anew the programs in out/, and the
 #                                       libraries that aren't among SUMS (tools/plant.py --before-ci)
-#        tools/dist.sh --build NAME     proves and builds an artifact where that isn't done, and prints its path
+#        tools/dist.sh --build NAME     proves and builds an artifact, such as x86_64-linux/cimaroly, where that isn't done, and
+#                                       prints its path
 # SOURCES has the line of the toolchain that built it, and the checksum of each artifact's sources (tools/sources.sh). Where another
 # toolchain builds other bytes of the same sources, that is said, and is no fault. What is built has a record beside it,
 # FILE.sources: the checksum of its sources and its own. The last line of a comparison is 'N passed, M failed'.
@@ -21,18 +22,31 @@ sum() { sha256sum <"$1" | cut -d ' ' -f 1; }
 artifacts() { sed 's/#.*//; /^ *$/d; / - /!s/^\([^ ]*\) \([^ ]*\) /\1 \2 crates\/\2\//' tools/artifacts.txt; }
 
 # The record of a file that is built of the sources of a crate as they stand here.
-record() { printf '%s %s\n' "$(tools/sources.sh "$1")" "$(sum "$2")"; }
+record() { printf '%s %s\n' "$(tools/sources.sh "$1" "$2")" "$(sum "$2")"; }
 
 is_built() { [ -f "$2" ] && [ -f "$2.sources" ] && [ "$(cat "$2.sources")" = "$(record "$1" "$2")" ]; }
+
+# Links the shared object of an archive that stands beside it.
+link_shared() {
+    libc=
+    case $2 in
+    */aarch64/*)
+        libc=${2%/*}/libc.so.6
+        tools/aarch64/link.sh --libc "$libc" || return
+        ;;
+    esac
+    tools/shared_object.sh "$1" "$2" "$libc" >&2
+}
 
 # Proves and builds the file of a crate: a program by its stored run, a static library, or what is made of that.
 make_file() {
     case $2 in
-    *.a) python3 tools/build_library.py "$1" ${stood+--stood "$stood"} >&2 ;;
     *.so)
-        archive=crates/$1/out/lib$1.a
-        (build "$1" "$archive") && tools/shared_object.sh "$archive" "$2" >&2
+        archive=${2%/*}/lib$1.a
+        (build "$1" "$archive") && link_shared "$archive" "$2"
         ;;
+    */aarch64/*) python3 tools/build_aarch64.py ${stood+--stood "$stood"} "$1" "$2" >&2 ;;
+    *.a) python3 tools/build_library.py "$1" ${stood+--stood "$stood"} >&2 ;;
     *.wasm) python3 tools/build_wasm.py ${stood+--stood "$stood"} "$2" >&2 ;;
     *)
         # shellcheck disable=SC2046
@@ -48,12 +62,12 @@ build() {
         echo "the toolchain's command rt isn't on the PATH: README says what is needed" >&2
         return 1
     fi
-    before=$(tools/sources.sh "$1")
+    before=$(tools/sources.sh "$1" "$2")
     if ! make_file "$1" "$2"; then
         echo "$2 was not proved and built" >&2
         return 1
-    elif [ "$(tools/sources.sh "$1")" != "$before" ]; then
-        echo "a source of crates/$1 changed while it was built" >&2
+    elif [ "$(tools/sources.sh "$1" "$2")" != "$before" ]; then
+        echo "a source of $2 changed while it was built" >&2
         return 1
     fi
     record "$1" "$2" >"$2.sources"
@@ -61,12 +75,13 @@ build() {
 
 make_dist() {
     artifacts | while read -r _name crate file; do build "$crate" "$file" </dev/null; done
-    mkdir -p dist
-    rm -f dist/*
+    rm -rf dist
+    mkdir dist
     rt version >dist/SOURCES
     artifacts | while read -r name crate file; do
+        mkdir -p "$(dirname "dist/$name")"
         cp "$file" "dist/$name"
-        if [ "$crate" != - ]; then printf '%s  %s\n' "$(tools/sources.sh "$crate")" "$name" >>dist/SOURCES; fi
+        if [ "$crate" != - ]; then printf '%s  %s\n' "$(tools/sources.sh "$crate" "$file")" "$name" >>dist/SOURCES; fi
         (cd dist && sha256sum "$name") >>dist/SHA256SUMS
     done
 }
@@ -79,7 +94,7 @@ fault_of() {
         echo "dist/$1: its checksum isn't the one in dist/SHA256SUMS"
     elif [ "$2" = - ]; then
         cmp -s "dist/$1" "$3" || echo "dist/$1 has other bytes than $3"
-    elif ! grep -qxF "$(tools/sources.sh "$2")  $1" dist/SOURCES; then
+    elif ! grep -qxF "$(tools/sources.sh "$2" "$3")  $1" dist/SOURCES; then
         echo "dist/SOURCES: $1 was built of other sources than stand here"
     elif [ "$4" = --sums ]; then
         return
@@ -99,7 +114,7 @@ is_same_toolchain() { [ "$(rt version)" = "$(head -n 1 dist/SOURCES)" ]; }
 
 # What dist/ holds beside the artifacts, and a want of the toolchain.
 strays() {
-    for file in dist/*; do
+    find dist -type f | sort | while read -r file; do
         name=${file#dist/}
         case $name in
         SOURCES | SHA256SUMS) ;;
@@ -138,9 +153,9 @@ case ${1-} in
 --check | --sums) compare "$1" ;;
 --after-ci)
     stood=$2
-    # (all is built first, so that dist/ can be made of it where it differs)
+    # (all is built first, so that dist/ can be made of it where it differs; of these files rt ci has built the programs for x86-64)
     artifacts | while read -r _name crate file; do
-        if [ "$crate" != - ] && [ -f "$file" ]; then record "$crate" "$file" >"$file.sources"; fi
+        if [ "$file" = "crates/$crate/out/$crate" ] && [ -f "$file" ]; then record "$crate" "$file" >"$file.sources"; fi
         build "$crate" "$file" </dev/null || true
     done
     compare --check
@@ -154,7 +169,7 @@ case ${1-} in
     done
     ;;
 *)
-    sed -n '3,9s/^# //p' "$0" >&2
+    sed -n '3,10s/^# //p' "$0" >&2
     exit 2
     ;;
 esac

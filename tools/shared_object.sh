@@ -1,7 +1,8 @@
 #!/bin/sh
-# Links the C archive into a shared object, by the toolchain's own linker and C library, so that the same archive gives the same
-# bytes on each machine. Its SONAME has the major number of VERSION.
-# usage: tools/shared_object.sh ARCHIVE OUT
+# Links the C archive into a shared object, by the toolchain's own linker and C library, or for another processor by what stands
+# in for that (tools/aarch64/link.sh --libc), so that the same archive gives the same bytes on each machine. Its SONAME has the
+# major number of VERSION.
+# usage: tools/shared_object.sh ARCHIVE OUT [LIBC]
 set -eu
 export LC_ALL=C
 archive=$1 out=$2
@@ -20,4 +21,4 @@ trap 'rm -f "$exports"' EXIT
 echo '{ global: cimaroly_*; local: *; };' >"$exports"
 "$toolchain/bin/ld.lld" -shared -soname "libcimaroly.so.$major" --version-script "$exports" --gc-sections --strip-all \
     --build-id=none -z now -z relro -z noexecstack -o "$out" \
-    --whole-archive "$archive" --no-whole-archive --no-undefined "$toolchain/lib/libc.so.6"
+    --whole-archive "$archive" --no-whole-archive --no-undefined "${3:-$toolchain/lib/libc.so.6}"

@@ -1,8 +1,9 @@
 #!/bin/sh
 # Prints one checksum over all that the program or library of a crate is built from: the lines of crates.txt that name the
 # crate and those below it, and the names and contents of the files in their src/ and specs/. A change of a proof, or of a
-# crate of tests, changes no program.
-# usage: tools/sources.sh CRATE
+# crate of tests, changes no program. What is built for aarch64, as a FILE in a folder of that name, is also built from
+# tools/aarch64/.
+# usage: tools/sources.sh CRATE [FILE]
 set -eu
 export LC_ALL=C
 unset CDPATH
@@ -30,6 +31,9 @@ listed=$(lines "$1" | sort)
 [ -n "$listed" ]
 # (each crate has a src/, and most a specs/)
 folders=$(printf '%s\n' "$listed" | sed 's/[ :].*//; s/.*/crates\/&\/src crates\/&\/specs/')
+case ${2-} in
+*/aarch64/*) folders="$folders tools/aarch64" ;;
+esac
 # shellcheck disable=SC2086
 {
     printf '%s\n' "$listed"
