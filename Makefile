@@ -1,10 +1,10 @@
 # Installs Cimaroly, and makes packages of it. Nothing is built: programs and libraries are those of dist/.
 #
 #   make install     installs the programs, the C library and its header, manual pages and completions to PREFIX, with
-#                    DESTDIR in front
+#                    DESTDIR in front: those for this machine, or for MACHINE, x86_64-linux or aarch64-linux
 #   make uninstall   removes them
-#   make deb         makes a Debian package, in out/packages/
-#   make wheel       a wheel for Python
+#   make deb         makes Debian packages, one for each machine, in out/packages/
+#   make wheel       wheels for Python, one for each machine
 #   make crate       a crate for Rust
 #   make npm         a package for Node
 #   make packages    all four
@@ -18,6 +18,7 @@ PREFIX ?= /usr/local
 absolute = $(if $(filter-out /%,$(firstword $1)),$(CURDIR)/$1,$1)
 override PREFIX := $(call absolute,$(PREFIX))
 override DESTDIR := $(call absolute,$(DESTDIR))
+MACHINE ?= $(shell uname -m)-linux
 BINDIR ?= $(PREFIX)/bin
 DATADIR ?= $(PREFIX)/share
 ZSHDIR ?= $(DATADIR)/zsh/site-functions
@@ -38,14 +39,17 @@ DOCUMENTS = LICENSE-APACHE LICENSE-MIT NOTICE CHANGELOG.md docs/JSON.md
 help:
 	@sed -n '3,13s/^# *//p' $(ROOT)/Makefile
 
-install:
-	$(MAKE) -C $(ROOT)/bindings/c install PREFIX='$(PREFIX)' DESTDIR='$(DESTDIR)'
+install: $(ROOT)/dist/$(MACHINE)
+	$(MAKE) -C $(ROOT)/bindings/c install MACHINE='$(MACHINE)' PREFIX='$(PREFIX)' DESTDIR='$(DESTDIR)'
 	install -d '$(DESTDIR)$(BINDIR)' '$(DESTDIR)$(DOCDIR)' '$(DESTDIR)$(ZSHDIR)'
-	cd $(ROOT)/dist && install -m 755 $(PROGRAMS) '$(DESTDIR)$(BINDIR)'
+	cd $(ROOT)/dist/$(MACHINE) && install -m 755 $(PROGRAMS) '$(DESTDIR)$(BINDIR)'
 	cd $(ROOT) && install -m 644 $(DOCUMENTS) '$(DESTDIR)$(DOCDIR)'
 	cd $(ROOT)/$(SHARE) && for it in $(MANUAL) $(COMPLETIONS); do \
 	    install -D -m 644 $$it '$(DESTDIR)$(DATADIR)'/$$it || exit 1; done
 	cd $(ROOT)/$(SHARE)/zsh/site-functions && install -m 644 $(ZSH) '$(DESTDIR)$(ZSHDIR)'
+
+$(ROOT)/dist/%:
+	$(error there is no build for $*: there are builds for x86_64-linux and aarch64-linux, and the page in web/ runs anywhere)
 
 uninstall:
 	$(MAKE) -C $(ROOT)/bindings/c uninstall PREFIX='$(PREFIX)' DESTDIR='$(DESTDIR)'

@@ -4,7 +4,7 @@
 // or cimaroly32.wasm where there are no 64-bit memories, with the calls of bindings/c/cimaroly.h.
 
 import { DEVIATIONS, ERRORS } from "./names.mjs";
-import { KINDS, isSequence, kindOfLabel, pemBlocks } from "./pem.mjs";
+import { KINDS, isSequence, isUtf16, kindOfLabel, pemBlocks } from "./pem.mjs";
 
 export { DEVIATIONS, KINDS };
 
@@ -221,6 +221,7 @@ function derOf(data, kind) {
   numberOf(kind);
   if (typeof data === "string") return derOfText(data, kind);
   const bytes = bytesIn(data);
+  if (isUtf16(bytes)) throw new SyntaxError("UTF-16 text: decode it, and pass the string");
   const text = isSequence(bytes) ? "" : new TextDecoder().decode(bytes);
   return text.includes("-----BEGIN ") ? derOfText(text, kind) : bytes;
 }

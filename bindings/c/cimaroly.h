@@ -4,7 +4,7 @@
  *
  * Every call reads the whole of its input as one structure of a kind, and answers a status. What the calls promise is
  * proved; docs/PROVED.md says of each call what. Tested, not proved: that a call leaves memory->at and memory->size as
- * they were, and which text cimaroly_report writes.
+ * they were, and what the text of cimaroly_report says. Measured: what is said of sizes of memory and of the stack.
  *
  * Rules for every call:
  *
@@ -20,8 +20,8 @@
  *   buffer is written with CIMAROLY_OK alone; with every other status it is as it was.
  * - Places count bytes of the input from 0. A span covers the bytes start..end, without the one at end.
  *
- * Link with -lcimaroly. libcimaroly.a needs memcpy, memmove and memset, and nothing else. It is for x86-64 processors with
- * SSE4.2 (x86-64-v2).
+ * Link with -lcimaroly. libcimaroly.a needs memcpy, memmove and memset, and nothing else. It is built for x86-64 processors
+ * with SSE4.2 (x86-64-v2) and for aarch64.
  */
 #ifndef CIMAROLY_H
 #define CIMAROLY_H
@@ -31,11 +31,13 @@
 #include <stdint.h>
 #include <stdlib.h>
 
-/* The version of this header, by Semantic Versioning. */
+/* The version of this header, by Semantic Versioning; cimaroly_version() answers that of the library. */
 #define CIMAROLY_VERSION "0.1.0"
 #define CIMAROLY_VERSION_MAJOR 0
 #define CIMAROLY_VERSION_MINOR 1
 #define CIMAROLY_VERSION_PATCH 0
+#define CIMAROLY_VERSION_NUMBER                                                                                      \
+    (CIMAROLY_VERSION_MAJOR * 0x10000U + CIMAROLY_VERSION_MINOR * 0x100U + CIMAROLY_VERSION_PATCH)
 
 #ifdef __cplusplus
 extern "C" {
@@ -102,7 +104,7 @@ enum cimaroly_deviation {
 /*
  * Memory that a call works in. `at` is aligned to 16, as what malloc gives. Sizes are in bytes; what stands behind the
  * last multiple of 16 isn't used. The call writes both fields, and they are as they were when it returns. A certificate
- * needs some 15 times its size and a few thousand bytes, a list of many small items up to 70 times its size, and
+ * needs some 15 times its size and a few thousand bytes, a list of many small items up to 160 times its size, and
  * cimaroly_report up to three times as much.
  */
 struct cimaroly_memory {
@@ -119,7 +121,7 @@ struct cimaroly_span {
 /* What a check finds. */
 struct cimaroly_verdict {
     size_t counts[10]; /* how many deviations there are, that with number 1 first */
-    size_t headers;    /* how many headers of elements were decoded, also where the input is refused */
+    size_t headers;    /* how many headers of elements were decoded: at most half the input's size plus one */
     size_t error;      /* the cimaroly_error, or 0 */
     size_t at;         /* the byte that the error stands at */
 };
@@ -184,10 +186,16 @@ struct cimaroly_extension {
 };
 
 /*
+ * The version of the library that the program runs with, to compare with CIMAROLY_VERSION_NUMBER: 0x100 for 0.1.0.
+ */
+uint32_t cimaroly_version(void);
+
+/*
  * Whether the input encodes a value of the kind, and how it deviates from the value's DER encoding.
  *
  * CIMAROLY_OK: it does; it is the DER encoding exactly where all ten counts are 0.
- * CIMAROLY_REFUSED: it doesn't; `error` and `at` say why and where.
+ * CIMAROLY_REFUSED: it doesn't; `error` and `at` say why and where, `headers` how many were decoded until then, and the
+ * counts are 0.
  * CIMAROLY_UNKNOWN_KIND.
  */
 uint32_t cimaroly_check(struct cimaroly_memory *memory, uint32_t kind, const uint8_t *der, size_t der_size,

@@ -69,8 +69,8 @@ def reasons(rows):
     return {
         "": (2, 0, "none"),
         "300a06082a864886f70d02": (2, 0, "none"),
-        # the identifier of a hash function without its NULL, which is wanted here
-        "300b0609608648016503040201": (2, 13, "-"),
+        # the identifier of a hash function without its NULL, which is wanted here, and told at the identifier
+        "300b0609608648016503040201": (2, 2, "-"),
         "3100": (4, 0, "none"),
         "300000": (3, 2, "none"),
         # behind the value of an extension

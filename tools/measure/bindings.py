@@ -10,6 +10,7 @@ folder that CIMAROLY_LIB_DIR names.
 """
 
 import os
+import platform
 import subprocess
 import sys
 import tempfile
@@ -17,7 +18,7 @@ import time
 
 ROOT = os.path.dirname(os.path.dirname(os.path.dirname(os.path.abspath(__file__))))
 DATA = f"{ROOT}/tools/tests/data"
-LIBRARY = os.environ.get("CIMAROLY_LIB_DIR") or f"{ROOT}/dist"
+LIBRARY = os.environ.get("CIMAROLY_LIB_DIR") or f"{ROOT}/dist/{platform.machine()}-linux"
 CERTIFICATES = ("certificate_rsa", "certificate_ec", "certificate_ed25519")
 ROUNDS = 5
 

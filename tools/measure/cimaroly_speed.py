@@ -5,16 +5,17 @@ usage: tools/measure/cimaroly_speed.py [COUNT]
 
 The file has COUNT times the certificate of 1,560 bytes in tools/tests/data, 100,000 where none is given. For each program it prints
 seconds of the clock and of the processor, the least of three runs in turns, and the most memory; at last how many times as fast
-cimaroly is, by seconds of the processor. The program is $CIMAROLY, or dist/cimaroly.
+cimaroly is, by seconds of the processor. The program is $CIMAROLY, or that of dist/.
 """
 
 import os
+import platform
 import sys
 import tempfile
 import time
 
 ROOT = os.path.dirname(os.path.dirname(os.path.dirname(os.path.abspath(__file__))))
-PROGRAM = os.environ.get("CIMAROLY") or f"{ROOT}/dist/cimaroly"
+PROGRAM = os.environ.get("CIMAROLY") or f"{ROOT}/dist/{platform.machine()}-linux/cimaroly"
 CERTIFICATE = f"{ROOT}/tools/tests/data/certificate_rsa.pem"
 RUNS = 3
 

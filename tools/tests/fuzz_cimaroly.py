@@ -4,12 +4,13 @@ and never by a signal.
 
 usage: tools/tests/fuzz_cimaroly.py [SEED [COUNT]]
 
-The damage is the same for the same seed, which is 43 where none is given. The program is $CIMAROLY, or dist/cimaroly.
+The damage is the same for the same seed, which is 43 where none is given. The program is $CIMAROLY, or that of dist/.
 """
 
 import base64
 import json
 import os
+import platform
 import random
 import re
 import subprocess
@@ -18,7 +19,8 @@ import tempfile
 
 HERE = os.path.dirname(os.path.abspath(__file__))
 DATA = f"{HERE}/data"
-PROGRAM = os.environ.get("CIMAROLY") or f"{os.path.dirname(os.path.dirname(HERE))}/dist/cimaroly"
+ROOT = os.path.dirname(os.path.dirname(HERE))
+PROGRAM = os.environ.get("CIMAROLY") or f"{ROOT}/dist/{platform.machine()}-linux/cimaroly"
 COUNT = int(sys.argv[2]) if len(sys.argv) > 2 else 10000
 
 

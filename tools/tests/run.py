@@ -1,8 +1,9 @@
-"""Runs the tests of this folder, and says which weren't run and why. The last line is 'N passed, M failed'.
+"""Runs the tests of this folder, or those that are named, and says which weren't run and why. The last line is
+'N passed, M failed'.
 
 Standard error tells which test is running, and how many are left: on a terminal in one line, else in a line for each.
 
-usage: python3 tools/tests/run.py
+usage: python3 tools/tests/run.py [MODULE[.CLASS[.TEST]] ..]
 """
 
 import os
@@ -44,7 +45,8 @@ class Result(unittest.TextTestResult):
 
 
 def main():
-    tests = unittest.TestLoader().discover(HERE)
+    loader, names = unittest.TestLoader(), sys.argv[1:]
+    tests = loader.loadTestsFromNames(names) if names else loader.discover(HERE)
     Result.left = tests.countTestCases()
     result = unittest.TextTestRunner(stream=sys.stdout, verbosity=0, resultclass=Result).run(tests)
     for test, why in result.skipped:

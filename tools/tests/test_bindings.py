@@ -1,12 +1,13 @@
 """Tests what stands over the C library: the header in C and C++, the Python package and the Rust crate of bindings/.
 
-The library is that of dist/, or of the folder that the variable CIMAROLY_LIB_DIR names.
+The library is that of dist/ for this machine, or of the folder that the variable CIMAROLY_LIB_DIR names.
 """
 
 import base64
 import csv
 import importlib.util
 import os
+import platform
 import re
 import shutil
 import subprocess
@@ -17,7 +18,7 @@ import unittest
 ROOT = os.path.dirname(os.path.dirname(os.path.dirname(os.path.abspath(__file__))))
 BINDINGS = f"{ROOT}/bindings"
 DATA = f"{ROOT}/tools/tests/data"
-LIBRARY = os.path.abspath(os.environ.get("CIMAROLY_LIB_DIR") or f"{ROOT}/dist")
+LIBRARY = os.path.abspath(os.environ.get("CIMAROLY_LIB_DIR") or f"{ROOT}/dist/{platform.machine()}-linux")
 ARCHIVE, SHARED = f"{LIBRARY}/libcimaroly.a", f"{LIBRARY}/libcimaroly.so"
 SECONDS = 900
 
@@ -109,10 +110,8 @@ class C(BindingTest):
                     self.assertEqual(found, [row["error"].split("@")[1]])
 
     def test_the_shipped_header(self):
-        shipped = f"{LIBRARY}/cimaroly.h"
-        if os.path.isfile(shipped):
-            with open(shipped, "rb") as one, open(f"{BINDINGS}/c/cimaroly.h", "rb") as other:
-                self.assertEqual(one.read(), other.read())
+        with open(f"{ROOT}/dist/cimaroly.h", "rb") as one, open(f"{BINDINGS}/c/cimaroly.h", "rb") as other:
+            self.assertEqual(one.read(), other.read())
 
     def test_what_the_archive_needs(self):
         """It needs nothing but three functions that copy and fill memory."""

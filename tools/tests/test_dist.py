@@ -1,6 +1,7 @@
 """Tests what dist/ has, and the scripts that make, compare and run it: over a small repository, with a stand-in for the toolchain."""
 
 import os
+import platform
 import shutil
 import subprocess
 import sys
@@ -9,6 +10,10 @@ import unittest
 
 ROOT = os.path.dirname(os.path.dirname(os.path.dirname(os.path.abspath(__file__))))
 SCRIPTS = ("bin/x509_tool", "tools/launch.sh", "tools/dist.sh", "tools/sources.sh")
+# The folder of this machine, and the program that is shipped for it.
+MACHINE = f"{platform.machine()}-linux"
+PROGRAM = f"dist/{MACHINE}/x509_tool"
+ARTIFACTS = f"{MACHINE}/x509_tool x509_tool out/x509_tool\n"
 # What 'rt run' builds: a script that says what it was built of.
 RT = """#!/bin/sh
 case $1 in
@@ -22,6 +27,14 @@ text='#!/bin/sh\\n[ $# -gt 0 ] || { echo "usage: x509_tool TYPE" >&2; exit 2; }\
 printf "$text" "$(cat src/main.rt)" >out/x509_tool
 chmod +x out/x509_tool
 exit "${RT_STATUS:-0}"
+"""
+
+# What 'tools/build_aarch64.py' builds.
+BUILD_AARCH64 = """import os, sys
+os.makedirs(os.path.dirname(sys.argv[-1]), exist_ok=True)
+with open(sys.argv[-1], "w", encoding="utf-8") as it:
+    it.write('#!/bin/sh\\n[ $# -gt 0 ] || { echo "usage: x509_tool TYPE" >&2; exit 2; }\\necho aarch64 "$@"\\n')
+os.chmod(sys.argv[-1], 0o755)
 """
 
 
@@ -51,7 +64,7 @@ class Repository(unittest.TestCase):
         for it in SCRIPTS:
             os.makedirs(os.path.dirname(f"{self.root}/{it}"), exist_ok=True)
             shutil.copy(f"{ROOT}/{it}", f"{self.root}/{it}")
-        write(f"{self.root}/tools/artifacts.txt", "# what is shipped\nx509_tool x509_tool out/x509_tool\n")
+        write(f"{self.root}/tools/artifacts.txt", f"# what is shipped\n{ARTIFACTS}")
         write(f"{self.root}/crates.txt", "low: thiserror\nx509_tool: low # the program\nother: low\n")
         write(f"{self.root}/crates/low/src/lib.rt", "low")
         write(f"{self.root}/crates/low/specs/Lib.antt", "low")
@@ -79,7 +92,7 @@ class Repository(unittest.TestCase):
     def write_sums(self):
         """Writes the checksum of what stands in dist/, as one would who wants it to be believed."""
         how = {"cwd": f"{self.root}/dist", "stdout": subprocess.PIPE, "encoding": "utf-8", "check": True}
-        self.change("dist/SHA256SUMS", subprocess.run(["sha256sum", "x509_tool"], **how).stdout)
+        self.change("dist/SHA256SUMS", subprocess.run(["sha256sum", f"{MACHINE}/x509_tool"], **how).stdout)
 
     def is_built(self):
         return os.path.exists(self.log)
@@ -135,8 +148,8 @@ class DistTest(Repository):
 
     def test_a_changed_byte(self):
         """Of the shipped program, which is then not run, and of the one that was built."""
-        self.change("dist/x509_tool", "#!/bin/sh\necho wrong\n")
-        self.assertIn("dist/x509_tool: its checksum", self.ran(["tools/dist.sh", "--sums"], 1)[0])
+        self.change(PROGRAM, "#!/bin/sh\necho wrong\n")
+        self.assertIn(f"{PROGRAM}: its checksum", self.ran(["tools/dist.sh", "--sums"], 1)[0])
         self.assertIn("0 passed, 1 failed", self.ran(["tools/dist.sh", "--check"], 1)[0])
         self.assertEqual(self.ran(["bin/x509_tool", "a"], has_rt=False), ("first a\n", ""))
         self.change("crates/x509_tool/out/x509_tool", "#!/bin/sh\necho wrong\n")
@@ -147,7 +160,7 @@ class DistTest(Repository):
     def test_checksums_that_were_written_anew(self):
         """Where the shipped program and its checksum are another's, the comparison with what is built tells."""
         text = "#!/bin/sh\necho wrong\n"
-        self.change("dist/x509_tool", text)
+        self.change(PROGRAM, text)
         self.write_sums()
         self.assertEqual(self.ran(["tools/dist.sh", "--sums"])[0], "1 passed, 0 failed\n")
         self.assertIn("other bytes", self.ran(["tools/dist.sh", "--check"], 1)[0])
@@ -156,7 +169,7 @@ class DistTest(Repository):
         """It may build other bytes of the same sources, which is said; checksums and sources are compared all the same."""
         other = {"RT_VERSION": "another toolchain"}
         self.assertEqual(self.ran(["tools/dist.sh", "--check"], **other), ("1 passed, 0 failed\n", ""))
-        self.change("dist/x509_tool", "#!/bin/sh\necho built by a toolchain\n")
+        self.change(PROGRAM, "#!/bin/sh\necho built by a toolchain\n")
         self.write_sums()
         output, error = self.ran(["tools/dist.sh", "--check"], **other)
         self.assertEqual(output, "1 passed, 0 failed\n")
@@ -168,7 +181,7 @@ class DistTest(Repository):
         # (an executable with the number of another processor in its header)
         with open(sys.executable, "rb") as it:
             header = it.read(4096)
-        with open(f"{self.root}/dist/x509_tool", "wb") as it:
+        with open(f"{self.root}/{PROGRAM}", "wb") as it:
             it.write(header[:18] + b"\xf3\x00" + header[20:])
         self.write_sums()
         shutil.rmtree(f"{self.root}/crates/x509_tool/out")
@@ -186,7 +199,7 @@ class DistTest(Repository):
     def test_after_ci(self):
         """What rt ci has just built is taken for what it is."""
         shutil.rmtree(f"{self.root}/crates/x509_tool/out")
-        shutil.copytree(f"{self.root}/dist", f"{self.root}/crates/x509_tool/out")
+        shutil.copytree(f"{self.root}/dist/{MACHINE}", f"{self.root}/crates/x509_tool/out")
         self.assertEqual(self.ran(["tools/dist.sh", "--after-ci", ""])[0], "1 passed, 0 failed\n")
         self.change("crates/x509_tool/out/x509_tool", "other")
         self.assertIn("other bytes", self.ran(["tools/dist.sh", "--after-ci", ""], 1)[0])
@@ -195,11 +208,11 @@ class DistTest(Repository):
     def test_what_the_gate_sees(self):
         """A changed byte of what is shipped, and a source that was changed without making dist/ anew, end its comparison."""
         shutil.rmtree(f"{self.root}/crates/x509_tool/out")
-        shutil.copytree(f"{self.root}/dist", f"{self.root}/crates/x509_tool/out")
-        self.change("dist/x509_tool", "#!/bin/sh\necho wrong\n")
-        self.assertIn("dist/x509_tool: its checksum", self.ran(["tools/dist.sh", "--after-ci", ""], 1)[0])
+        shutil.copytree(f"{self.root}/dist/{MACHINE}", f"{self.root}/crates/x509_tool/out")
+        self.change(PROGRAM, "#!/bin/sh\necho wrong\n")
+        self.assertIn(f"{PROGRAM}: its checksum", self.ran(["tools/dist.sh", "--after-ci", ""], 1)[0])
         self.write_sums()
-        self.assertIn("dist/x509_tool has other bytes", self.ran(["tools/dist.sh", "--after-ci", ""], 1)[0])
+        self.assertIn(f"{PROGRAM} has other bytes", self.ran(["tools/dist.sh", "--after-ci", ""], 1)[0])
         self.ran(["tools/dist.sh"])
         self.change("crates/low/src/lib.rt", "changed")
         self.assertIn("built of other sources", self.ran(["tools/dist.sh", "--after-ci", ""], 1)[0])
@@ -207,7 +220,7 @@ class DistTest(Repository):
     def test_a_copied_file(self):
         """It is of no crate, and compared with what it is a copy of."""
         self.change("header.h", "a header\n")
-        self.change("tools/artifacts.txt", "x509_tool x509_tool out/x509_tool\nheader.h - header.h\n")
+        self.change("tools/artifacts.txt", f"{ARTIFACTS}header.h - header.h\n")
         self.ran(["tools/dist.sh"])
         self.assertEqual(self.ran(["tools/dist.sh", "--check"])[0], "2 passed, 0 failed\n")
         self.change("header.h", "another header\n")
@@ -219,8 +232,43 @@ class DistTest(Repository):
         os.remove(f"{self.root}/dist/SOURCES")
         self.assertIn("missing", self.ran(["tools/dist.sh", "--sums"], 1)[0])
         self.ran(["tools/dist.sh"])
-        self.assertEqual(sorted(os.listdir(f"{self.root}/dist")), ["SHA256SUMS", "SOURCES", "x509_tool"])
+        self.assertEqual(sorted(os.listdir(f"{self.root}/dist")), ["SHA256SUMS", "SOURCES", MACHINE])
         self.assertEqual(self.ran(["tools/dist.sh", "--check"])[0], "1 passed, 0 failed\n")
+
+    def on(self, system):
+        """The variables with which `uname -sm` prints this."""
+        write(f"{self.root}/../system/uname", f"#!/bin/sh\necho {system}\n")
+        os.chmod(f"{self.root}/../system/uname", 0o755)
+        return {"PATH": f"{self.root}/../system:{self.bin}:/usr/bin:/bin"}
+
+    def test_another_processor(self):
+        for system in ("Linux riscv64", "Darwin arm64"):
+            with self.subTest(system):
+                output, error = self.ran(["bin/x509_tool", "a"], 126, **self.on(system))
+                self.assertEqual(output, "")
+                self.assertIn(f"for Linux on x86-64 and on aarch64, and this is {system}", error)
+                self.assertIn("http.server -d web", error)
+                self.assertFalse(self.is_built())
+
+    def test_aarch64(self):
+        """It has a program of its own, which is also built of the files in tools/aarch64/."""
+        write(f"{self.root}/tools/aarch64/support.c", "first")
+        write(f"{self.root}/tools/build_aarch64.py", BUILD_AARCH64)
+        self.change(
+            "tools/artifacts.txt",
+            "x86_64-linux/x509_tool x509_tool out/x509_tool\naarch64-linux/x509_tool x509_tool out/aarch64/x509_tool\n",
+        )
+        self.ran(["tools/dist.sh"])
+        self.assertEqual(self.ran(["tools/dist.sh", "--check"])[0], "2 passed, 0 failed\n")
+        self.assertEqual(self.ran(["bin/x509_tool", "a"], **self.on("Linux x86_64")), ("first a\n", ""))
+        self.assertEqual(self.ran(["bin/x509_tool", "a"], **self.on("Linux aarch64")), ("aarch64 a\n", ""))
+        self.change("tools/aarch64/support.c", "second")
+        printed = self.ran(["tools/dist.sh", "--sums"], 1)[0]
+        self.assertIn("SOURCES: aarch64-linux/x509_tool was built of other", printed)
+        self.assertEqual(self.ran(["bin/x509_tool", "a"], **self.on("Linux x86_64")), ("first a\n", ""))
+        output, error = self.ran(["bin/x509_tool", "a"], **self.on("Linux aarch64"))
+        self.assertEqual(output, "aarch64 a\n")
+        self.assertIn("dist/ has none of the sources that stand here", error)
 
 
 if __name__ == "__main__":

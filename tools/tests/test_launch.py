@@ -8,7 +8,7 @@ import unittest
 
 import test_dist
 
-PROGRAM, SOURCE = "dist/x509_tool", "crates/low/src/lib.rt"
+PROGRAM, SOURCE = test_dist.PROGRAM, "crates/low/src/lib.rt"
 
 
 def change_unseen(path, content=None):

@@ -1,6 +1,7 @@
 """Tests what the Makefile installs and packs: each is made, installed and used in a fresh folder, without a network."""
 
 import os
+import platform
 import re
 import shutil
 import subprocess
@@ -13,6 +14,9 @@ from test_bindings import ARCHIVE, DATA, ROOT, BindingTest
 
 PACKAGING = f"{ROOT}/packaging"
 CERTIFICATE = f"{DATA}/deviation_1_rsa_parameters.pem"
+# The processors that packages are made for, as dist/ calls them and as Debian does.
+PROCESSORS = {"x86_64": "amd64", "aarch64": "arm64"}
+HERE = platform.machine()
 with open(f"{ROOT}/VERSION", encoding="utf-8") as it:
     VERSION = it.read().strip()
 
@@ -101,31 +105,41 @@ class Install(PackageTest):
 
 
 class Debian(PackageTest):
-    def test_package(self):
+    def setUp(self):
+        super().setUp()
         self.needs("make", "readelf", "dpkg-deb")
         self.make("deb", f"OUT={self.place}", DEBFULLNAME="Tester", DEBEMAIL="tester@example.org")
-        (name,) = os.listdir(self.place)
-        self.assertEqual(name, f"cimaroly_{VERSION}-1_amd64.deb")
+        self.packages = {it: f"cimaroly_{VERSION}-1_{name}.deb" for it, name in PROCESSORS.items()}
+        self.assertEqual(sorted(os.listdir(self.place)), sorted(self.packages.values()))
+
+    def test_package(self):
         root = f"{self.place}/root"
         if os.geteuid() == 0 and shutil.which("dpkg"):
             for it in ("info", "updates"):
                 os.makedirs(f"{root}/var/lib/dpkg/{it}")
             open(f"{root}/var/lib/dpkg/status", "w", encoding="utf-8").close()
             forced = ("--force-depends", "--force-script-chrootless", "--force-architecture")
-            self.ran("dpkg", f"--root={root}", *forced, "--log=/dev/null", "-i", f"{self.place}/{name}")
+            self.ran("dpkg", f"--root={root}", *forced, "--log=/dev/null", "-i", f"{self.place}/{self.packages[HERE]}")
             self.assertIn("ok installed", content(f"{root}/var/lib/dpkg/status").decode())
         else:
-            self.ran("dpkg-deb", "-x", f"{self.place}/{name}", root)
+            self.ran("dpkg-deb", "-x", f"{self.place}/{self.packages[HERE]}", root)
         self.use(f"{root}/usr")
         self.assertTrue(os.path.isfile(f"{root}/usr/share/man/man1/cimaroly.1.gz"))
-        for it in ("cimaroly", "x509_tool"):
-            self.assertEqual(content(f"{root}/usr/bin/{it}"), content(f"{ROOT}/dist/{it}"))
+
+    def test_what_they_have(self):
+        for processor, package in self.packages.items():
+            root = f"{self.place}/{processor}"
+            self.ran("dpkg-deb", "-x", f"{self.place}/{package}", root)
+            shipped = f"{ROOT}/dist/{processor}-linux"
+            for it in ("cimaroly", "x509_tool"):
+                self.assertEqual(content(f"{root}/usr/bin/{it}"), content(f"{shipped}/{it}"))
+            for it in ("libcimaroly.a", "libcimaroly.so"):
+                self.assertEqual(content(f"{root}/usr/lib/{processor}-linux-gnu/{it}"), content(f"{shipped}/{it}"))
 
     def test_lintian(self):
-        self.needs("make", "readelf", "dpkg-deb", "lintian")
-        self.make("deb", f"OUT={self.place}", DEBFULLNAME="Tester", DEBEMAIL="tester@example.org")
-        (name,) = os.listdir(self.place)
-        told = self.ran("lintian", "--allow-root", "--fail-on=error", f"{self.place}/{name}")
+        self.needs("lintian")
+        files = (f"{self.place}/{it}" for it in self.packages.values())
+        told = self.ran("lintian", "--allow-root", "--fail-on=error", *files)
         self.assertNotIn("E: ", told)
 
 
@@ -133,25 +147,47 @@ class Wheel(PackageTest):
     def test_wheel(self):
         self.needs("make")
         self.make("wheel", f"OUT={self.place}")
-        (name,) = os.listdir(self.place)
-        self.assertEqual(name, f"cimaroly-{VERSION}-py3-none-manylinux_2_34_x86_64.whl")
-        with zipfile.ZipFile(f"{self.place}/{name}") as wheel:
-            self.assertEqual(wheel.read("cimaroly/libcimaroly.so"), content(f"{ROOT}/dist/libcimaroly.so"))
-            about = f"cimaroly-{VERSION}.dist-info"
-            self.assertEqual(wheel.read(f"{about}/licenses/LICENSE-MIT"), content(f"{ROOT}/LICENSE-MIT"))
-            self.assertIn(b"\nLicense-Expression: MIT OR Apache-2.0\n", wheel.read(f"{about}/METADATA"))
+        names = {it: f"cimaroly-{VERSION}-py3-none-manylinux_2_34_{it}.whl" for it in PROCESSORS}
+        self.assertEqual(sorted(os.listdir(self.place)), sorted(names.values()))
+        for processor, name in names.items():
+            with zipfile.ZipFile(f"{self.place}/{name}") as wheel:
+                shared = content(f"{ROOT}/dist/{processor}-linux/libcimaroly.so")
+                self.assertEqual(wheel.read("cimaroly/libcimaroly.so"), shared)
+                about = f"cimaroly-{VERSION}.dist-info"
+                self.assertEqual(wheel.read(f"{about}/licenses/LICENSE-MIT"), content(f"{ROOT}/LICENSE-MIT"))
+                self.assertIn(b"\nLicense-Expression: MIT OR Apache-2.0\n", wheel.read(f"{about}/METADATA"))
+                self.assertIn(f"\nTag: py3-none-manylinux_2_34_{processor}\n".encode(), wheel.read(f"{about}/WHEEL"))
         made = subprocess.run([sys.executable, "-m", "venv", f"{self.place}/venv"], capture_output=True, check=False)
         if made.returncode:
             self.skipTest("python3 makes no virtual environment: it is in Debian's package python3-venv")
         python = f"{self.place}/venv/bin/python"
-        words = ("-m", "pip", "--disable-pip-version-check", "install", "--quiet", "--no-index", f"{self.place}/{name}")
-        self.ran(python, *words, folder=self.place)
+        words = ("-m", "pip", "--disable-pip-version-check", "install", "--quiet", "--no-index")
+        self.ran(python, *words, f"{self.place}/{names[HERE]}", folder=self.place)
         program = "import cimaroly, sys; print(cimaroly.__file__, cimaroly.read(open(sys.argv[1], 'rb').read()))"
         printed = self.ran(python, "-c", program, CERTIFICATE, folder=self.place)
         self.assertRegex(printed, rf"^{re.escape(self.place)}/venv/lib/.*/cimaroly/__init__.py <certificate, .* bytes, 2 dev")
 
+    def test_another_processor(self):
+        """The message names those that there are builds for, and the module that runs anywhere."""
+        program = "import platform; platform.machine = lambda: 'riscv64'; import cimaroly"
+        how = {"env": {"PYTHONPATH": f"{ROOT}/bindings/python"}, "capture_output": True, "encoding": "utf-8"}
+        ended = subprocess.run([sys.executable, "-c", program], check=False, **how)
+        self.assertIn("Linux on x86-64 and aarch64, and the WebAssembly module in web/ runs anywhere", ended.stderr)
+        self.assertIn("dist/riscv64-linux/libcimaroly.so", ended.stderr)
+
 
 class Crate(PackageTest):
+    def test_archives(self):
+        """The build script takes that of the target's processor, or says where there are others."""
+        self.needs("rustc", "cc")
+        self.ran("rustc", "--edition", "2021", f"{ROOT}/bindings/rust/build.rs", "-o", f"{self.place}/build")
+        for processor in (*PROCESSORS, "riscv64"):
+            variables = {"CARGO_MANIFEST_DIR": f"{ROOT}/bindings/rust", "CARGO_CFG_TARGET_ARCH": processor}
+            printed = self.ran(f"{self.place}/build", **variables)
+            self.assertRegex(printed, rf"(?m)^cargo:rustc-link-search=native=.*/dist/{processor}-linux$")
+            is_told = "builds for x86-64 and aarch64, and the WebAssembly module in web/ runs anywhere" in printed
+            self.assertEqual(is_told, processor not in PROCESSORS)
+
     def test_crate(self):
         """It is built where there is neither this repository nor a variable that names its archive."""
         self.needs("make", "cargo", "cc")
@@ -162,7 +198,9 @@ class Crate(PackageTest):
             self.assertTrue(all(it.isfile() for it in archive))
             archive.extractall(self.place)
         crate = f"{self.place}/cimaroly-{VERSION}"
-        self.assertEqual(content(f"{crate}/lib/libcimaroly.a"), content(f"{ROOT}/dist/libcimaroly.a"))
+        for it in PROCESSORS:
+            archive = f"{it}-linux/libcimaroly.a"
+            self.assertEqual(content(f"{crate}/lib/{archive}"), content(f"{ROOT}/dist/{archive}"))
         self.assertEqual(content(f"{crate}/LICENSE-APACHE"), content(f"{ROOT}/LICENSE-APACHE"))
         user = f"{self.place}/user"
         self.ran("cargo", "new", "--quiet", "--vcs", "none", user)

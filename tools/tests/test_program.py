@@ -5,9 +5,9 @@ The program is that of dist/, or the one that the variable X509_TOOL names.
 
 import contextlib
 import os
+import platform
 import pty
 import resource
-import shutil
 import subprocess
 import tempfile
 import termios
@@ -16,10 +16,11 @@ import time
 import unittest
 
 import program_rows as rows
+from cimaroly_program import IS_EMULATED, NEEDS_CC, with_shim
 
 HERE = os.path.dirname(os.path.abspath(__file__))
 ROOT = os.path.dirname(os.path.dirname(HERE))
-SHIPPED = f"{ROOT}/dist/x509_tool"
+SHIPPED = f"{ROOT}/dist/{platform.machine()}-linux/x509_tool"
 PROGRAM = os.path.abspath(os.environ.get("X509_TOOL") or SHIPPED)
 LINES = {1: "refused", 2: "usage: x509_tool TYPE", 3: "out of memory", 5: "input or output failed"}
 SECONDS = 20
@@ -31,7 +32,7 @@ class ProgramTest(unittest.TestCase):
     # The words that run it.
     program = (PROGRAM,)
     # Whether it is a script, which needs more memory to start and can't start over a folder.
-    is_script = False
+    is_script = IS_EMULATED
 
     @classmethod
     def setUpClass(cls):
@@ -40,7 +41,7 @@ class ProgramTest(unittest.TestCase):
         # (what is of other sources, or was changed, isn't run)
         words = [f"{ROOT}/tools/dist.sh", "--sums"]
         if cls.program[0] == SHIPPED and subprocess.run(words, stdout=subprocess.DEVNULL, check=False).returncode:
-            raise unittest.SkipTest("dist/x509_tool isn't of the sources that stand here: tools/dist.sh --sums says why")
+            raise unittest.SkipTest("dist/ isn't of the sources that stand here: tools/dist.sh --sums says why")
 
     def run_on(self, arguments, given=b"", **how):
         """What a run with these arguments and this standard input gives."""
@@ -191,7 +192,7 @@ class ProgramTest(unittest.TestCase):
         self.stops(self.run_on(["extensions"], text.encode(), preexec_fn=limit_memory), 3)
 
 
-@unittest.skipUnless(shutil.which("cc"), "there is no C compiler")
+@NEEDS_CC
 class RefusedMemoryTest(unittest.TestCase):
     """Each request for memory refused in turn."""
 
@@ -199,11 +200,10 @@ class RefusedMemoryTest(unittest.TestCase):
         if not os.access(PROGRAM, os.X_OK):
             self.skipTest(f"there is no program {PROGRAM}")
         with tempfile.TemporaryDirectory() as room:
-            shim = f"{room}/refuse_memory.so"
-            subprocess.run(["cc", "-shared", "-fPIC", "-o", shim, f"{HERE}/refuse_memory.c"], check=True)
+            environment = with_shim(room)
             for name, text, encoding, counts in (rows.ACCEPTED[0], rows.ACCEPTED[-1]):
                 whole = (0, f"{encoding}\n{counts}\n".encode(), b"")
-                found = [ended_without(shim, number, name, text.encode()) for number in range(1, 40)]
+                found = [ended_without(environment, number, name, text.encode()) for number in range(1, 40)]
                 count = found.index(whole)
                 with self.subTest(name):
                     self.assertGreater(count, 8)
@@ -211,9 +211,9 @@ class RefusedMemoryTest(unittest.TestCase):
                     self.assertEqual(found[count:], (39 - count) * [whole])
 
 
-def ended_without(shim, number, name, given):
+def ended_without(environment, number, name, given):
     """What a run gives to which one request for memory is refused."""
-    environment = {**os.environ, "LD_PRELOAD": shim, "REFUSED_REQUEST": str(number)}
+    environment = {**environment, "REFUSED_REQUEST": str(number)}
     ran = subprocess.run([PROGRAM, name], input=given, env=environment, capture_output=True, check=False)
     return ran.returncode, ran.stdout, ran.stderr
 

@@ -1,6 +1,8 @@
 """Tests what cimaroly reports of the files in data/ and of the certificates of this machine, against what OpenSSL tells of them."""
 
+import base64
 import ipaddress
+import json
 import os
 import re
 import subprocess
@@ -151,8 +153,24 @@ class AgainstOpenSsl(unittest.TestCase):
     def same_tree(self, path):
         out, _, status = run("tree", path)
         self.assertEqual(status, 0)
-        mine = [tuple(map(int, re.match(r" *(\d+)\.\.(\d+) ", line).groups())) for line in out.decode().splitlines()]
-        self.assertEqual(mine, [(start, end) for start, end, _, _ in elements(path)])
+        form = re.compile(r" *(\d+)\.\.(\d+) .*?(, which holds)?")
+        lines = [form.fullmatch(line).groups() for line in out.decode().splitlines()]
+        with open(path, "rb") as file:
+            der = base64.b64decode(b"".join(it for it in file.read().splitlines() if b"-" not in it))
+        self.same_lines([(int(start), int(end), bool(holds)) for start, end, holds in lines], der, 0)
+
+    def same_lines(self, lines, der, at):
+        """The elements of bytes are those that OpenSSL tells, and so are those in their strings."""
+        rest, found = list(lines), []
+        while rest:
+            start, end, holds = rest.pop(0)
+            found.append((start - at, end - at))
+            if holds:
+                inside = [it for it in rest if it[1] <= end]
+                rest = rest[len(inside) :]
+                first = inside[0][0]
+                self.same_lines(inside, der[first - at : end - at], first)
+        self.assertEqual(found, [(start, end) for start, end, _, _ in elements("-inform", "DER", data=der)])
 
 
 def names_of_text(text):
@@ -220,10 +238,92 @@ class Texts(unittest.TestCase):
                     self.assertTrue(any(a <= start and end <= b for _, (a, b) in found))
 
 
-def elements(path):
-    """Start, end, depth and tag of each element, as `openssl asn1parse` tells them."""
+def element(tag, content):
+    """An element in DER of fewer than 65,536 bytes."""
+    size = len(content)
+    length = [size] if size < 128 else [0x81, size] if size < 256 else [0x82, size >> 8, size & 255]
+    return bytes([tag, *length]) + content
+
+
+def integer(number):
+    """A number in DER (X.690, 8.3)."""
+    bits = (number if number >= 0 else ~number).bit_length()
+    return element(2, number.to_bytes(bits // 8 + 1, "big", signed=True))
+
+
+@NEEDS_PROGRAM
+class Keys(unittest.TestCase):
+    """Numbers and sizes of keys that aren't as they should be."""
+
+    def key(self, kind, der):
+        """What the summary says of a key, and the whole report."""
+        out, _, status = run("show", "--type", kind, "-", data=der)
+        self.assertEqual(status, 0)
+        return re.search(r"^  key +(.*)$", out.decode(), re.MULTILINE)[1], out.decode()
+
+    def test_numbers(self):
+        """Numbers of any sign and size are shown as what they are: up to 64 bits in decimal."""
+        few = [*range(-260, -250), *range(-130, -125), *range(-4, 3), 127, 128, 255, 256]
+        for number in (*few, 2**64 - 1, 2**64, -(2**63), -(2**63) - 1, -(2**64), 5 - 2**512):
+            with self.subTest(number):
+                der = element(0x30, integer(number) + integer(3))
+                said, text = self.key("rsa-public-key", der)
+                size = number.bit_length()
+                self.assertEqual(said, f"RSA, {size} bits" if number > 0 else "RSA, with a modulus that isn't positive")
+                shown_as = re.search(r"^  modulus +(.*?)  ", text, re.MULTILINE)[1]
+                if -(2**63) <= number < 2**64:
+                    self.assertEqual(shown_as, str(number))
+                else:
+                    self.assertTrue(shown_as.startswith(f"{'negative, ' * (number < 0)}{size} bits, "), shown_as)
+                out, _, _ = run("show", "--json", "--type", "rsa-public-key", "-", data=der)
+                told = json.loads(out)["RSAPublicKey"]["modulus"]
+                content = bytes.fromhex(told["value"].replace(":", ""))
+                self.assertEqual((int.from_bytes(content, "big", signed=True), told["bits"]), (number, size))
+
+    def public(self, algorithm, bits, unused=0):
+        return element(0x30, element(0x30, bytes.fromhex(algorithm)) + element(3, bytes([unused]) + bits))
+
+    def test_sizes_of_public_keys(self):
+        """The size is the key's own, and where the algorithm's is another, both are said."""
+        curve = "06072a8648ce3d020106082a8648ce3d030107"
+        for said, der in (
+            ("Ed25519, 256 bits", self.public("06032b6570", bytes(32))),
+            ("Ed25519, 0 bits instead of 256", self.public("06032b6570", b"")),
+            ("Ed448, 3 bits instead of 456", self.public("06032b6571", b"\x80", 5)),
+            ("X25519, 264 bits instead of 256", self.public("06032b656e", bytes(33))),
+            ("EC, secp256r1, 256 bits", self.public(curve, b"\4" + bytes(64))),
+            ("EC, secp256r1, 256 bits", self.public(curve, b"\2" + bytes(32))),
+            ("EC, secp256r1, 256 bits, with a point of 264 bits", self.public(curve, b"\4" + bytes(32))),
+            ("EC, secp256r1, 256 bits, with a point of 0 bits", self.public(curve, b"")),
+        ):
+            with self.subTest(said):
+                self.assertEqual(self.key("public-key", der)[0], said)
+
+    def test_sizes_of_private_keys(self):
+        curve = element(0xA0, bytes.fromhex("06082a8648ce3d030107"))
+        for said, kind, der in (
+            ("Ed25519, 256 bits", "private-key", edwards_key(bytes(32))),
+            ("Ed25519, 8 bits instead of 256", "private-key", edwards_key(b"\1")),
+            ("EC, secp256r1, 256 bits", "ec-private-key", element(0x30, integer(1) + element(4, bytes(32)) + curve)),
+            (
+                "EC, secp256r1, 256 bits, with a private key of 24 bits",
+                "ec-private-key",
+                element(0x30, integer(1) + element(4, bytes(3)) + curve),
+            ),
+        ):
+            with self.subTest(said):
+                self.assertEqual(self.key(kind, der)[0], said)
+
+
+def edwards_key(secret):
+    """A private key of Ed25519 (RFC 8410, 7)."""
+    return element(0x30, integer(0) + element(0x30, bytes.fromhex("06032b6570")) + element(4, element(4, secret)))
+
+
+def elements(*words, data=None):
+    """Start, end, depth and tag of each element of a file or of bytes, as `openssl asn1parse` tells them."""
     found = []
-    for line in openssl("asn1parse", "-in", path).splitlines():
+    for line in openssl("asn1parse", *words, data=data).splitlines():
         told = re.match(r" *(\d+):d=(\d+) +hl=(\d+) +l= *(\d+) +(?:cons|prim): +(.*)", line)
         # (a line feed in a text begins a line that tells of none)
         if told:
@@ -250,7 +350,7 @@ class Places(unittest.TestCase):
         for it in CERTIFICATES:
             with self.subTest(it):
                 (told,) = shown(f"{DATA}/{it}.pem")
-                found = elements(f"{DATA}/{it}.pem")
+                found = elements("-in", f"{DATA}/{it}.pem")
                 self.certificate(told, found)
 
     @unittest.skipUnless(os.path.isdir(STORE), f"there is no {STORE}")
@@ -260,7 +360,7 @@ class Places(unittest.TestCase):
                 (told,) = shown(f"{STORE}/{it}")
                 if told["result"] != "refused":
                     with self.subTest(it):
-                        self.certificate(told, elements(f"{STORE}/{it}"))
+                        self.certificate(told, elements("-in", f"{STORE}/{it}"))
 
     def certificate(self, told, found):
         node = told["Certificate"]
@@ -300,7 +400,7 @@ class Places(unittest.TestCase):
         for it in ("request_rsa", "request_ec"):
             with self.subTest(it):
                 (told,) = shown(f"{DATA}/{it}.pem")
-                found = elements(f"{DATA}/{it}.pem")
+                found = elements("-in", f"{DATA}/{it}.pem")
                 node = told["CertificationRequest"]
                 info, algorithm, signature = inner(found, found[0])
                 self.same(node["certificationRequestInfo"], info)
@@ -334,7 +434,7 @@ class Places(unittest.TestCase):
         ):
             with self.subTest(it):
                 (told,) = shown(f"{DATA}/{it}.pem")
-                found = elements(f"{DATA}/{it}.pem")
+                found = elements("-in", f"{DATA}/{it}.pem")
                 self.same(told[name], found[0])
                 for field, element in zip(fields, inner(found, found[0]), strict=True):
                     self.same(told[name][field], element)
@@ -342,7 +442,7 @@ class Places(unittest.TestCase):
     def test_what_an_unknown_extension_holds(self):
         """It is kept as octets, with their number."""
         (told,) = shown(f"{DATA}/certificate_rsa.pem")
-        found = elements(f"{DATA}/certificate_rsa.pem")
+        found = elements("-in", f"{DATA}/certificate_rsa.pem")
         node = extensions_of(told)["2.5.29.32"]
         (outer,) = [it for it in found if it[:2] == tuple(node["at"])]
         start, end, _, tag = inner(found, outer)[-1]

@@ -17,6 +17,7 @@ class Some(unittest.TestCase):
 """
 # What needs one of these programs.
 NEEDY = (
+    "test_aarch64",
     "test_bindings.C",
     "test_bindings.Rust",
     "test_bindings.Snippets.test_c",

@@ -21,6 +21,11 @@ VERSIONS = {
     "packaging/share/man/man1/x509_tool.1": r'^\.TH .* "Cimaroly (.*)" ',
     "packaging/share/man/man3/cimaroly.3": r'^\.TH .* "Cimaroly (.*)" ',
 }
+# Where its three numbers stand one behind another, as the one group of a pattern.
+PARTS = {
+    "bindings/c/cimaroly.h": r"^#define CIMAROLY_VERSION_(?:MAJOR|MINOR|PATCH) (\d+)$",
+    "crates/cimaroly_c/src/version.rt": r"^const (?:MAJOR|MINOR|PATCH): u32 = (\d+);$",
+}
 # Where the licence stands.
 LICENCES = {
     "bindings/c/cimaroly.h": f"/* SPDX-License-Identifier: {LICENCE} */\n",
@@ -53,9 +58,10 @@ class VersionTest(unittest.TestCase):
             with self.subTest(path):
                 self.assertEqual(re.findall(pattern, text_of(path), re.MULTILINE), [self.version])
 
-    def test_parts_of_the_header(self):
-        parts = re.findall(r"^#define CIMAROLY_VERSION_(?:MAJOR|MINOR|PATCH) (\d+)$", text_of("bindings/c/cimaroly.h"), re.MULTILINE)
-        self.assertEqual(".".join(parts), self.version)
+    def test_three_numbers(self):
+        for path, pattern in PARTS.items():
+            with self.subTest(path):
+                self.assertEqual(".".join(re.findall(pattern, text_of(path), re.MULTILINE)), self.version)
 
     @NEEDS_PROGRAM
     def test_the_program(self):

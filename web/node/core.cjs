@@ -7,7 +7,7 @@
 // or cimaroly32.wasm where there are no 64-bit memories, with the calls of bindings/c/cimaroly.h.
 
 const { DEVIATIONS, ERRORS } = require("./names.cjs");
-const { KINDS, isSequence, kindOfLabel, pemBlocks } = require("./pem.cjs");
+const { KINDS, isSequence, isUtf16, kindOfLabel, pemBlocks } = require("./pem.cjs");
 
 const STATUS = { ok: 0, refused: 1, outOfMemory: 2, bufferTooShort: 3, unknownKind: 4, tooLong: 5 };
 
@@ -222,6 +222,7 @@ function derOf(data, kind) {
   numberOf(kind);
   if (typeof data === "string") return derOfText(data, kind);
   const bytes = bytesIn(data);
+  if (isUtf16(bytes)) throw new SyntaxError("UTF-16 text: decode it, and pass the string");
   const text = isSequence(bytes) ? "" : new TextDecoder().decode(bytes);
   return text.includes("-----BEGIN ") ? derOfText(text, kind) : bytes;
 }

@@ -37,6 +37,11 @@ function kindOfLabel(label) {
   return LABELS.get(label);
 }
 
+/** Whether bytes begin as text in UTF-16 does that has a byte order mark. */
+function isUtf16(bytes) {
+  return (bytes[0] === 0xff && bytes[1] === 0xfe) || (bytes[0] === 0xfe && bytes[1] === 0xff);
+}
+
 /** Whether bytes begin as a SEQUENCE whose length takes several bytes, as no text does, or is that of the whole. */
 function isSequence(bytes) {
   const length = bytes[1];
@@ -60,18 +65,43 @@ function toBase64(bytes) {
   return btoa(characters);
 }
 
+// The white space of RFC 7468, 3, in a line: space, tab, vertical tab, form feed.
+const BLANK = /[ \t\v\f]+/g;
+const MARK = "\uFEFF";
+
+// What stands in a line between white space, and behind a byte order mark, since files are put one behind the other.
+// (by places: an expression for the white space at an end takes long where there is much)
+function alone(line) {
+  const isBlank = (at) => " \t\v\f".includes(line[at]);
+  let [start, end] = [0, line.length];
+  while (end > 0 && isBlank(end - 1)) end -= 1;
+  while (start < end && isBlank(start)) start += 1;
+  if (line[start] === MARK) start += 1;
+  while (start < end && isBlank(start)) start += 1;
+  return line.slice(start, end);
+}
+
 function boundary(line, word) {
   const front = `-----${word} `;
-  if (!line.startsWith(front) || !line.endsWith("-----") || line.length < front.length + 5) return null;
-  return line.slice(front.length, -5);
+  if (!line.includes(front)) return null;
+  const words = alone(line);
+  if (!words.startsWith(front) || !words.endsWith("-----") || words.length < front.length + 5) return null;
+  return words.slice(front.length, -5);
 }
 
 // The block that an END line closes: its bytes, or why there are none.
 function closed(open, label) {
   const block = { label: open.label, line: open.line };
   if (label !== open.label) return { ...block, reason: "the labels of the BEGIN and END lines differ" };
-  const bytes = fromBase64(open.text.join(""));
+  const bytes = fromBase64(open.text.join("").replace(BLANK, ""));
   return bytes ? { ...block, bytes } : { ...block, reason: "invalid base64" };
+}
+
+// CR, LF or both end a line. What stands behind the last end is a line if there is something.
+function linesOf(text) {
+  const lines = text.split(/\r\n|\r|\n/);
+  if (lines.at(-1) === "") lines.pop();
+  return lines;
 }
 
 /**
@@ -81,8 +111,7 @@ function closed(open, label) {
 function* pemBlocks(text) {
   let open = null;
   let number = 0;
-  for (const raw of text.split("\n")) {
-    const line = raw.trimEnd();
+  for (const line of linesOf(text)) {
     number += 1;
     const label = boundary(line, "BEGIN");
     const end = open === null ? null : boundary(line, "END");
@@ -106,6 +135,7 @@ module.exports = {
   KINDS,
   fromBase64,
   isSequence,
+  isUtf16,
   kindOfLabel,
   pemBlocks,
   toBase64,

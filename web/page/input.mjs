@@ -1,17 +1,13 @@
 // What a file or a text holds: PEM blocks, DER, or hexadecimal or base64 digits.
 
-import { KINDS, fromBase64, isSequence, kindOfLabel, pemBlocks } from "../pem.mjs";
+import { KINDS, fromBase64, isSequence, isUtf16, kindOfLabel, pemBlocks } from "../pem.mjs";
 
 /** How many bytes an input may have. */
 export const LONGEST = 1 << 25;
 
 const OTHER = "this type of PEM block isn’t supported";
+const UTF_16 = "UTF-16 text: save it as UTF-8";
 const NOTHING = "no PEM, DER, hexadecimal or base64 that can be read";
-
-function textOf(bytes) {
-  const isUtf16 = bytes[0] === 0xff && bytes[1] === 0xfe;
-  return new TextDecoder(isUtf16 ? "utf-16le" : "utf-8").decode(bytes);
-}
 
 function fromHex(digits) {
   return Uint8Array.from(digits.match(/../g), (it) => parseInt(it, 16));
@@ -36,7 +32,8 @@ function pemStructures(text) {
 export function structuresIn(bytes) {
   if (bytes.length > LONGEST) return [{ kind: null, outcome: "refused", reason: "larger than 32 MiB" }];
   if (isSequence(bytes)) return [{ bytes, kind: null }];
-  const text = textOf(bytes);
+  if (isUtf16(bytes)) return [{ kind: null, outcome: "refused", reason: UTF_16 }];
+  const text = new TextDecoder().decode(bytes);
   if (text.includes("-----BEGIN ")) {
     const found = pemStructures(text);
     if (found.length > 0) return found;

@@ -21,7 +21,8 @@ export function sample(name) {
   return new Uint8Array(readFileSync(`${DATA}/${name}`));
 }
 
-const found = process.env.CIMAROLY ?? pathOf("dist/cimaroly");
+const PROCESSOR = process.arch === "arm64" ? "aarch64" : "x86_64";
+const found = process.env.CIMAROLY ?? pathOf(`dist/${PROCESSOR}-linux/cimaroly`);
 
 /** The path of the program, or null where it isn't there. */
 export const PROGRAM = existsSync(found) ? found : null;

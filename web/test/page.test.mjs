@@ -27,7 +27,7 @@ test("blocks are found between other text, with their lines", () => {
 test("faults of blocks are told, with the line where they are met", () => {
   const faults = (text) => [...pemBlocks(text)].map(({ line, reason }) => [line, reason]);
   assert.deepEqual(faults(block("A", "M=A=")), [[1, "invalid base64"]]);
-  assert.deepEqual(faults("-----BEGIN A-----\nMAA=\n"), [[3, "the block has no END line"]]);
+  assert.deepEqual(faults("-----BEGIN A-----\nMAA=\n"), [[2, "the block has no END line"]]);
   assert.deepEqual(faults("-----BEGIN A-----\nProc-Type: 4,ENCRYPTED\n\nMAA=\n"), [
     [2, "the block has headers, as encrypted keys do"],
   ]);
@@ -48,7 +48,7 @@ test("each form of input is told", () => {
   }
   assert.deepEqual([...structuresIn(Uint8Array.from(der))[0].bytes], der);
   const wide = Uint8Array.from([0xff, 0xfe, ...[...block("CERTIFICATE")].flatMap((it) => [it.charCodeAt(0), 0])]);
-  assert.equal(structuresIn(wide)[0].kind, "certificate");
+  assert.match(structuresIn(wide)[0].reason, /UTF-16/);
   assert.match(structuresIn(bytes("nothing"))[0].reason, /no PEM, DER, hexadecimal or base64/);
   assert.match(structuresIn(new Uint8Array(0))[0].reason, /no PEM, DER, hexadecimal or base64/);
 });

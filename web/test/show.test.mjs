@@ -14,7 +14,7 @@ import * as cimaroly from "../cimaroly.mjs";
 import { DATA, PROGRAM, SAMPLES, identifiers, run, sample } from "./data.mjs";
 import { linesOf, shownOf } from "./shown.mjs";
 
-const NOT_HERE = PROGRAM === null && "the program isn't there: set CIMAROLY, or build dist/cimaroly";
+const NOT_HERE = PROGRAM === null && "the program isn't there: set CIMAROLY, or make dist/ by tools/dist.sh";
 
 // The samples that hold a structure, each with it.
 const structures = SAMPLES.map((name) => [name, new Entry(cimaroly, structuresIn(sample(name))[0])]);

@@ -108,6 +108,8 @@ async function sheet(context) {
         await page.run(click("#sheet-toggle"));
         assert.equal(await page.run(isShown("bytes")), false);
         assert.ok((await page.run(box(".pane.raw"))).height <= 48);
+        // (rows are built once they have come into view)
+        await page.until(`document.querySelectorAll("#tree .field").length > 5`);
         await page.run(`document.querySelectorAll("#tree .field")[5].click()`);
         assert.equal(await page.run(isShown("bytes")), false, "it stays closed");
         await page.run(click("#sheet-toggle"));

@@ -31,12 +31,14 @@ struct told {
 
 enum { ANY_KIND = 0, SIGNED_KINDS = 100, EXTENSIONS_KINDS = 101 };
 
-/* A call over lent memory, its form over malloc, the size of what its buffer takes, or 0, and which kind it is for. */
+/* A call over lent memory, its form over malloc, the size of what its buffer takes, or 0, that of what it writes beside a
+ * buffer, or 0, and which kind it is for. */
 struct call {
     const char *name;
     uint32_t (*lent)(struct cimaroly_memory *memory, struct given given, struct told *told);
     uint32_t (*over_malloc)(struct given given, struct told *told);
     size_t unit;
+    size_t result;
     uint32_t kind;
 };
 
@@ -63,21 +65,21 @@ DEFINE_CALL(private_key_fields, GIVEN_INPUT, &told->of.private_key)
 DEFINE_CALL(extensions, GIVEN_KIND_AND_INPUT, GIVEN_BUFFER(struct cimaroly_extension))
 DEFINE_CALL(report, GIVEN_KIND_AND_INPUT, false, GIVEN_BUFFER(uint8_t))
 
-#define CALL(name, unit, kind) {#name, lent_##name, malloc_##name, unit, kind}
+#define CALL(name, unit, result, kind) {#name, lent_##name, malloc_##name, unit, result, kind}
 
 enum call_number { CHECK, ENCODE, PLACES, SIGNED_PART, CERTIFICATE_FIELDS, REQUEST_FIELDS, PRIVATE_KEY_FIELDS,
                    EXTENSION_PLACES, REPORT, CALLS };
 
 static const struct call calls[CALLS] = {
-    CALL(check, 0, ANY_KIND),
-    CALL(encode, 1, ANY_KIND),
-    CALL(places, sizeof(struct cimaroly_place), ANY_KIND),
-    CALL(signed_part, 0, SIGNED_KINDS),
-    CALL(certificate_fields, 0, CIMAROLY_CERTIFICATE),
-    CALL(request_fields, 0, CIMAROLY_REQUEST),
-    CALL(private_key_fields, 0, CIMAROLY_PRIVATE_KEY),
-    CALL(extensions, sizeof(struct cimaroly_extension), EXTENSIONS_KINDS),
-    CALL(report, 1, ANY_KIND),
+    CALL(check, 0, sizeof(struct cimaroly_verdict), ANY_KIND),
+    CALL(encode, 1, 0, ANY_KIND),
+    CALL(places, sizeof(struct cimaroly_place), 0, ANY_KIND),
+    CALL(signed_part, 0, sizeof(struct cimaroly_signed), SIGNED_KINDS),
+    CALL(certificate_fields, 0, sizeof(struct cimaroly_certificate), CIMAROLY_CERTIFICATE),
+    CALL(request_fields, 0, sizeof(struct cimaroly_request), CIMAROLY_REQUEST),
+    CALL(private_key_fields, 0, sizeof(struct cimaroly_private_key), CIMAROLY_PRIVATE_KEY),
+    CALL(extensions, sizeof(struct cimaroly_extension), 0, EXTENSIONS_KINDS),
+    CALL(report, 1, 0, ANY_KIND),
 };
 
 /* Whether a call can be asked about a kind. */

@@ -9,8 +9,15 @@
 #include <stdlib.h>
 #include <string.h>
 #include <sys/mman.h>
+#include <unistd.h>
 
-enum { GUARD_PAGE = 4096, GUARD_FILL = 0xA5, GUARD_FRONT = 64 };
+enum { GUARD_FILL = 0xA5, GUARD_FRONT = 64 };
+
+/* The size of a page, which aarch64 has several of. */
+static inline size_t guard_page(void)
+{
+    return (size_t)sysconf(_SC_PAGESIZE);
+}
 
 /* `at` has room for so many bytes, and ends where the page does. It is filled, and so are some bytes in front of it. */
 struct guarded {
@@ -24,15 +31,16 @@ struct guarded {
 static inline void guarded_lay(struct guarded *memory, size_t size)
 {
     memory->front = memory->room - size < GUARD_FRONT ? memory->room - size : GUARD_FRONT;
-    memory->at = memory->mapped + GUARD_PAGE + memory->room - size;
+    memory->at = memory->mapped + guard_page() + memory->room - size;
     memset(memory->at - memory->front, GUARD_FILL, memory->front + size);
 }
 
 static inline struct guarded guarded_room(size_t size)
 {
-    struct guarded memory = {NULL, NULL, (size + GUARD_PAGE) / GUARD_PAGE * GUARD_PAGE, 0};
-    memory.mapped = mmap(NULL, memory.room + GUARD_PAGE + GUARD_PAGE, PROT_NONE, MAP_PRIVATE | MAP_ANONYMOUS, -1, 0);
-    if (memory.mapped == MAP_FAILED || mprotect(memory.mapped + GUARD_PAGE, memory.room, PROT_READ | PROT_WRITE) != 0) {
+    const size_t page = guard_page();
+    struct guarded memory = {NULL, NULL, (size + page) / page * page, 0};
+    memory.mapped = mmap(NULL, memory.room + page + page, PROT_NONE, MAP_PRIVATE | MAP_ANONYMOUS, -1, 0);
+    if (memory.mapped == MAP_FAILED || mprotect(memory.mapped + page, memory.room, PROT_READ | PROT_WRITE) != 0) {
         perror("mmap");
         exit(2);
     }
@@ -43,7 +51,7 @@ static inline struct guarded guarded_room(size_t size)
 static inline void guarded_free(struct guarded memory)
 {
     if (memory.mapped != NULL)
-        munmap(memory.mapped, memory.room + GUARD_PAGE + GUARD_PAGE);
+        munmap(memory.mapped, memory.room + guard_page() + guard_page());
 }
 
 /* Whether so many bytes are as guarded_room left them. */

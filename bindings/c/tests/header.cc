@@ -15,5 +15,7 @@ int main()
         return 2;
     if (size != sizeof name || std::memcmp(out, name, size) != 0)
         return 3;
-    return std::strcmp(cimaroly_error_name(verdict.error), "") == 0 ? 0 : 4;
+    if (cimaroly_version() != CIMAROLY_VERSION_NUMBER)
+        return 4;
+    return std::strcmp(cimaroly_error_name(verdict.error), "") == 0 ? 0 : 5;
 }

@@ -87,6 +87,7 @@ static void check_is_right(const struct row *row, const struct told *told)
     }
     expect((verdict.error != 0) == (told->status == CIMAROLY_REFUSED), row, "check", "an error where there is none");
     expect(verdict.headers > 0 || row->der_size == 0, row, "check", "the headers");
+    expect(verdict.headers <= row->der_size / 2 + 1, row, "check", "more headers than there can be");
 }
 
 static void encode_is_right(const struct row *row, const struct told *told, const uint8_t *out)
@@ -187,13 +188,42 @@ static void field_is_right(const struct row *row, const char *report)
 
 static void report_is_right(const struct row *row, const struct told *told, uint8_t *out)
 {
-    char stated[64];
+    char stated[64], type[64];
     snprintf(stated, sizeof stated, "\"result\":\"%s\"", row->cells[RESULT]);
+    snprintf(type, sizeof type, "{\"type\":\"%s\",", row->cells[KIND]);
     out[told->count] = '\0';
     field_is_right(row, (const char *)out);
-    expect(out[0] == '{' && out[told->count - 1] == '}', row, "report", "an object");
+    expect(strncmp((char *)out, type, strlen(type)) == 0 && out[told->count - 1] == '}', row, "report", "an object");
     expect(strstr((char *)out, stated) != NULL, row, "report", "the result");
     expect(told->count == strlen((char *)out), row, "report", "the size");
+}
+
+/* The report of a row, as text. */
+static char *report_of(const struct row *row, bool secrets)
+{
+    char *text = calloc(1, ROOM);
+    size_t size = 0;
+    if (text == NULL)
+        stop("no memory", row->cells[NAME]);
+    uint32_t status =
+        cimaroly_report_malloc(row->kind, row->der, row->der_size, secrets, (uint8_t *)text, ROOM - 1, &size);
+    expect(status == CIMAROLY_OK && size == strlen(text), row, "report", "the status, or the size");
+    return text;
+}
+
+/* Private keys alone have secrets, which are told where they are asked for. */
+static void secrets_are_hidden(const struct row *row)
+{
+    bool has_secrets = row->kind == CIMAROLY_PRIVATE_KEY || row->kind == CIMAROLY_RSA_PRIVATE_KEY ||
+                       row->kind == CIMAROLY_EC_PRIVATE_KEY;
+    char *hidden = report_of(row, false);
+    char *shown = report_of(row, true);
+    has_secrets = has_secrets && stated_status(row) == CIMAROLY_OK;
+    expect((strstr(hidden, "\"hidden\":") != NULL) == has_secrets, row, "report", "what is hidden");
+    expect(strstr(shown, "\"hidden\":") == NULL, row, "report", "a secret that was asked for is hidden");
+    expect(is_text(hidden, shown) != has_secrets, row, "report", "secrets make another difference");
+    free(hidden);
+    free(shown);
 }
 
 /* What a call with plenty of memory and room tells is what the row states. */
@@ -233,6 +263,19 @@ static struct given given_of(const struct row *row, uint8_t *out, size_t out_siz
     return given;
 }
 
+/* What a call that isn't done writes beside its buffer is zeros, but for why, where and after how many headers. */
+static void writes_zeros(const struct row *row, const struct call *call, const struct told *told)
+{
+    struct told zeros = *told;
+    if (told->status == CIMAROLY_OK || told->status == CIMAROLY_BUFFER_TOO_SHORT)
+        return;
+    if (call == &calls[CHECK] && told->status == CIMAROLY_REFUSED)
+        zeros.of.verdict.headers = zeros.of.verdict.error = zeros.of.verdict.at = 0;
+    for (size_t i = 0; i < call->result; i++)
+        expect(zeros.of.bytes[i] == 0, row, call->name, "what isn't told isn't zeros");
+    expect(call->unit == 0 || told->count == 0, row, call->name, "a count of nothing");
+}
+
 /* Whether a call may answer that the memory was too little: most need none. */
 static bool may_need_memory(const struct call *call, const struct told *right)
 {
@@ -246,7 +289,7 @@ static size_t is_same_with(const struct row *row, const struct call *call, const
                              size_t size)
 {
     size_t used = right->status == CIMAROLY_OK ? right->count * call->unit : 0;
-    struct guarded lent = guarded_room(size);
+    struct guarded lent = guarded_room((size + 15) / 16 * 16);
     struct guarded buffer = guarded_room(used);
     struct cimaroly_memory memory = {lent.at, size};
     struct told told;
@@ -256,7 +299,7 @@ static size_t is_same_with(const struct row *row, const struct call *call, const
     if (told.status == CIMAROLY_OUT_OF_MEMORY) {
         expect(may_need_memory(call, right), row, call->name, "memory that isn't needed");
         expect(is_filling(buffer.at, used), row, call->name, "the buffer, with too little memory");
-        expect(call->unit == 0 || told.count == 0, row, call->name, "the count, with too little memory");
+        writes_zeros(row, call, &told);
     } else {
         expect(is_same_told(&told, right), row, call->name, "another answer, with less memory");
         expect(memcmp(buffer.at, out, used) == 0, row, call->name, "other bytes, with less memory");
@@ -266,12 +309,15 @@ static size_t is_same_with(const struct row *row, const struct call *call, const
     return told.status;
 }
 
-/* From no memory up to some sizes that are enough, in steps of 16 bytes and then larger ones; and with plenty. */
+/* From no memory up to some sizes that are enough, in steps of 16 bytes and then larger ones; and with plenty. What stands
+ * behind the last multiple of 16 changes nothing. */
 static void memory_is_kept_to(const struct row *row, const struct call *call, const struct told *right, const uint8_t *out)
 {
     size_t enough = 0;
     for (size_t size = 0; size < PLENTY && enough < 4; size += size < 16 * share ? 16 : size / share / 16 * 16)
         enough = is_same_with(row, call, right, out, size) == CIMAROLY_OUT_OF_MEMORY ? 0 : enough + 1;
+    expect(is_same_with(row, call, right, out, PLENTY + 1) == right->status, row, call->name, "too little memory, and a byte");
+    expect(is_same_with(row, call, right, out, PLENTY - 1) == right->status, row, call->name, "less by a byte");
     expect(is_same_with(row, call, right, out, PLENTY) == right->status, row, call->name, "too little memory is plenty");
 }
 
@@ -321,6 +367,7 @@ static void test_call(const struct row *row, enum call_number which)
     kept.der = copy.at;
     struct told right;
     ask(call, &memory, given_of(&kept, buffer.at, ROOM), &right);
+    writes_zeros(&kept, call, &right);
     if (is_for(call, row->kind)) {
         memory_is_kept_to(&kept, call, &right, buffer.at);
         short_buffer_is_kept(&kept, call, &right);
@@ -354,6 +401,7 @@ static void test_unknown_kinds(const uint8_t *der)
             ask(&calls[which], &memory, given, &told);
             expect(told.status == CIMAROLY_UNKNOWN_KIND, &row, calls[which].name, "the status");
             expect(is_filling(buffer.at, ROOM), &row, calls[which].name, "the buffer");
+            writes_zeros(&row, &calls[which], &told);
         }
     }
     guarded_free(buffer);
@@ -380,6 +428,7 @@ int main(int argc, char **argv)
     while (next_row(&table, argv[1], &row)) {
         for (size_t which = 0; which < CALLS; which++)
             test_call(&row, (enum call_number)which);
+        secrets_are_hidden(&row);
         free(row.der);
     }
     test_unknown_kinds((const uint8_t *)text);

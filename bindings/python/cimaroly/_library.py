@@ -6,6 +6,7 @@ import ctypes
 import json
 import mmap
 import os
+import platform
 import threading
 from collections.abc import Callable
 from ctypes import POINTER, byref, c_bool, c_size_t, c_uint32, c_void_p
@@ -122,13 +123,14 @@ _OF_ONE_KIND = frozenset(name for name, _ in _FIELDS.values())
 
 
 def _folder() -> str:
-    """Where the shared object is: in the folder that CIMAROLY_LIB_DIR names, in this package, or in the repository's dist/."""
+    """Where the shared object is: in the folder that CIMAROLY_LIB_DIR names, in this package, or in the repository's dist/,
+    in the folder for this machine."""
     named = os.environ.get("CIMAROLY_LIB_DIR")
     if named:
         return named
     if os.path.exists(os.path.join(_HERE, _NAME)):
         return _HERE
-    return os.path.join(_HERE, "..", "..", "..", "dist")
+    return os.path.join(_HERE, "..", "..", "..", "dist", f"{platform.machine()}-linux")
 
 
 def _load() -> dict[str, Callable[..., int]]:
@@ -137,7 +139,8 @@ def _load() -> dict[str, Callable[..., int]]:
     try:
         library = ctypes.CDLL(path)
     except OSError as error:
-        raise ImportError(f"the shared object of cimaroly can't be loaded (Linux on x86-64): {error}", path=path) from error
+        builds = "there are builds for Linux on x86-64 and aarch64, and the WebAssembly module in web/ runs anywhere"
+        raise ImportError(f"the shared object of cimaroly can't be loaded ({builds}): {error}", path=path) from error
     given = (POINTER(Memory), c_uint32, c_void_p, c_size_t)
     buffer = (c_void_p, c_size_t, POINTER(c_size_t))
     calls: dict[str, tuple[Any, ...]] = {

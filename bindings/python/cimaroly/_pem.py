@@ -26,12 +26,17 @@ _LABELS: dict[str, Kind] = {
     "RSA PUBLIC KEY": "rsa-public-key",
     "EC PRIVATE KEY": "ec-private-key",
 }
-_BEGIN_LINE = rb"^-----BEGIN ([^\x00-\x1f\x7f-\xff]*)-----[^\S\n]*$"
-_BEGIN = re.compile(_BEGIN_LINE, re.MULTILINE)
-# What a block ends at: its last line, the first one of another, or a header.
-_END = re.compile(rb"^-----END ([^\n]*)|" + _BEGIN_LINE + rb"|:", re.MULTILINE)
-_LINE_FEED = re.compile(rb"\n")
+# A line that begins or ends a block has nothing else but white space, and a byte order mark before it (RFC 7468, 3; CR, LF
+# or both end a line). These are looked for one behind the other, so that no text takes long.
+_BEGIN = re.compile(rb"-----BEGIN ")
+# What a block may end at: its last line, the first one of another, or a header.
+_STOP = re.compile(rb"-----BEGIN |-----END |:")
+_LABEL = re.compile(rb"([^\r\n]*)-----[ \t\v\f]*(?=[\r\n]|\Z)")
+_BLANK = b" \t\v\f"
+_MARK = b"\xef\xbb\xbf"
+_LINE_END = re.compile(rb"\r\n|\r|\n")
 _WHITE_SPACE = b" \t\n\r\v\f"
+_UTF_16 = (b"\xff\xfe", b"\xfe\xff")
 
 
 class PemError(ValueError):
@@ -71,10 +76,14 @@ class RawBlock(NamedTuple):
     def decoded(self) -> bytes:
         """Its bytes. Raises `PemError`."""
         self._whole()
+        symbols = bytes(self.text).translate(None, _WHITE_SPACE)
         try:
-            return base64.b64decode(bytes(self.text).translate(None, _WHITE_SPACE), validate=True)
+            found = base64.b64decode(symbols, validate=True)
         except binascii.Error as error:
             raise self._no_base64(error) from None
+        if base64.b64encode(found) != symbols:
+            raise self._no_base64(ValueError("bits behind the last byte"))
+        return found
 
     def held(self) -> Held:
         """Its bytes, which are overwritten later if they are a private key's. Raises `PemError`."""
@@ -114,40 +123,78 @@ def _hint(data: object) -> str:
     return ": pass what its read() gives" if hasattr(data, "read") else ""
 
 
+class _Boundary(NamedTuple):
+    """What begins or ends a block, or the colon of a header, which has no label."""
+
+    word: bytes
+    start: int
+    end: int
+    label: Optional[bytes]
+
+
+def _is_first(view: Union[bytes, memoryview], at: int) -> bool:
+    """Whether nothing stands in the line before a place but white space, and a byte order mark before that."""
+    while at > 0 and view[at - 1] in _BLANK:
+        at -= 1
+    if view[max(at - 3, 0) : at] == _MARK:
+        at -= 3
+        while at > 0 and view[at - 1] in _BLANK:
+            at -= 1
+    return at == 0 or view[at - 1] in b"\r\n"
+
+
+def _next(view: Union[bytes, memoryview], words: re.Pattern[bytes], start: int) -> Optional[_Boundary]:
+    """The next boundary that begins with one of some words, or colon."""
+    for it in words.finditer(view, start):
+        word = it[0]
+        if word == b":":
+            return _Boundary(word, it.start(), it.end(), None)
+        rest = _LABEL.match(view, it.end()) if _is_first(view, it.start()) else None
+        if rest is not None:
+            return _Boundary(word, it.start(), rest.end(), rest[1])
+    return None
+
+
+def escaped(label: str) -> str:
+    """A label for a message: it may have any characters."""
+    return label.encode("unicode_escape").decode("ascii")
+
+
 def is_pem(data: Union[bytes, memoryview]) -> bool:
-    """Whether a line begins a PEM block. What begins as an element of the whole data's length is none."""
-    return not _is_one_element(data) and _BEGIN.search(data) is not None
+    """Whether a line begins a PEM block. What begins as an element of the whole data's length is none.
+
+    Raises `PemError` for UTF-16.
+    """
+    if bytes(data[:2]) in _UTF_16:
+        raise PemError("UTF-16 text: PEM is read as UTF-8 or ASCII")
+    return not _is_one_element(data) and _next(data, _BEGIN, 0) is not None
 
 
 def raw_blocks(view: memoryview) -> Iterator[RawBlock]:
     """The PEM blocks of a text, and among them, with their fault, those that aren't whole."""
     number, line, counted = 0, 1, 0
-    begin = _BEGIN.search(view)
+    begin = _next(view, _BEGIN, 0)
     while begin is not None:
         number += 1
-        line += len(_LINE_FEED.findall(view, counted, begin.start()))
-        counted = begin.start()
-        label, start = begin.groups()[-1].decode("ascii"), begin.end()
-        end = _END.search(view, start)
-        stop = len(view) if end is None else end.start()
-        at = line + len(_LINE_FEED.findall(view, counted, stop))
-        yield RawBlock(number, line, label, view[start:stop], _fault(end, label, line, at))
+        line += len(_LINE_END.findall(view, counted, begin.start))
+        counted = begin.start
+        end = _next(view, _STOP, begin.end)
+        stop = len(view) if end is None else end.start
+        at = line + len(_LINE_END.findall(view, counted, stop))
+        label = (begin.label or b"").decode(errors="backslashreplace")
+        yield RawBlock(number, line, label, view[begin.end : stop], _fault(begin, end, escaped(label), line, at))
         if end is None:
             return
-        is_next = end[0].startswith(b"-----BEGIN ")
-        begin = end if is_next else _BEGIN.search(view, end.end())
+        begin = end if end.word == b"-----BEGIN " else _next(view, _BEGIN, end.end)
 
 
-def _fault(end: Optional[re.Match[bytes]], label: str, begin: int, line: int) -> str:
+def _fault(begin: _Boundary, end: Optional[_Boundary], label: str, first: int, last: int) -> str:
     """What is wrong with a block that begins and ends at these lines, or nothing."""
-    found = b"" if end is None else end[0]
-    if found == b":":
-        return f"line {line}: the block {label} has headers, and may be encrypted"
-    if not found.startswith(b"-----END "):
-        return f"line {begin}: the block {label} has no end"
-    if found.rstrip() != f"-----END {label}-----".encode():
-        return f"line {line}: the end of another block than {label}"
-    return ""
+    if end is None or end.word == b"-----BEGIN ":
+        return f"line {first}: the block {label} has no end"
+    if end.word == b":":
+        return f"line {last}: the block {label} has headers, and may be encrypted"
+    return "" if end.label == begin.label else f"line {last}: the end of another block than {label}"
 
 
 def pem_blocks(data: Data) -> Iterator[Block]:

@@ -7,7 +7,7 @@ from dataclasses import dataclass
 from typing import Optional, Union
 
 from ._kinds import KINDS, Kind, Refused
-from ._pem import Data, PemError, RawBlock, is_pem, raw_blocks, viewed
+from ._pem import Data, PemError, RawBlock, escaped, is_pem, raw_blocks, viewed
 from ._secret import Held, Secret
 from ._structure import Structure, Verdict, checked
 
@@ -39,7 +39,7 @@ def _known(kind: str) -> None:
 
 
 def _no_block(view: memoryview, kind: Optional[Kind]) -> PemError:
-    labels = ", ".join(sorted({it.label for it in raw_blocks(view)})) or "none"
+    labels = ", ".join(sorted({escaped(it.label) for it in raw_blocks(view)})) or "none"
     return PemError(f"no PEM block of {'a known kind' if kind is None else 'kind ' + kind} (blocks: {labels})")
 
 

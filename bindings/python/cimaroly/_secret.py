@@ -54,6 +54,8 @@ def from_base64(text: memoryview) -> Secret:
             raise ValueError("a symbol that isn't of base64, or stands behind the padding")
     if padding > 2 or (count + padding) % 4:
         raise ValueError("incorrect padding")
+    if padding and values[count - 1] & (15 if padding == 2 else 3):
+        raise ValueError("bits behind the last byte")
     found = Secret(count * 3 // 4)
     for at in range(len(found)):
         group, part = divmod(at, 3)

@@ -29,9 +29,9 @@
 //!
 //! # Linking
 //!
-//! The build script links the archive of the package's `lib/`, or of the folder that the variable
-//! `CIMAROLY_LIB_DIR` names. The archive is for x86-64 processors with SSE4.2, and needs `memcpy`,
-//! `memmove` and `memset` alone.
+//! The build script links the archive of the package's `lib/` for the target's processor, or that of
+//! the folder that the variable `CIMAROLY_LIB_DIR` names. There are archives for x86-64 processors
+//! with SSE4.2 and for aarch64, and they need `memcpy`, `memmove` and `memset` alone.
 #![no_std]
 
 #[cfg(feature = "alloc")]

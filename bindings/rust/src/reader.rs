@@ -13,7 +13,7 @@ use crate::told::{Place, SignedPart, Verdict};
 /// Reads inputs, in memory that it is lent. Nothing of an input is kept from one call to the next.
 ///
 /// A certificate needs some 15 times its size and a few thousand bytes, a list of many small items up
-/// to 70 times, and a report some 40 times; of what is refused the field takes a kilobyte more. With
+/// to 160 times, and a report some 40 times; of what is refused the field takes a kilobyte more. With
 /// too little the answer is [`Error::OutOfMemory`], and never another.
 ///
 /// ```
