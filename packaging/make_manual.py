@@ -77,6 +77,7 @@ def synopsis(rows, named):
     lines = []
     for it in named:
         command, _, rest = usage(rows, it["command"]).partition(" ")
+        command = roff(command) if command != completions.UNNAMED else f"\\fR[\\fB{command}\\fR]"
         lines.append(f".B cimaroly {command}\n{roff(rest)}")
     return "\n.br\n".join([*lines, ".B cimaroly\n\\-\\-version"])
 
@@ -92,8 +93,7 @@ def options_text(options):
 
 
 def types(rows):
-    (values,) = {it["values"] for it in rows if it["values"]}
-    return bold(*values.split(","))
+    return bold(*completions.types(rows).split())
 
 
 def page_of_program(rows):

@@ -5,6 +5,7 @@ import re
 import shutil
 import subprocess
 import sys
+import tempfile
 import unittest
 
 from cimaroly_program import NEEDS_PROGRAM, PROGRAM, ROOT
@@ -16,7 +17,7 @@ import make_manual  # noqa: E402
 ROWS = [it for it in make_manual.table() if it["program"] == "cimaroly"]
 COMMANDS = [it["command"] for it in ROWS if it["command"] and not it["long"]]
 OPTION = re.compile(r"^ +(?:(-\w), )?(--[\w-]+)(?: <(\w+)>)? +(.*?)(?: \[possible values: (.*)\])?$", re.MULTILINE)
-TYPES = next(it["values"] for it in ROWS if it["values"]).split(",")
+TYPES = next(it["values"] for it in ROWS if it["value"] == "TYPE").split(",")
 
 
 def told(*words):
@@ -24,9 +25,10 @@ def told(*words):
 
 
 def options_of(command):
-    """What the table has of a command's options, as the help shows them."""
+    """What the table has of a command's options, as the help shows them: values that the text doesn't name are listed."""
     rows = [it for it in ROWS if it["command"] == command and it["long"]]
-    return [(it["short"], it["long"], it["value"], it["text"], it["values"].replace(",", ", ")) for it in rows]
+    listed = [[] if all(word in it["text"] for word in it["values"].split(",")) else it["values"].split(",") for it in rows]
+    return [(it["short"], it["long"], it["value"], it["text"], ", ".join(words)) for it, words in zip(rows, listed)]
 
 
 @NEEDS_PROGRAM
@@ -92,54 +94,96 @@ class Pages(unittest.TestCase):
         self.assertGreater(len(calls), 15)
 
 
-class Completions(unittest.TestCase):
-    """What each shell offers."""
+FILES = ["cert.pem", "certs/"]
+SHOW = [it[1] for it in options_of("show")]
+# Offers what is completed, a line each, between angle brackets: a shell with a terminal of its own does so.
+ZSH = r"""
+zmodload zsh/zpty
+zpty shell zsh -f -i
+zpty -w shell "fpath=($1 \$fpath); autoload -U compinit; compinit -u -D; PS1="
+zpty -w shell "compadd() {
+    if [[ \${@[1,(i)(-|--)]} != *-(O|A|D)\ * ]]; then
+        local -a hits
+        builtin compadd -A hits \"\$@\"
+        print -rl -- '<'\${^hits}'>'
+    fi
+    builtin compadd \"\$@\"
+}"
+zpty -w shell "offer() { _main_complete; print '<<en''d>>' }; zle -C offer list-choices offer; bindkey '^I' offer; print '<<read''y>>'"
+zpty -r shell text '*<<ready>>*'
+zpty -w -n shell "$2"$'\t'
+zpty -r shell text '*<<end>>*'
+print -r -- "${text##*<<ready>>}"
+"""
 
+
+class Completions(unittest.TestCase):
+    """What each shell offers, in a folder with a file and a folder."""
+
+    # What is typed, what is offered of words, and what of files.
     CASES = {
-        ("",): [*COMMANDS, "--help"],
-        ("sh",): ["show"],
-        ("show", "--"): [it[1] for it in options_of("show")],
-        ("check", "--q"): ["--quiet"],
-        ("check", "--json", "--type", ""): TYPES,
-        ("der", "--type", "rsa"): ["rsa-private-key", "rsa-public-key"],
-        ("help", "t"): ["tree"],
+        ("",): (COMMANDS, FILES),
+        ("sh",): (["show"], []),
+        ("--v",): (["--version"], []),
+        ("show", "--"): (SHOW, []),
+        ("--json", "--"): (SHOW, []),
+        ("--json", ""): ([], FILES),
+        ("show", "c"): ([], FILES),
+        ("check", "--q"): (["--quiet"], []),
+        ("check", "--json", "--type", ""): (TYPES, []),
+        ("tree", "--color", ""): (["auto", "always", "never"], []),
+        ("check", "--color", "al"): (["always"], []),
+        ("der", "--type", "rsa"): (["rsa-private-key", "rsa-public-key"], []),
+        ("der", "-o", ""): ([], FILES),
+        ("der", "--output", "cert."): ([], ["cert.pem"]),
+        ("help", "t"): (["tree"], []),
     }
 
-    def offered(self, shell, script, path):
-        if not shutil.which(shell):
-            self.skipTest(f"there is no {shell}")
-        for words, stated in self.CASES.items():
-            with self.subTest(words):
-                ran = subprocess.run(
-                    [shell, "-c", script, f"{SHARE}/{path}", "cimaroly", *words],
-                    capture_output=True,
-                    encoding="utf-8",
-                    check=False,
-                    env={"PATH": os.environ["PATH"], "HOME": "/nonexistent", "LC_ALL": "C.UTF-8"},
-                )
-                self.assertEqual(ran.stderr, "")
-                yield {it.split("\t")[0] for it in ran.stdout.splitlines()}, set(stated), words
+    def setUp(self):
+        room = tempfile.TemporaryDirectory()
+        self.addCleanup(room.cleanup)
+        self.folder = room.name
+        os.mkdir(f"{self.folder}/certs")
+        with open(f"{self.folder}/cert.pem", "w", encoding="utf-8"):
+            pass
 
+    def ran(self, *words):
+        environment = {"PATH": os.environ["PATH"], "HOME": self.folder, "LC_ALL": "C.UTF-8", "TERM": "dumb"}
+        how = {"capture_output": True, "encoding": "utf-8", "check": False, "timeout": 60}
+        ran = subprocess.run(words, cwd=self.folder, env=environment, **how)
+        self.assertEqual(ran.stderr, "")
+        return ran.stdout
+
+    @unittest.skipUnless(shutil.which("bash"), "there is no bash")
     def test_bash(self):
+        """Files are the shell's own offer, where this is none."""
         script = """source "$0"; COMP_WORDS=("$@"); COMP_CWORD=$(($# - 1)); _cimaroly; printf '%s\\n' "${COMPREPLY[@]}" """
-        for found, stated, words in self.offered("bash", script, "bash-completion/completions/cimaroly"):
-            self.assertEqual(found - {"-h", "-V", "-q", "--version"}, stated - {"-h"}, words)
+        for words, (stated, _) in self.CASES.items():
+            with self.subTest(words):
+                found = self.ran("bash", "-c", script, f"{SHARE}/bash-completion/completions/cimaroly", "cimaroly", *words)
+                self.assertEqual({it for it in found.split() if words[-1] or not it.startswith("-")}, set(stated))
 
+    @unittest.skipUnless(shutil.which("fish"), "there is no fish")
     def test_fish(self):
         script = "source $argv[1]; complete -C (string join ' ' -- $argv[2..])"
-        for found, stated, words in self.offered("fish", script, "fish/vendor_completions.d/cimaroly.fish"):
-            self.assertEqual(found, stated - {"--help"} if words == ("",) else stated, words)
+        for words, (stated, files) in self.CASES.items():
+            with self.subTest(words):
+                found = self.ran("fish", "-c", script, f"{SHARE}/fish/vendor_completions.d/cimaroly.fish", "cimaroly", *words)
+                self.assertEqual({it.split("\t")[0] for it in found.splitlines()}, {*stated, *files})
 
     @unittest.skipUnless(shutil.which("zsh"), "there is no zsh")
     def test_zsh(self):
-        """Its completion is found, and both functions are sound."""
-        folder = f"{SHARE}/zsh/site-functions"
-        script = (
-            f"fpath=({folder} $fpath); autoload -U compinit; compinit -u -D; print $_comps[cimaroly] $_comps[x509_tool]"
-            f" && zsh -n {folder}/_cimaroly && zsh -n {folder}/_x509_tool"
-        )
-        ran = subprocess.run(["zsh", "-f", "-c", script], capture_output=True, encoding="utf-8", check=False)
-        self.assertEqual((ran.stdout, ran.stderr, ran.returncode), ("_cimaroly _x509_tool\n", "", 0))
+        """No option is offered a second time."""
+        for words, (stated, files) in self.CASES.items():
+            with self.subTest(words):
+                found = self.ran("zsh", "-f", "-c", ZSH, "zsh", f"{SHARE}/zsh/site-functions", " ".join(["cimaroly", *words]))
+                offered = {it for it in re.findall("<([^<>]+)>\r?\n", found) if it.startswith(words[-1])}
+                self.assertEqual(offered, {*stated, *(it.rstrip("/") for it in files)} - set(words))
+
+    @unittest.skipUnless(shutil.which("zsh"), "there is no zsh")
+    def test_zsh_of_the_tool(self):
+        found = self.ran("zsh", "-f", "-c", ZSH, "zsh", f"{SHARE}/zsh/site-functions", "x509_tool pr")
+        self.assertIn("<private-key>", found)
 
 
 if __name__ == "__main__":
