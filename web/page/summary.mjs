@@ -1,5 +1,6 @@
 // What a structure is, in a few lines: whose it is, how long it is valid, which key it has.
 
+import { ecLine, privateLine, publicLine, rsaLine } from "./key.mjs";
 import { clipped, counted, grouped, shown } from "./text.mjs";
 import { isNode, valueOf } from "./values.mjs";
 
@@ -38,39 +39,6 @@ const FORMS = new Map([
   ["uniformResourceIdentifier", "URI"],
   ["iPAddress", "IP"],
   ["registeredID", "registered"],
-]);
-
-const ALGORITHMS = new Map([
-  ["1.2.840.113549.1.1.1", "RSA"],
-  ["1.2.840.10045.2.1", "EC"],
-  ["1.3.101.110", "X25519"],
-  ["1.3.101.111", "X448"],
-  ["1.3.101.112", "Ed25519"],
-  ["1.3.101.113", "Ed448"],
-]);
-
-// The sizes in bits of the keys of curves (RFC 5480, 2.1.1.1; RFC 7748; RFC 8032).
-const CURVES = new Map([
-  ["1.2.840.10045.3.1.1", 192],
-  ["1.2.840.10045.3.1.7", 256],
-  ["1.3.132.0.1", 163],
-  ["1.3.132.0.10", 256],
-  ["1.3.132.0.15", 163],
-  ["1.3.132.0.16", 283],
-  ["1.3.132.0.17", 283],
-  ["1.3.132.0.26", 233],
-  ["1.3.132.0.27", 233],
-  ["1.3.132.0.33", 224],
-  ["1.3.132.0.34", 384],
-  ["1.3.132.0.35", 521],
-  ["1.3.132.0.36", 409],
-  ["1.3.132.0.37", 409],
-  ["1.3.132.0.38", 571],
-  ["1.3.132.0.39", 571],
-  ["1.3.101.110", 256],
-  ["1.3.101.111", 448],
-  ["1.3.101.112", 256],
-  ["1.3.101.113", 456],
 ]);
 
 /** What a type is called. */
@@ -119,22 +87,6 @@ export function namesLine(node, bytes, most = 12) {
   return parts.join(", ");
 }
 
-/** A key's algorithm, curve and size on one line. */
-export function keyLine({ algorithm, parameters }, key) {
-  const { id, name } = algorithm.value;
-  const curve = parameters?.value;
-  const parts = [ALGORITHMS.get(id) ?? name ?? id];
-  if (curve?.id !== undefined) parts.push(curve.name ?? curve.id);
-  const bits = key?.modulus?.bits ?? CURVES.get(curve?.id ?? id);
-  if (bits !== undefined) parts.push(`${bits} bits`);
-  return parts.join(", ");
-}
-
-// The same of an elliptic curve private key by itself.
-function ecLine({ parameters }) {
-  return keyLine({ algorithm: { value: { id: "1.2.840.10045.2.1" } }, parameters }, null);
-}
-
 function certificateRows({ tbsCertificate: fields }, bytes) {
   const subject = nameLine(fields.subject, bytes);
   const issuer = nameLine(fields.issuer, bytes);
@@ -147,7 +99,7 @@ function certificateRows({ tbsCertificate: fields }, bytes) {
   const names = fields.extensions?.items.find((it) => it.id === "2.5.29.17");
   if (names) rows.push(["names", namesLine(names, bytes), names]);
   const key = fields.subjectPublicKeyInfo;
-  rows.push(["key", keyLine(key.algorithm, key.subjectPublicKey), key]);
+  rows.push(["key", publicLine(key.algorithm, key.subjectPublicKey), key]);
   return rows;
 }
 
@@ -155,17 +107,17 @@ function requestRows({ certificationRequestInfo: fields }, bytes) {
   const key = fields.subjectPKInfo;
   return [
     ["subject", nameLine(fields.subject, bytes), fields.subject],
-    ["key", keyLine(key.algorithm, key.subjectPublicKey), key],
+    ["key", publicLine(key.algorithm, key.subjectPublicKey), key],
   ];
 }
 
 const ROWS = {
   Certificate: certificateRows,
   CertificationRequest: requestRows,
-  PrivateKeyInfo: (it) => [["key", keyLine(it.privateKeyAlgorithm, it.privateKey), it.privateKeyAlgorithm]],
-  SubjectPublicKeyInfo: (it) => [["key", keyLine(it.algorithm, it.subjectPublicKey), it]],
-  RSAPrivateKey: (it) => [["key", `RSA, ${it.modulus.bits} bits`, it.modulus]],
-  RSAPublicKey: (it) => [["key", `RSA, ${it.modulus.bits} bits`, it.modulus]],
+  PrivateKeyInfo: (it) => [["key", privateLine(it.privateKeyAlgorithm, it.privateKey), it.privateKeyAlgorithm]],
+  SubjectPublicKeyInfo: (it) => [["key", publicLine(it.algorithm, it.subjectPublicKey), it]],
+  RSAPrivateKey: (it) => [["key", rsaLine(it.modulus), it.modulus]],
+  RSAPublicKey: (it) => [["key", rsaLine(it.modulus), it.modulus]],
   ECPrivateKey: (it) => [["key", ecLine(it), it]],
   Name: (it, bytes) => [["name", nameLine(it, bytes), it]],
   Extensions: (it) => [["extensions", grouped(it.items.length), it]],

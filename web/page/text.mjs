@@ -50,3 +50,8 @@ export function grouped(number) {
 export function counted(number, thing) {
   return `${grouped(number)} ${thing}${number === 1 ? "" : "s"}`;
 }
+
+/** A size in bits as the program prints it, without commas: `1 bit`, `2048 bits`. */
+export function measured(bits) {
+  return `${bits} bit${bits === 1 ? "" : "s"}`;
+}

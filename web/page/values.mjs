@@ -1,7 +1,8 @@
 // Values of the report as they are shown: as `cimaroly show` prints them, and whole.
 
 import { elementAt, lastElements } from "./elements.mjs";
-import { clipped, counted, grouped, hex, hexOf, quoted, shown } from "./text.mjs";
+import { isNegative } from "./key.mjs";
+import { clipped, counted, hex, hexOf, measured, quoted, shown } from "./text.mjs";
 
 const WHOLE = 32;
 const FRONT = 16;
@@ -83,17 +84,20 @@ function word(text) {
   return { kind: "word", text: shown(text), whole: shown(text) };
 }
 
-// A BIT STRING, or the number of a key: in decimal where it has at most 64 bits.
-function sized({ bits, value, at }, bytes) {
-  const isNumber = bytes[at[0]] === 2;
-  const digits = isNumber && value.startsWith("00:") ? value.slice(3) : value;
-  if (isNumber && bits <= 64) {
-    const decimal = BigInt(`0x${value.replaceAll(":", "") || "0"}`).toString();
-    return { kind: "number", text: decimal, whole: decimal };
-  }
-  const size = `${bits} bits`;
+// A number of bits, and their bytes in hexadecimal.
+function bitsValue(bits, digits, sign = "") {
+  const size = sign + measured(bits);
   const text = digits === "" ? size : `${size}, ${shortHex(digits)}`;
-  return { kind: "octets", text, whole: digits === "" ? size : `${grouped(bits)} bits\n${digits}` };
+  return { kind: "octets", text, whole: digits === "" ? size : `${sign}${counted(bits, "bit")}\n${digits}` };
+}
+
+// The number of a key, by its content in hexadecimal: in decimal where it has at most 64 bits.
+function sizedNumber(bits, value) {
+  const below = isNegative(value);
+  const count = Math.ceil(value.length / 3);
+  if (below ? count > 8 : bits > 64) return bitsValue(bits, value.replace(/^00:/, ""), below ? "negative, " : "");
+  const number = BigInt.asIntN(below ? 8 * count : 72, BigInt(`0x${value.replaceAll(":", "")}`));
+  return { kind: "number", text: String(number), whole: String(number) };
 }
 
 function identifier({ id, name }) {
@@ -150,7 +154,9 @@ export function valueOf(label, node, bytes) {
     return { kind: "secret", text, whole: text };
   }
   if (value === undefined || isNode(value)) return null;
-  if (node.bits !== undefined) return sized(node, bytes);
+  if (node.bits !== undefined) {
+    return bytes[node.at[0]] === 2 ? sizedNumber(node.bits, value) : bitsValue(node.bits, value);
+  }
   if (node.length !== undefined) return kept(node);
   if (value === null) return word("NULL");
   if (Array.isArray(value)) return word(value.join(", "));

@@ -29,7 +29,12 @@ export const PROGRAM = existsSync(found) ? found : null;
 
 /** What the program prints. */
 export function run(...words) {
-  return spawnSync(PROGRAM, words, { encoding: "utf-8", maxBuffer: 1 << 28 }).stdout;
+  return runOn("", ...words);
+}
+
+/** What it prints of what stands in its standard input. */
+export function runOn(input, ...words) {
+  return spawnSync(PROGRAM, words, { input, encoding: "utf-8", maxBuffer: 1 << 28 }).stdout;
 }
 
 /** The rows of the table that the tests of every binding go over, by the names of their columns. */
