@@ -10,7 +10,7 @@ from collections.abc import Iterator
 from typing import NamedTuple, Optional, Union
 
 from ._kinds import Kind
-from ._secret import PRIVATE, Held, from_base64
+from ._secret import PRIVATE, Held, from_base64, measured
 
 Data = Union[bytes, bytearray, memoryview, str]
 """DER or PEM. A `str` is PEM."""
@@ -57,7 +57,7 @@ class Block(NamedTuple):
 
     def __repr__(self) -> str:
         # (they may be a private key's)
-        return f"Block(label={self.label!r}, kind={self.kind!r}, der=<{len(self.der)} bytes>, line={self.line})"
+        return f"Block(label={self.label!r}, kind={self.kind!r}, der=<{measured(self.der)}>, line={self.line})"
 
 
 class RawBlock(NamedTuple):

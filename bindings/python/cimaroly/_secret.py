@@ -19,6 +19,11 @@ for _symbol in b" \t\n\r\v\f":
     _VALUES[_symbol] = _SPACE
 
 
+def measured(data: Union[bytes, bytearray]) -> str:
+    """How many bytes there are, for a `repr` that doesn't show them."""
+    return f"{len(data)} byte{'' if len(data) == 1 else 's'}"
+
+
 class Secret(bytearray):
     """Bytes that are overwritten when the last reference to them goes."""
 
@@ -30,7 +35,7 @@ class Secret(bytearray):
         self.overwrite()
 
     def __repr__(self) -> str:
-        return f"<{len(self)} secret bytes>"
+        return f"<secret: {measured(self)}>"
 
 
 Held = Union[bytes, Secret]

@@ -9,7 +9,7 @@ from typing import Any, NamedTuple, Union
 from . import _library
 from ._kinds import Deviation, Kind
 from ._pem import viewed
-from ._secret import PRIVATE, Held, Secret
+from ._secret import PRIVATE, Held, Secret, measured
 
 
 class Verdict(NamedTuple):
@@ -43,7 +43,7 @@ class Field(NamedTuple):
 
     def __repr__(self) -> str:
         # (they may be a private key's)
-        return f"Field(start={self.start}, end={self.end}, data=<{len(self.data)} bytes>)"
+        return f"Field(start={self.start}, end={self.end}, data=<{measured(self.data)}>)"
 
 
 class Extension(NamedTuple):
@@ -198,7 +198,7 @@ class Structure:
     def __repr__(self) -> str:
         total = sum(self._verdict.counts.values())
         how = "in DER" if total == 0 else f"{total} deviation{'s' if total > 1 else ''}"
-        return f"<{self._kind}, {len(self._der)} bytes, {how}>"
+        return f"<{self._kind}, {measured(self._der)}, {how}>"
 
     def __eq__(self, other: object) -> bool:
         return isinstance(other, Structure) and (self._kind, self._der) == (other._kind, other._der)

@@ -47,6 +47,8 @@ class Shown(unittest.TestCase):
         self.assertEqual(field.data, KEY[12:])
         (block,) = cimaroly.pem_blocks(pem("RSA PRIVATE KEY", KEY))
         self.assertEqual(repr(block), "Block(label='RSA PRIVATE KEY', kind='rsa-private-key', der=<48 bytes>, line=1)")
+        (block,) = cimaroly.pem_blocks(pem("PRIVATE KEY", b"0"))
+        self.assertIn("der=<1 byte>", repr(block))
 
     def test_refusals_show_none(self) -> None:
         with self.assertRaises(cimaroly.Refused) as caught:
