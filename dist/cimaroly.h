@@ -3,25 +3,25 @@
  * cimaroly.h: check, encode and look into X.509 structures in DER.
  *
  * Every call reads the whole of its input as one structure of a kind, and answers a status. What the calls promise is
- * proved; docs/PROVED.md says of each call what. Tested, not proved: that a call leaves memory->at and memory->size as
- * they were, and what the text of cimaroly_report says. Measured: what is said of sizes of memory and of the stack.
+ * proved (docs/PROVED.md). Tested, not proved: that a call leaves memory->at and memory->size as they were, and what
+ * the text of cimaroly_report says. Measured: the sizes of memory and of the stack that are given here.
  *
  * Rules for every call:
  *
- * - No pointer may be NULL, also where the size beside it is 0; only memory->at may, where memory->size is 0.
+ * - No pointer may be NULL, even if the size beside it is 0; only memory->at may, if memory->size is 0.
  * - What is written may overlap neither the input nor anything else that the call is given.
  * - Nothing is kept between calls, so any number of threads may call at once, each with memory of its own.
  * - A call never calls malloc. It works in the memory that it is lent (struct cimaroly_memory), which is the caller's
- *   again when it returns. Only cimaroly_encode, cimaroly_report and, where the input has deviations, cimaroly_places
- *   need any: for the others { NULL, 0 } will do, and they never answer CIMAROLY_OUT_OF_MEMORY. Of the stack
- *   cimaroly_check takes less than 2 KB, whatever the size of the input (measured). The forms whose names end in
- *   _malloc take what memory is needed from malloc, ask for more where it was too little, and free it.
- * - A result, a size or a count is written whatever the status is, and is all zeros where nothing else is said. A
- *   buffer is written with CIMAROLY_OK alone; with every other status it is as it was.
+ *   again when it returns. Only cimaroly_encode, cimaroly_report and, if the input has deviations, cimaroly_places
+ *   need any: for the others { NULL, 0 } will do, and they never answer CIMAROLY_OUT_OF_MEMORY. cimaroly_check takes
+ *   less than 2 KB of the stack, whatever the size of the input. The forms whose names end in _malloc take the memory
+ *   that is needed from malloc, ask for more if it was too little, and free it.
+ * - A result, a size or a count is written whatever the status, and is all zeros unless stated otherwise. A buffer is
+ *   written with CIMAROLY_OK alone; with every other status it is unchanged.
  * - Places count bytes of the input from 0. A span covers the bytes start..end, without the one at end.
  *
- * Link with -lcimaroly. libcimaroly.a needs memcpy, memmove and memset, and nothing else. It is built for x86-64 processors
- * with SSE4.2 (x86-64-v2) and for aarch64.
+ * Link with -lcimaroly. libcimaroly.a needs memcpy, memmove and memset, and nothing else. It is built for x86-64
+ * processors with SSE4.2 (x86-64-v2) and for aarch64.
  */
 #ifndef CIMAROLY_H
 #define CIMAROLY_H
@@ -43,7 +43,7 @@
 extern "C" {
 #endif
 
-/* As what an input is read. */
+/* What an input can be read as. */
 enum cimaroly_kind {
     CIMAROLY_CERTIFICATE = 1,     /* Certificate (RFC 5280, 4.1) */
     CIMAROLY_REQUEST = 2,         /* CertificationRequest (RFC 2986, 4) */
@@ -54,18 +54,18 @@ enum cimaroly_kind {
     CIMAROLY_EC_PRIVATE_KEY = 7,  /* ECPrivateKey (RFC 5915, 3) */
     CIMAROLY_NAME = 8,            /* Name (RFC 5280, 4.1.2.4) */
     CIMAROLY_EXTENSIONS = 9,      /* Extensions (RFC 5280, 4.1) */
-    CIMAROLY_ALGORITHM = 10,      /* AlgorithmIdentifier (RFC 5280, 4.1.1.2), of an algorithm that is known */
+    CIMAROLY_ALGORITHM = 10,      /* AlgorithmIdentifier (RFC 5280, 4.1.1.2) of a known algorithm */
     CIMAROLY_RAW_ALGORITHM = 11   /* AlgorithmIdentifier with any parameters */
 };
 
 /* What a call answers. */
 enum cimaroly_status {
-    CIMAROLY_OK = 0,               /* the input encodes a value of the kind, and all is done */
+    CIMAROLY_OK = 0,               /* the input encodes a value of the kind, and the call succeeded */
     CIMAROLY_REFUSED = 1,          /* the input encodes no value of the kind; cimaroly_check says why and where */
-    CIMAROLY_OUT_OF_MEMORY = 2,    /* the memory was too little: nothing is known of the input */
-    CIMAROLY_BUFFER_TOO_SHORT = 3, /* the size or the count that is needed is told, and the buffer is as it was */
-    CIMAROLY_UNKNOWN_KIND = 4,     /* the number is that of no kind, or of none that the call is for */
-    CIMAROLY_TOO_LONG = 5          /* what is to be written has 2^64 bytes or more */
+    CIMAROLY_OUT_OF_MEMORY = 2,    /* the lent memory was too little; nothing is known of the input */
+    CIMAROLY_BUFFER_TOO_SHORT = 3, /* the size or the count that is needed is told; the buffer is unchanged */
+    CIMAROLY_UNKNOWN_KIND = 4,     /* there is no such kind, or the call isn't for it */
+    CIMAROLY_TOO_LONG = 5          /* the encoding would have 2^64 bytes or more */
 };
 
 /* Why an input is refused. */
@@ -87,7 +87,7 @@ enum cimaroly_error {
     CIMAROLY_ERROR_EXTENSIONS_NEED_V3 = 15
 };
 
-/* How an input that is read deviates from the one form that is written. README has a line on each. */
+/* How an input that is read deviates from the one form that is written; README's table has a line for each. */
 enum cimaroly_deviation {
     CIMAROLY_RSA_PARAMETERS_ABSENT = 1,
     CIMAROLY_ALGORITHM_PARAMETERS_ABSENT = 2,
@@ -102,9 +102,9 @@ enum cimaroly_deviation {
 };
 
 /*
- * Memory that a call works in. `at` is aligned to 16, as what malloc gives. Sizes are in bytes; what stands behind the
- * last multiple of 16 isn't used. The call writes both fields, and they are as they were when it returns. A certificate
- * needs some 15 times its size and a few thousand bytes, a list of many small items up to 160 times its size, and
+ * Memory that a call works in. `at` is aligned to 16, as what malloc returns. `size` is in bytes; those past the last
+ * multiple of 16 aren't used. The call writes both fields, and restores them before it returns. A certificate needs
+ * some 15 times its size and a few thousand bytes, a list of many small items up to 160 times its size, and
  * cimaroly_report up to three times as much.
  */
 struct cimaroly_memory {
@@ -112,7 +112,7 @@ struct cimaroly_memory {
     size_t size;
 };
 
-/* Bytes of the input, from `start` up to `end`. Of what the input doesn't have, both are 0. */
+/* Bytes of the input, from `start` up to `end`. Both are 0 for what the input doesn't have. */
 struct cimaroly_span {
     size_t start;
     size_t end;
@@ -120,10 +120,10 @@ struct cimaroly_span {
 
 /* What a check finds. */
 struct cimaroly_verdict {
-    size_t counts[10]; /* how many deviations there are, that with number 1 first */
+    size_t counts[10]; /* how many deviations there are of each kind, from number 1 on */
     size_t headers;    /* how many headers of elements were decoded: at most half the input's size plus one */
     size_t error;      /* the cimaroly_error, or 0 */
-    size_t at;         /* the byte that the error stands at */
+    size_t at;         /* the byte at which the input is refused */
 };
 
 /* A deviation, and what it covers. */
@@ -135,8 +135,8 @@ struct cimaroly_place {
 
 /* What the signature of a certificate or a request covers. */
 struct cimaroly_signed {
-    struct cimaroly_span part; /* the bytes that go to the verifier of signatures */
-    size_t inside[10];         /* how many deviations stand in them: if none does, they are in DER */
+    struct cimaroly_span part; /* the bytes over which the signature is verified */
+    size_t inside[10];         /* how many deviations stand in them: if there are none, they are in DER */
     size_t outside[10];        /* how many stand outside of them */
 };
 
@@ -181,7 +181,7 @@ struct cimaroly_private_key {
 struct cimaroly_extension {
     struct cimaroly_span whole;
     struct cimaroly_span extn_id;
-    struct cimaroly_span critical; /* or none, where it is left out */
+    struct cimaroly_span critical; /* or none, if it is left out */
     struct cimaroly_span extn_value;
 };
 
@@ -193,7 +193,7 @@ uint32_t cimaroly_version(void);
 /*
  * Whether the input encodes a value of the kind, and how it deviates from the value's DER encoding.
  *
- * CIMAROLY_OK: it does; it is the DER encoding exactly where all ten counts are 0.
+ * CIMAROLY_OK: it does; it is the DER encoding exactly if all ten counts are 0.
  * CIMAROLY_REFUSED: it doesn't; `error` and `at` say why and where, `headers` how many were decoded until then, and the
  * counts are 0.
  * CIMAROLY_UNKNOWN_KIND.
@@ -203,7 +203,7 @@ uint32_t cimaroly_check(struct cimaroly_memory *memory, uint32_t kind, const uin
 
 /*
  * Writes the DER encoding of the value that the input encodes to the front of `out`, which has room for `out_size`
- * bytes. Where the input has no deviation, these are its own bytes.
+ * bytes. If the input has no deviations, these are its own bytes.
  *
  * CIMAROLY_OK, CIMAROLY_BUFFER_TOO_SHORT: *size is the encoding's.
  * CIMAROLY_REFUSED, CIMAROLY_OUT_OF_MEMORY, CIMAROLY_UNKNOWN_KIND, CIMAROLY_TOO_LONG.
@@ -217,7 +217,7 @@ uint32_t cimaroly_encode(struct cimaroly_memory *memory, uint32_t kind, const ui
  *
  * CIMAROLY_OK, CIMAROLY_BUFFER_TOO_SHORT: *count is how many there are.
  * CIMAROLY_REFUSED, CIMAROLY_UNKNOWN_KIND.
- * CIMAROLY_OUT_OF_MEMORY: never where the input has no deviation.
+ * CIMAROLY_OUT_OF_MEMORY: never if the input has no deviations.
  */
 uint32_t cimaroly_places(struct cimaroly_memory *memory, uint32_t kind, const uint8_t *der, size_t der_size,
                          struct cimaroly_place *places, size_t room, size_t *count);
@@ -256,17 +256,17 @@ uint32_t cimaroly_extensions(struct cimaroly_memory *memory, uint32_t kind, cons
 
 /*
  * Writes what stands in the input to the front of `out`, which has room for `out_size` bytes: one JSON object in UTF-8,
- * without a line feed or a zero behind it. docs/JSON.md tells its members, of which `file`, `line` and `label` aren't
- * there. The secret numbers of private keys are left out unless `secrets` is true.
+ * without a line feed or a zero behind it. docs/JSON.md describes its members; `file`, `line` and `label` are left out,
+ * and so are the secret numbers of private keys unless `secrets` is true.
  *
- * CIMAROLY_OK, CIMAROLY_BUFFER_TOO_SHORT: *size is the object's. Also where the input is refused: then the object says
- * why and where.
+ * CIMAROLY_OK, CIMAROLY_BUFFER_TOO_SHORT: *size is the object's. If the input is refused, the object says why and
+ * where.
  * CIMAROLY_OUT_OF_MEMORY, CIMAROLY_UNKNOWN_KIND.
  */
 uint32_t cimaroly_report(struct cimaroly_memory *memory, uint32_t kind, const uint8_t *der, size_t der_size,
                          bool secrets, uint8_t *out, size_t out_size, size_t *size);
 
-/* The name of an error, in plain words; of another number "". */
+/* The name of an error, in plain words; "" if no error has the number. */
 static inline const char *cimaroly_error_name(size_t error)
 {
     static const char *const names[] = {
@@ -290,7 +290,7 @@ static inline const char *cimaroly_error_name(size_t error)
     return names[error < sizeof names / sizeof *names ? error : 0];
 }
 
-/* The name of a deviation, in plain words; of another number "". */
+/* The name of a deviation, in plain words; "" if none has the number. */
 static inline const char *cimaroly_deviation_name(size_t deviation)
 {
     static const char *const names[] = {
@@ -310,8 +310,8 @@ static inline const char *cimaroly_deviation_name(size_t deviation)
 }
 
 /*
- * Takes memory from malloc for a call on so many bytes, more than `memory` has, which is freed. False where malloc
- * refuses it: then there is none. Begin with { NULL, 0 }, and free(memory->at) at last.
+ * Frees what `memory` has, and takes more from malloc, for a call on `der_size` bytes. False if malloc fails, and then
+ * `memory` has none. Begin with { NULL, 0 }, and end with free(memory->at).
  */
 static inline bool cimaroly_more_memory(struct cimaroly_memory *memory, size_t der_size)
 {
@@ -327,8 +327,8 @@ static inline bool cimaroly_more_memory(struct cimaroly_memory *memory, size_t d
 }
 
 /*
- * The calls over memory from malloc, which is asked for where the call needs some. CIMAROLY_OUT_OF_MEMORY: malloc
- * refused it, and the results are as they were or all zeros.
+ * The calls over memory from malloc, which is asked only if the call needs some. CIMAROLY_OUT_OF_MEMORY: malloc failed,
+ * and the results are as they were or all zeros.
  */
 #define CIMAROLY_OVER_MALLOC(der_size, call)                                                                         \
     struct cimaroly_memory lent = {NULL, 0};                                                                         \
@@ -339,7 +339,7 @@ static inline bool cimaroly_more_memory(struct cimaroly_memory *memory, size_t d
     free(lent.at);                                                                                                   \
     return status
 
-/* The same of a call that may need none. */
+/* The same for a call that may need none. */
 #define CIMAROLY_WHERE_NEEDED(der_size, call)                                                                        \
     struct cimaroly_memory lent = {NULL, 0};                                                                         \
     struct cimaroly_memory *memory = &lent;                                                                          \

@@ -6,13 +6,13 @@
     >>> certificate.deviations  # doctest: +SKIP
     (Place(deviation=<Deviation.RSA_PARAMETERS_ABSENT: 1>, start=13, end=26),)
 
-`check` tells whether bytes encode a structure of a kind, and how they deviate from its DER encoding. `read` and `read_all`
-give a `Structure`, with its fields, its deviations, what is signed of it, its DER encoding and its report. What is refused
+`check` tells whether bytes encode a structure of a kind, and how they deviate from its DER encoding. `read` gives a
+`Structure`, and `read_all` a list of them, with fields, deviations, signed part, DER encoding and report. What is refused
 raises `Refused`, which says why, at which byte and in which field. `read_each` gives what came of each PEM block, and goes on
 behind those that are refused.
 
-Every call keeps to the memory of its own thread, and other threads run while it works. What a call on a private key leaves in
-that memory is overwritten, and no `repr` shows the bytes of a field.
+Each thread has memory of its own, and other threads run during a call. What a call on a private key leaves in that memory is
+overwritten, and no `repr` shows the bytes of a field.
 """
 
 from ._kinds import KINDS, Deviation, Kind, Reason, Refused

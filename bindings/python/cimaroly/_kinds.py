@@ -18,12 +18,12 @@ Kind = Literal[
     "algorithm",
     "raw-algorithm",
 ]
-"""As what bytes are read: `Certificate`, `CertificationRequest`, `PrivateKeyInfo`, `SubjectPublicKeyInfo`, `RSAPrivateKey`,
-`RSAPublicKey`, `ECPrivateKey`, `Name`, `Extensions`, `AlgorithmIdentifier` of an algorithm that is known, or one with any
+"""What bytes can be read as: `Certificate`, `CertificationRequest`, `PrivateKeyInfo`, `SubjectPublicKeyInfo`, `RSAPrivateKey`,
+`RSAPublicKey`, `ECPrivateKey`, `Name`, `Extensions`, `AlgorithmIdentifier` of a known algorithm, or one with any
 parameters."""
 
 KINDS: tuple[Kind, ...] = get_args(Kind)
-"""Every kind, in the order of the library's numbers, which begin with 1."""
+"""Every kind, in the order of the library's numbers, from 1."""
 
 
 class Deviation(enum.IntEnum):
@@ -109,7 +109,7 @@ class Refused(ValueError):
     def __init__(self, kind: Kind, number: int, place: int, field: Optional[str] = None) -> None:
         super().__init__(kind, number, place, field)
         self.kind: Kind = kind
-        """As what they were read."""
+        """What they were read as."""
         self.reason = Reason(number)
         """Why they are refused."""
         self.number = number
@@ -119,7 +119,7 @@ class Refused(ValueError):
         self.place = place
         """The byte, from 0, that could not be read."""
         self.field = field
-        """The fields around that byte, from the outermost in, joined by dots; None where none has a name."""
+        """The fields around that byte, outermost first, joined by dots; None if none has a name."""
 
     def __str__(self) -> str:
         inside = f" (in {self.field.replace('.', ', ')})" if self.field else ""

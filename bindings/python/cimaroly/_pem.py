@@ -40,16 +40,16 @@ _UTF_16 = (b"\xff\xfe", b"\xfe\xff")
 
 
 class PemError(ValueError):
-    """A text has no PEM block of a kind, or one that can't be decoded."""
+    """A text has no PEM block of the kind, or one that can't be decoded."""
 
 
 class Block(NamedTuple):
     """A PEM block."""
 
     label: str
-    """What stands in its first line."""
+    """The label in its first line."""
     kind: Optional[Kind]
-    """As what the label says that its bytes are to be read; None for a label of no kind."""
+    """What the label says to read its bytes as; None if it names no kind."""
     der: bytes
     """Its bytes."""
     line: int

@@ -1,4 +1,4 @@
-"""What is read of DER, and of PEM block by block."""
+"""Reading DER, and PEM block by block."""
 
 from __future__ import annotations
 
@@ -16,7 +16,7 @@ from ._structure import Structure, Verdict, checked
 class Outcome:
     """What came of one block of a PEM text, or of DER: a structure, or why there is none.
 
-    A block whose label is that of no kind has neither.
+    A block whose label names no kind has neither.
     """
 
     number: int
@@ -24,13 +24,13 @@ class Outcome:
     line: Optional[int]
     """The number of the line that begins it, from 1; None for DER."""
     label: Optional[str]
-    """What stands in this line; None for DER."""
+    """The label in this line; None for DER."""
     kind: Optional[Kind]
-    """As what it is read; None for a label of no kind."""
+    """What it is read as; None if the label names no kind."""
     structure: Optional[Structure] = None
     """What was read."""
     refused: Union[Refused, PemError, None] = None
-    """Why it is refused: `PemError` where the block itself can't be decoded."""
+    """Why it is refused: `PemError` if the block itself can't be decoded."""
 
 
 def _known(kind: str) -> None:
@@ -60,14 +60,14 @@ def _der(data: Data, kind: Kind) -> Held:
 def check(data: Data, kind: Kind = "certificate") -> Verdict:
     """Whether bytes encode a structure of a kind, and how they deviate from its DER encoding.
 
-    Of PEM the first block is taken that the kind fits. Raises `Refused`, `PemError` where there is no such block or it can't
-    be decoded, `TypeError` for what isn't data, and `MemoryError`.
+    Of PEM the first block of the kind is taken. Raises `Refused`, `PemError` if there is no such block or it can't be
+    decoded, `TypeError` for what isn't data, and `MemoryError`.
     """
     return checked(_der(data, kind), kind)
 
 
 def read(data: Data, kind: Kind = "certificate") -> Structure:
-    """Reads one structure. Of PEM the first block is taken that the kind fits.
+    """Reads one structure. Of PEM the first block of the kind is taken.
 
     Raises what `check` does.
     """
@@ -76,7 +76,7 @@ def read(data: Data, kind: Kind = "certificate") -> Structure:
 
 def read_each(data: Data, kind: Optional[Kind] = None) -> Iterator[Outcome]:
     """Reads a PEM text block by block, each as the kind that its label says, and goes on behind those that are refused; with
-    a kind, the blocks of that kind alone. DER is one structure, which is a certificate where no kind is given.
+    a kind, only the blocks of that kind. DER is one structure, a certificate if no kind is given.
 
     Raises `TypeError` for what isn't data, and `MemoryError`. A text without blocks gives nothing.
 
@@ -110,9 +110,9 @@ def _outcome_of_der(data: Union[bytes, bytearray, memoryview], kind: Kind) -> Ou
 
 
 def read_all(data: Data, kind: Optional[Kind] = None) -> list[Structure]:
-    """The structures of `read_each`, where none is refused.
+    """The structures of `read_each`, if none is refused.
 
-    Raises `Refused` or `PemError` at the first that is, `PemError` where there is no block of a known kind or of this one, and
+    Raises `Refused` or `PemError` at the first that is, `PemError` if there is no block of a known kind or of this one, and
     what `read_each` does.
     """
     found = []

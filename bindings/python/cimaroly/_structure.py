@@ -1,4 +1,4 @@
-"""Structures that were read, and what there is to ask of them."""
+"""Structures that were read, and what they can be asked."""
 
 from __future__ import annotations
 
@@ -16,7 +16,7 @@ class Verdict(NamedTuple):
     """What a check finds of bytes that aren't refused."""
 
     counts: Mapping[Deviation, int]
-    """How often each deviation stands there that does."""
+    """How often each deviation occurs; those that don't are left out."""
     headers: int
     """How many headers of elements were decoded."""
 
@@ -64,11 +64,11 @@ class SignedPart(NamedTuple):
     start: int
     end: int
     data: bytes
-    """The bytes that go to the verifier of signatures."""
+    """The bytes over which the signature is verified."""
     inside: Mapping[Deviation, int]
-    """How often each deviation stands in them that does: if none does, they are in DER."""
+    """How often each deviation occurs in them: if none does, they are in DER."""
     outside: Mapping[Deviation, int]
-    """How often each deviation stands outside of them that does."""
+    """How often each deviation occurs outside of them."""
 
 
 def _counted(counts: Any) -> dict[Deviation, int]:
@@ -108,9 +108,9 @@ def checked(der: Held, kind: Kind) -> Verdict:
 
 
 class Structure:
-    """A structure that was read. It keeps the bytes, and asks the library again for what is told of them.
+    """A structure that was read. It keeps its bytes, and asks the library again for what is told of them.
 
-    What it keeps of a private key that came as PEM or in a `bytearray` is overwritten when the structure goes.
+    What it keeps of a private key that came as PEM or in a `bytearray` is overwritten when the structure is freed.
     """
 
     def __init__(self, der: Union[bytes, bytearray, memoryview], kind: Kind = "certificate") -> None:
@@ -130,17 +130,17 @@ class Structure:
 
     @property
     def kind(self) -> Kind:
-        """As what they were read."""
+        """What they were read as."""
         return self._kind
 
     @property
     def verdict(self) -> Verdict:
-        """How often each deviation stands there, and how many headers were decoded."""
+        """How often each deviation occurs, and how many headers were decoded."""
         return self._verdict
 
     @property
     def is_der(self) -> bool:
-        """Whether the bytes are the DER encoding of what they encode: no deviation stands there."""
+        """Whether the bytes are the DER encoding of what they encode: there are no deviations."""
         return self._verdict.is_der
 
     @cached_property
@@ -152,7 +152,7 @@ class Structure:
 
     @property
     def fields(self) -> Mapping[str, Field]:
-        """The fields of a certificate, a request or a private key that are there, by their names in `cimaroly.h`.
+        """The fields that a certificate, a request or a private key has, by their names in `cimaroly.h`.
 
         Raises `ValueError` for another kind.
         """
@@ -188,11 +188,11 @@ class Structure:
         return SignedPart(start, end, self._bytes(start, end), _counted(found.inside), _counted(found.outside))
 
     def encode(self) -> bytes:
-        """The DER encoding: where no deviation stands there, the bytes that were read."""
+        """The DER encoding: if there are no deviations, the bytes that were read."""
         return _library.encode(self._kind, self._der)
 
     def report(self, *, secrets: bool = False) -> dict[str, Any]:
-        """What stands there, as docs/JSON.md tells. The secret numbers of private keys are left out, unless asked for."""
+        """The contents, as docs/JSON.md describes them. The secret numbers of private keys are left out unless asked for."""
         return _library.report(self._kind, self._der, secrets)
 
     def __repr__(self) -> str:

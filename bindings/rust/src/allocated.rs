@@ -1,4 +1,4 @@
-//! The calls over memory of the global allocator, which is asked for more until it is enough.
+//! The calls over memory from the global allocator, which is asked for more until it is enough.
 
 use alloc::string::String;
 use alloc::vec::Vec;
@@ -50,7 +50,7 @@ fn filled<T: Clone>(
 /// As [`Reader::check`].
 ///
 /// # Errors
-/// [`Error::Refused`], and [`Error::OutOfMemory`] where the allocator refuses memory.
+/// [`Error::Refused`], and [`Error::OutOfMemory`] if the allocator refuses memory.
 pub fn check(kind: Kind, der: &[u8]) -> Result<Verdict, Error> {
     lent(der, |reader| reader.check(kind, der))
 }
@@ -68,7 +68,7 @@ pub fn check(kind: Kind, der: &[u8]) -> Result<Verdict, Error> {
 /// ```
 ///
 /// # Errors
-/// [`Error::Refused`], [`Error::TooLong`], and [`Error::OutOfMemory`] where the allocator refuses
+/// [`Error::Refused`], [`Error::TooLong`], and [`Error::OutOfMemory`] if the allocator refuses
 /// memory.
 pub fn encode(kind: Kind, der: &[u8]) -> Result<Vec<u8>, Error> {
     filled(&0, der.len().saturating_add(64), |out| {
@@ -79,7 +79,7 @@ pub fn encode(kind: Kind, der: &[u8]) -> Result<Vec<u8>, Error> {
 /// As [`Reader::places`].
 ///
 /// # Errors
-/// [`Error::Refused`], and [`Error::OutOfMemory`] where the allocator refuses memory.
+/// [`Error::Refused`], and [`Error::OutOfMemory`] if the allocator refuses memory.
 pub fn places(kind: Kind, der: &[u8]) -> Result<Vec<Place>, Error> {
     filled(&Place::EMPTY, 16, |out| {
         lent(der, |reader| reader.places(kind, der, out).map(<[Place]>::len))
@@ -98,7 +98,7 @@ pub fn signed_part(kind: Kind, der: &[u8]) -> Result<SignedPart<'_>, Error> {
 /// As [`Reader::certificate`].
 ///
 /// # Errors
-/// [`Error::Refused`], and [`Error::OutOfMemory`] where the allocator refuses memory.
+/// [`Error::Refused`], and [`Error::OutOfMemory`] if the allocator refuses memory.
 pub fn certificate(der: &[u8]) -> Result<Certificate<'_>, Error> {
     lent(der, |reader| reader.certificate(der))
 }
@@ -106,7 +106,7 @@ pub fn certificate(der: &[u8]) -> Result<Certificate<'_>, Error> {
 /// As [`Reader::request`].
 ///
 /// # Errors
-/// [`Error::Refused`], and [`Error::OutOfMemory`] where the allocator refuses memory.
+/// [`Error::Refused`], and [`Error::OutOfMemory`] if the allocator refuses memory.
 pub fn request(der: &[u8]) -> Result<Request<'_>, Error> {
     lent(der, |reader| reader.request(der))
 }
@@ -114,7 +114,7 @@ pub fn request(der: &[u8]) -> Result<Request<'_>, Error> {
 /// As [`Reader::private_key`].
 ///
 /// # Errors
-/// [`Error::Refused`], and [`Error::OutOfMemory`] where the allocator refuses memory.
+/// [`Error::Refused`], and [`Error::OutOfMemory`] if the allocator refuses memory.
 pub fn private_key(der: &[u8]) -> Result<PrivateKey<'_>, Error> {
     lent(der, |reader| reader.private_key(der))
 }
@@ -138,7 +138,7 @@ pub fn extensions(kind: Kind, der: &[u8]) -> Result<Vec<Extension<'_>>, Error> {
 /// As [`Reader::report`].
 ///
 /// # Errors
-/// [`Error::OutOfMemory`] where the allocator refuses memory.
+/// [`Error::OutOfMemory`] if the allocator refuses memory.
 pub fn report(kind: Kind, der: &[u8], secrets: bool) -> Result<String, Error> {
     let first = der.len().saturating_mul(8).saturating_add(1024);
     let text = filled(&0, first, |out| {

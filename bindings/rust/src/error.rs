@@ -10,14 +10,14 @@ use crate::field_path::FieldPath;
 pub enum Error {
     /// The input encodes no value of the kind.
     Refused(Refused),
-    /// The memory that was lent is too little: nothing is known of the input.
+    /// The lent memory was too little; nothing is known of the input.
     OutOfMemory,
-    /// The buffer is too short, and is as it was.
+    /// The buffer is too short, and is unchanged.
     BufferTooShort {
         /// How many bytes or items are needed.
         needed: usize,
     },
-    /// What is to be written has 2^64 bytes or more.
+    /// The encoding would have 2^64 bytes or more.
     TooLong,
     /// The call isn't for this kind.
     WrongKind,
@@ -72,7 +72,7 @@ pub enum Reason {
     Truncated = 2,
     /// Bytes are left over.
     LeftOver = 3,
-    /// Another tag than one that can stand there.
+    /// A tag that can't stand there.
     WrongTag = 4,
     /// A length that isn't in the fewest bytes, or is indefinite.
     BadLength = 5,
@@ -84,9 +84,9 @@ pub enum Reason {
     BadBits = 8,
     /// An object identifier that is malformed.
     BadOid = 9,
-    /// A character that its string can't have.
+    /// A character that the string type can't have.
     BadText = 10,
-    /// A time that is malformed, or none of the calendar.
+    /// A time that is malformed, or that the calendar doesn't have.
     BadTime = 11,
     /// A version that isn't known.
     BadVersion = 12,

@@ -2,7 +2,7 @@
 
 use core::fmt;
 
-/// As what an input is read.
+/// What an input can be read as.
 #[derive(Clone, Copy, Debug, PartialEq, Eq, Hash)]
 #[non_exhaustive]
 pub enum Kind {
@@ -24,7 +24,7 @@ pub enum Kind {
     Name = 8,
     /// `Extensions` (RFC 5280, 4.1).
     Extensions = 9,
-    /// `AlgorithmIdentifier` (RFC 5280, 4.1.1.2), of an algorithm that is known.
+    /// `AlgorithmIdentifier` (RFC 5280, 4.1.1.2) of a known algorithm.
     Algorithm = 10,
     /// `AlgorithmIdentifier` with any parameters.
     RawAlgorithm = 11,
@@ -82,11 +82,11 @@ impl fmt::Display for Kind {
 pub enum Deviation {
     /// The algorithm identifier of rsaEncryption or of a PKCS #1 v1.5 signature without its NULL.
     RsaParametersAbsent = 1,
-    /// An algorithm identifier without parameters, where it is read as a [`Kind::RawAlgorithm`].
+    /// An algorithm identifier without parameters, if it is read as a [`Kind::RawAlgorithm`].
     AlgorithmParametersAbsent = 2,
     /// A hash algorithm identifier without its NULL.
     HashParametersAbsent = 3,
-    /// A salt length above 2^64 - 1, which is taken for 2^64 - 1.
+    /// A salt length above 2^64 - 1, which is read as 2^64 - 1.
     SaltTooLarge = 4,
     /// A certificate's version 1, which is the default.
     DefaultVersionEncoded = 5,
@@ -96,7 +96,7 @@ pub enum Deviation {
     DefaultCriticalityEncoded = 7,
     /// Fields of an authority key identifier whose tags don't ascend.
     AuthorityKeyFieldOrder = 8,
-    /// A general name with an explicit tag in place of an implicit one, or of a directory name the
+    /// A general name with an explicit tag in place of an implicit one, or for a directory name the
     /// reverse.
     GeneralNameForm = 9,
     /// An element behind a private key that isn't understood, such as `attributes [0]`.

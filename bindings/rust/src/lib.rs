@@ -24,14 +24,13 @@
 //! ```
 //!
 //! With the feature `alloc`, which is on by default, there are functions of the same names at the
-//! root of the crate, which take memory from the global allocator, and more of it until it is
-//! enough.
+//! root of the crate, which take memory from the global allocator, and more until it is enough.
 //!
 //! # Linking
 //!
 //! The build script links the archive of the package's `lib/` for the target's processor, or that of
 //! the folder that the variable `CIMAROLY_LIB_DIR` names. There are archives for x86-64 processors
-//! with SSE4.2 and for aarch64, and they need `memcpy`, `memmove` and `memset` alone.
+//! with SSE4.2 and for aarch64, and they need only `memcpy`, `memmove` and `memset`.
 #![no_std]
 
 #[cfg(feature = "alloc")]

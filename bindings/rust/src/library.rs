@@ -17,7 +17,7 @@ use crate::told::{Counts, Place};
 pub struct Block(MaybeUninit<[u8; 16]>);
 
 impl Block {
-    /// A block for an array: `[Block::UNINIT; 1024]` are 16 KB.
+    /// A block for an array: `[Block::UNINIT; 1024]` is 16 KB.
     pub const UNINIT: Block = Block(MaybeUninit::uninit());
 }
 

@@ -13,8 +13,8 @@ use crate::told::{Place, SignedPart, Verdict};
 /// Reads inputs, in memory that it is lent. Nothing of an input is kept from one call to the next.
 ///
 /// A certificate needs some 15 times its size and a few thousand bytes, a list of many small items up
-/// to 160 times, and a report some 40 times; of what is refused the field takes a kilobyte more. With
-/// too little the answer is [`Error::OutOfMemory`], and never another.
+/// to 160 times, and a report some 40 times; the field of a refusal takes a kilobyte more. With too
+/// little the answer is [`Error::OutOfMemory`], and never another.
 ///
 /// ```
 /// use cimaroly::{Block, Error, Kind, Reader, Reason};
@@ -55,8 +55,8 @@ impl<'m> Reader<'m> {
         }
     }
 
-    /// Writes the DER encoding of what the input encodes to the front of `out`. Where the input has
-    /// no deviation, these are its own bytes.
+    /// Writes the DER encoding of what the input encodes to the front of `out`. If the input has no
+    /// deviations, these are its own bytes.
     ///
     /// # Errors
     /// [`Error::Refused`], [`Error::OutOfMemory`], [`Error::BufferTooShort`] and
@@ -181,8 +181,8 @@ impl<'m> Reader<'m> {
     }
 
     /// Writes what stands in the input to the front of `out`, as a JSON object (docs/JSON.md of the
-    /// repository). The secret numbers of private keys are left out, unless `secrets` is true. Also
-    /// where the input is refused: then the object says why and where.
+    /// repository). The secret numbers of private keys are left out unless `secrets` is true. If the
+    /// input is refused, the object says why and where.
     ///
     /// # Errors
     /// [`Error::OutOfMemory`] and [`Error::BufferTooShort`].

@@ -3,7 +3,7 @@
 use crate::fields::Field;
 use crate::kind::Deviation;
 
-/// How often each deviation stands in an input, or in a part of it.
+/// How often each deviation occurs in an input, or in a part of it.
 #[derive(Clone, Copy, Debug, Default, PartialEq, Eq)]
 #[repr(transparent)]
 pub struct Counts([usize; 10]);
@@ -21,7 +21,7 @@ impl Counts {
         self.0.iter().sum()
     }
 
-    /// Each deviation that stands there, with how often it does.
+    /// Each deviation that occurs, with how often it does.
     pub fn iter(&self) -> impl Iterator<Item = (Deviation, usize)> + '_ {
         let all = Deviation::ALL.into_iter().zip(self.0);
         all.filter(|(_, count)| *count > 0)
@@ -31,7 +31,7 @@ impl Counts {
 /// What a check finds.
 #[derive(Clone, Copy, Debug, PartialEq, Eq)]
 pub struct Verdict {
-    /// How often each deviation stands there.
+    /// How often each deviation occurs.
     pub counts: Counts,
     /// How many headers of elements were decoded.
     pub headers: usize,
@@ -70,10 +70,10 @@ impl Place {
 /// What the signature of a certificate or a request covers.
 #[derive(Clone, Copy, Debug, PartialEq, Eq)]
 pub struct SignedPart<'a> {
-    /// The bytes that go to the verifier of signatures.
+    /// The bytes over which the signature is verified.
     pub part: Field<'a>,
-    /// How often each deviation stands in them: if none does, they are in DER.
+    /// How often each deviation occurs in them: if none does, they are in DER.
     pub inside: Counts,
-    /// How often each deviation stands outside of them.
+    /// How often each deviation occurs outside of them.
     pub outside: Counts,
 }
