@@ -1,21 +1,33 @@
 // One entry of what was taken: the bytes of a structure, and what the library says of them.
 
-import { kindsOf } from "./input.mjs";
+import { formatOf } from "./formats.mjs";
+import { LOOSE_KINDS, kindsOf, passedOver } from "./input.mjs";
 import { captionOf, isPrivate, titleOf } from "./summary.mjs";
 
 /** An entry: one structure, or a PEM block that is none. */
 export class Entry {
-  constructor(cimaroly, { file, line, label, kind, bytes, outcome, reason }) {
-    Object.assign(this, { cimaroly, file, line, label, bytes, outcome, reason });
+  constructor(cimaroly, { file, line, label, kind, bytes, outcome, reason, format = null }) {
+    Object.assign(this, { cimaroly, file, line, label, bytes, outcome, reason, format });
     this.labelKind = kind;
   }
 
-  /** As which types the bytes are read where no label says it; the first is taken. */
+  /** The types that the bytes can be read as if no label says one; the first is taken. */
   get kinds() {
     if (this.bytes === undefined || this.reason !== undefined) return [];
-    const refusedAt = (bytes, kind) => this.refusedAt(bytes, kind);
-    this.foundKinds ??= this.labelKind ? [this.labelKind] : kindsOf(this.bytes, refusedAt);
+    this.foundKinds ??= this.labelKind ? [this.labelKind] : this.kindsWithoutLabel();
     return this.foundKinds;
+  }
+
+  // None if they are in another format, unless a type accepts them that other structures aren't read as.
+  kindsWithoutLabel() {
+    const { accepting, furthest } = kindsOf(this.bytes, (bytes, kind) => this.refusedAt(bytes, kind));
+    this.isUncertain = accepting.length > 0 && accepting.every((it) => LOOSE_KINDS.includes(it));
+    const format = accepting.length === 0 || this.isUncertain ? formatOf(this.bytes) : null;
+    if (format !== null) {
+      Object.assign(this, passedOver(format));
+      return [];
+    }
+    return accepting.length > 0 ? accepting : [furthest];
   }
 
   refusedAt(bytes, kind) {
@@ -64,15 +76,17 @@ export class Entry {
     return this.cimaroly.report(this.bytes, this.kind, { secrets: true });
   }
 
-  /** Whether it is, or may be, a private key: a label or a type says so, or it is refused and begins with a version. */
+  /** Whether it is, or may be, a private key: a label, a type or a format says so, or it is refused and begins with a version. */
   get isPrivate() {
     if (this.label?.includes("PRIVATE") || this.kinds.some(isPrivate) || isPrivate(this.kind ?? "")) return true;
+    if (this.format?.holdsKeys) return true;
     return this.report.result === "refused" && beginsWithVersion(this.bytes);
   }
 
   /** What it is called. */
   get title() {
-    return this.kind === null ? (this.label ?? "Unrecognized input") : titleOf(this.kind);
+    if (this.kind !== null) return titleOf(this.kind);
+    return this.label ?? this.format?.name.replace(/^an? /, "").replace(/^e/, "E") ?? "Unrecognized input";
   }
 
   /** Whose it is, or why it isn't read. */

@@ -1,16 +1,23 @@
 // What a file or a text holds: PEM blocks, DER, or hexadecimal or base64 digits.
 
+import { formatOf, formatOfLabel } from "./formats.mjs";
 import { KINDS, fromBase64, isSequence, isUtf16, kindOfLabel, pemBlocks } from "../pem.mjs";
 
 /** How many bytes an input may have. */
 export const LONGEST = 1 << 25;
 
-const OTHER = "this type of PEM block isn’t supported";
+const OTHER = "this type of PEM block isn’t read";
 const UTF_16 = "UTF-16 text: save it as UTF-8";
 const NOTHING = "no PEM, DER, hexadecimal or base64 that can be read";
 
 function fromHex(digits) {
   return Uint8Array.from(digits.match(/../g), (it) => parseInt(it, 16));
+}
+
+/** What is said of bytes in a format that isn't read; without one, of a PEM block with another label. */
+export function passedOver(format) {
+  const reason = format === null ? OTHER : `${format.name}, which isn’t read`;
+  return { outcome: "passed over", reason, format };
 }
 
 function pemStructures(text) {
@@ -19,7 +26,7 @@ function pemStructures(text) {
     const kind = kindOfLabel(block.label) ?? null;
     const { label, line } = block;
     if (block.reason) found.push({ label, line, kind: null, outcome: "refused", reason: block.reason });
-    else if (kind === null) found.push({ ...block, kind, outcome: "passed over", reason: OTHER });
+    else if (kind === null) found.push({ ...block, kind, ...passedOver(formatOfLabel(label)) });
     else found.push({ ...block, kind });
   }
   return found;
@@ -45,12 +52,16 @@ export function structuresIn(bytes) {
   const decoded = fromBase64(digits);
   if (decoded !== null && decoded[0] === 0x30) return [{ bytes: decoded, kind: null }];
   if (bytes[0] === 0x30) return [{ bytes, kind: null }];
-  return [{ kind: null, outcome: "refused", reason: NOTHING }];
+  const format = formatOf(bytes);
+  return [{ kind: null, ...(format ? passedOver(format) : { outcome: "refused", reason: NOTHING }) }];
 }
 
+/** The types as which other structures are read too. */
+export const LOOSE_KINDS = ["name", "algorithm", "raw-algorithm"];
+
 /**
- * As which types bytes are read, by a function that reports them as one; where no type accepts them, the one whose
- * reading got furthest.
+ * Which types accept bytes, by a function that answers null or where it refuses them as one; and of those that don't, the
+ * one whose reading got furthest.
  */
 export function kindsOf(bytes, report) {
   const accepting = [];
@@ -60,7 +71,7 @@ export function kindsOf(bytes, report) {
     if (at === null) accepting.push(kind);
     else if (at > furthest.at) furthest = { kind, at };
   }
-  return accepting.length > 0 ? accepting : [furthest.kind];
+  return { accepting, furthest: furthest.kind };
 }
 
 /** The type and the bytes that the part of a link behind `#` holds, or null. */

@@ -104,12 +104,18 @@ export class Result {
     this.drawOthers();
   }
 
-  // Which other types accept the bytes, where no label says which is meant.
+  // What else the bytes may be, if no label says what is meant.
   drawOthers() {
     const { structure } = this;
     const others = structure.kinds.filter((it) => it !== structure.kind);
-    if (structure.kinds.length < 2 || others.length === 0) return;
-    this.note(`These bytes can also be read as: ${others.map((it) => titleOf(it).toLowerCase()).join(", ")}.`);
+    const parts = [];
+    if (structure.kinds.length > 1 && others.length > 0) {
+      parts.push(`These bytes can also be read as: ${others.map((it) => titleOf(it).toLowerCase()).join(", ")}.`);
+    }
+    if (structure.isUncertain && structure.kinds.includes(structure.kind)) {
+      parts.push("No label says what these bytes are: other structures can be read as this type too.");
+    }
+    this.note(parts.join(" "));
   }
 
   drawSummary(report) {

@@ -139,6 +139,7 @@ function elementValue({ at: [start, end], identify }, bytes) {
   if (element.tag & 0x20) return null;
   if (TEXT_TAGS.has(element.tag) || TIME_TAGS.has(element.tag)) return textValue(decoded(bytes, element));
   const content = bytes.subarray(element.content, end);
+  if (element.tag === 5 && content.length === 0) return null;
   const named = element.tag === 6 ? identified(identify, bytes.subarray(start, end), content) : null;
   if (named !== null) return named;
   const value = octets(hex(content.subarray(0, MOST_BYTES)));

@@ -7,25 +7,10 @@ import { fieldsOf, lineOf } from "../page/fields.mjs";
 import { summaryOf } from "../page/summary.mjs";
 import { valueOf } from "../page/values.mjs";
 import { PROGRAM, runOn } from "./data.mjs";
+import { element, integer } from "./der.mjs";
 import { linesOf, shownOf } from "./shown.mjs";
 
 const NOT_HERE = PROGRAM === null && "the program isn't there: set CIMAROLY, or make dist/ by tools/dist.sh";
-
-// An element in DER of fewer than 65,536 bytes.
-function element(tag, ...parts) {
-  const content = Buffer.concat(parts.map((it) => Buffer.from(it)));
-  const size = content.length;
-  const length = size < 128 ? [size] : size < 256 ? [0x81, size] : [0x82, size >> 8, size & 255];
-  return Buffer.concat([Buffer.of(tag, ...length), content]);
-}
-
-// A number in DER (X.690, 8.3), in the fewest bytes of two's complement.
-function integer(number) {
-  let count = 1;
-  while (BigInt.asIntN(8 * count, number) !== number) count += 1;
-  const digits = BigInt.asUintN(8 * count, number).toString(16).padStart(2 * count, "0");
-  return element(2, Buffer.from(digits, "hex"));
-}
 
 const rsaKey = (modulus) => element(0x30, integer(modulus), integer(3n));
 const identifier = (digits) => element(0x30, Buffer.from(digits, "hex"));

@@ -57,7 +57,7 @@ test("labels say the type, and others are passed over", () => {
   const kinds = ["X509 CERTIFICATE", "NEW CERTIFICATE REQUEST", "EC PRIVATE KEY", "X509 CRL"];
   const found = structuresIn(bytes(kinds.map((it) => block(it)).join("")));
   assert.deepEqual(found.map((it) => it.kind), ["certificate", "request", "ec-private-key", null]);
-  assert.equal(found[3].outcome, "passed over");
+  assert.deepEqual([found[3].outcome, found[3].reason], ["passed over", "a CRL, which isn’t read"]);
 });
 
 test("every sample holds one structure", () => {
@@ -66,8 +66,9 @@ test("every sample holds one structure", () => {
 
 test("where no type accepts bytes, that counts which got furthest", () => {
   const at = { request: 7, "public-key": 12 };
-  assert.deepEqual(kindsOf(null, (_, kind) => at[kind] ?? 2), ["public-key"]);
-  assert.deepEqual(kindsOf(null, (_, kind) => (kind.includes("algorithm") ? null : 2)), ["algorithm", "raw-algorithm"]);
+  assert.deepEqual(kindsOf(null, (_, kind) => at[kind] ?? 2), { accepting: [], furthest: "public-key" });
+  const accepted = kindsOf(null, (_, kind) => (kind.includes("algorithm") ? null : 2));
+  assert.deepEqual(accepted.accepting, ["algorithm", "raw-algorithm"]);
 });
 
 test("links hold structures, and never private keys", () => {
