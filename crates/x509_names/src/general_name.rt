@@ -363,6 +363,7 @@ impl<A: Allocator + Copy> Field<A> for GeneralName<A> {
         )
     }
 
+    #[inline(always)]
     fn pass(alloc: A, reader: &mut Reader<'_, A>) -> Result<(), ReadError> {
         pass_of_four::<Self, StrictFront<A>, StrictBack<A>, LooseFront<A>, LooseBack<A>, A>(
             alloc, reader,

@@ -1,7 +1,7 @@
 //! Which bytes are the content of an object identifier.
 
 ghost use Rattle.std.specs.Prelude.{◌≡◌, ◌+◌, ◌≤◌, ◌<◌, ◌&&◌, ◌==◌, ℕ, List, length, IfOk, IfErr, IsTrue, count_by, nat_lt};
-ghost use Rattle.x509_der_parts.specs.declared.errors.ReadError.TheVariants.{OutOfMemory};
+ghost use Rattle.x509_der_parts.specs.declared.errors.ReadError.TheVariants.{BadOid};
 ghost use Rattle.x509_der.specs.ObjectIdentifier.{IsOid, arcs_spelled, oid_content};
 
 use x509_der_parts::errors::ReadError;
@@ -59,7 +59,7 @@ fn check_few(bytes: &[u8]) -> Result<(), ReadError>
     requires few { length bytes.now ≤ 9 }
     ensures ok { IfOk result (λ _. IsOid (arcs_spelled bytes.now) bytes.now) }
     ensures err { IfErr result (λ e. (v : List ℕ) → IsOid v bytes.now → ⊥) }
-    ensures kind { IfErr result (λ e. e ≡ OutOfMemory → ⊥) }
+    ensures kind { IfErr result (λ e. e ≡ BadOid) }
 {
     let mut is_fresh = true;
     for byte in bytes {
@@ -83,11 +83,11 @@ fn check_few(bytes: &[u8]) -> Result<(), ReadError>
 /// Checks that bytes are the content of an object identifier.
 ///
 /// # Errors
-/// Refused exactly where they aren't; never for memory.
+/// `BadOid`, exactly where they aren't.
 pub(crate) fn check(bytes: &[u8]) -> Result<(), ReadError>
     ensures ok { IfOk result (λ _. IsOid (arcs_spelled bytes.now) bytes.now) }
     ensures err { IfErr result (λ e. (v : List ℕ) → IsOid v bytes.now → ⊥) }
-    ensures kind { IfErr result (λ e. e ≡ OutOfMemory → ⊥) }
+    ensures kind { IfErr result (λ e. e ≡ BadOid) }
 {
     if bytes.is_empty() {
         return Err(ReadError::BadOid);

@@ -1,6 +1,6 @@
 //! Bytes that are held in the value itself where they are few, and in memory beyond.
 
-ghost use Rattle.std.specs.Prelude.{◌≡◌, ◌≤◌, length, IfOk};
+ghost use Rattle.std.specs.Prelude.{◌≡◌, ◌≤◌, ◌<◌, length, IfOk, IfErr};
 ghost use Rattle.x509_der.specs.Held.{held_bytes};
 
 use std::alloc::{AllocError, Allocator};
@@ -74,7 +74,8 @@ pub(crate) enum Held<A: Allocator> {
 /// # Errors
 /// `AllocError` where memory is refused.
 pub(crate) fn hold<A: Allocator>(alloc: A, bytes: &[u8]) -> Result<Held<A>, AllocError>
-    ensures { IfOk result (λ h. held_bytes h ≡ bytes.now) }
+    ensures ok { IfOk result (λ h. held_bytes h ≡ bytes.now) }
+    ensures few { IfErr result (λ _. 22 < length bytes.now) }
 {
     if bytes.len() <= ROOM {
         Ok(Held::Short(Short::of(bytes)))

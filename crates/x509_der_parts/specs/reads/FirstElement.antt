@@ -1,11 +1,13 @@
 -- Which element begins a string.
-use Rattle.std.proofs.Common.{◌≡◌, ℕ, ◌≤◌, ◌<◌, ◌%◌, ◌^◌, true, not, ◌==◌, List, [], ◌∷◌, ◌++◌, length, take, drop, get_or, refl, ap, sym, ◌∙◌, arith, rules, append_assoc, length-append, length-drop}
+use Rattle.std.proofs.Common.{◌≡◌, ℕ, ◌≤◌, ◌<◌, ◌%◌, ◌^◌, true, false, not, ◌==◌, List, [], ◌∷◌, ◌++◌, length, take, drop, get_or, ◌⊎◌, inl, inr, refl, ap, sym, ◌∙◌, arith, rules, append_assoc, length-append, length-drop}
 use Rattle.std.proofs.lemmas.List.{take-append-drop, length-take-le}
 use Rattle.std.proofs.lemmas.Bool.Decides.{nat_tests}
 use Rattle.x509_der_parts.specs.Reading.{is_tag}
 use Rattle.x509_der_parts.specs.Element.{digits, element}
 use Rattle.x509_der_parts.specs.facts.LengthDigits.{digits_one}
 use Rattle.x509_der_parts.specs.Reading.{IsFirst}
+use Rattle.x509_der_parts.specs.FirstFault.{HighTag, NoDigits, CutShort, FirstFault}
+use Rattle.x509_der_parts.specs.declared.errors.ReadError.TheVariants.{Truncated}
 
 first_cons : (bytes : List ℕ) → 1 ≤ length bytes → bytes ≡ get_or bytes 0 0 ∷ drop 1 bytes
 first_cons [] n = absurd (omega arith)
@@ -53,3 +55,34 @@ is_first bytes n k l b m d h =
       tag = not_long (get_or bytes 0 0) m;
       byte = b;
     }
+
+pub no_bytes : (bytes : List ℕ) → length bytes < 1 → FirstFault bytes Truncated
+no_bytes [] n = inl refl
+no_bytes (b ∷ bytes) n = absurd (omega arith)
+
+pub high_tag : (bytes : List ℕ) → 1 ≤ length bytes → get_or bytes 0 0 % 32 ≡ 31 → HighTag bytes
+high_tag bytes n m = record {
+  tag = get_or bytes 0 0;
+  rest = drop 1 bytes;
+  bytes = first_cons bytes n;
+  high = ap (λ x. not (x == 31)) m;
+}
+
+pub no_digits : (bytes : List ℕ) → 1 ≤ length bytes → (get_or bytes 0 0 % 32 ≡ 31 → ⊥) → ((n : ℕ) (q : List ℕ) → n < 2 ^ 64 → drop 1 bytes ≡ digits n ++ q → ⊥) → NoDigits bytes
+no_digits bytes l m none = record {
+  tag = get_or bytes 0 0;
+  rest = drop 1 bytes;
+  bytes = first_cons bytes l;
+  low = not_long (get_or bytes 0 0) m;
+  none = none;
+}
+
+pub cut_short : (bytes : List ℕ) (n k : ℕ) → 1 ≤ length bytes → (get_or bytes 0 0 % 32 ≡ 31 → ⊥) → drop 1 bytes ≡ digits n ++ drop k (drop 1 bytes) → length (drop k (drop 1 bytes)) < n → CutShort bytes
+cut_short bytes n k l m d short = record {
+  tag = get_or bytes 0 0;
+  size = n;
+  rest = drop k (drop 1 bytes);
+  bytes = first_cons bytes l ∙ ap (λ x. get_or bytes 0 0 ∷ x) d;
+  low = not_long (get_or bytes 0 0) m;
+  short = short;
+}

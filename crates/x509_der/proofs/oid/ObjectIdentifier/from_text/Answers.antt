@@ -28,7 +28,7 @@ returns-then-not-is_lawful-clause-bad g c =
 pub returns-clause-ok : goal.returns-clause-ok
 returns-clause-ok g c =
     let end = YieldsList-end (YieldsList-from_str_split 46 c.args.text.now (lit< tt) (cc) (cc) (cc)) c.loop-piece.yielded _ c.loop-piece.yielded_by _ _ c.in-None.is c.next.ensures.steps in
-    rw (c.in_ok-identifier.ensures, c.deref-2.ensures.value) (rw c.deref.ensures.value at (c.is_lawful.ensures.0 c.if-not-is_lawful.false), text_from_pieces c.args.text.now c.loop-piece.arcs.items (c.loop-piece.invariant.2 ∙ take_all _ _ (omega (arith, end.1))))
+    rw (c.in_ok-identifier.ensures.ok, c.deref-2.ensures.value) (rw c.deref.ensures.value at (c.is_lawful.ensures.0 c.if-not-is_lawful.false), text_from_pieces c.args.text.now c.loop-piece.arcs.items (c.loop-piece.invariant.2 ∙ take_all _ _ (omega (arith, end.1))))
 
 pub loop-piece-init : goal.loop-piece-init
 loop-piece-init g c = rw c.new-arcs.ensures.items (tt, tt, refl, all_fit-nil)
