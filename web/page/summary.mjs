@@ -52,7 +52,7 @@ const ALGORITHMS = new Map([
   ["2.16.840.1.101.3.4.3.19", "ML-DSA-87"],
 ]);
 
-// The sizes in bits of the keys of curves (RFC 5480, 2.1.1.1; RFC 7748; RFC 8032).
+// The sizes in bits of the keys of curves (RFC 5480, 2.1.1.1; RFC 7748; RFC 8032; FIPS 204, table 2).
 const CURVES = new Map([
   ["1.2.840.10045.3.1.1", 192],
   ["1.2.840.10045.3.1.7", 256],
@@ -165,6 +165,11 @@ function requestRows({ certificationRequestInfo: fields }, bytes) {
   ];
 }
 
+function extensionsRows(list, bytes) {
+  const names = list.items.filter((it) => it.id === "2.5.29.17");
+  return [["extensions", String(list.items.length), list], ...names.map((it) => ["names", namesLine(it, bytes), it])];
+}
+
 const ROWS = {
   Certificate: certificateRows,
   CertificationRequest: requestRows,
@@ -174,7 +179,7 @@ const ROWS = {
   RSAPublicKey: (it) => [["key", `RSA, ${it.modulus.bits} bits`, it.modulus]],
   ECPrivateKey: (it) => [["key", ecLine(it), it]],
   Name: (it, bytes) => [["name", nameLine(it, bytes), it]],
-  Extensions: (it) => [["extensions", grouped(it.items.length), it]],
+  Extensions: extensionsRows,
   AlgorithmIdentifier: (it) => [["algorithm", valueOf("", it.algorithm, new Uint8Array(1)).whole, it]],
 };
 
