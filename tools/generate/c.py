@@ -1,20 +1,27 @@
 """What bindings/c/cimaroly.h has of the tables: enums, names, and where fields stand."""
 
+import itertools
+
 from . import tables
 from .regions import Region
 
 PATH = "bindings/c/cimaroly.h"
 
 
-def aligned(rows):
-    """Lines of code and comments, with the comments below one another: of an enum, whose last item has no comma."""
-    codes = [code + "," for code, _ in rows[:-1]] + [rows[-1][0]]
-    width = max(map(len, codes))
-    return [f"    {code.ljust(width)} /* {comment} */" if comment else f"    {code}" for code, (_, comment) in zip(codes, rows)]
+def lines_of(rows):
+    """Lines of code and comments; where lines with comments follow one another, these are below one another."""
+    lines = []
+    for _, run in itertools.groupby(rows, key=lambda row: row[1] != ""):
+        run = list(run)
+        width = max(len(code) for code, _ in run)
+        lines += [f"    {code.ljust(width)} /* {comment} */" if comment else f"    {code}" for code, comment in run]
+    return lines
 
 
 def enum(name, rows):
-    return Region(PATH, f"enum cimaroly_{name} {{", "};", aligned(rows))
+    rows = [(f"{code},", comment) for code, comment in rows]
+    rows[-1] = (rows[-1][0][:-1], rows[-1][1])
+    return Region(PATH, f"enum cimaroly_{name} {{", "};", lines_of(rows))
 
 
 def enums():
@@ -38,15 +45,8 @@ def comment_of(field):
 
 
 def struct(kind):
-    """The struct of a kind's fields: comments of lines that follow one another are below one another."""
-    rows = [(f"    struct cimaroly_span {it.member};", comment_of(it)) for it in tables.fields(kind)]
-    widths = [len(code) if comment else 0 for code, comment in rows]
-    for at in range(1, len(rows)):
-        widths[at] = max(widths[at], widths[at - 1]) if widths[at] and widths[at - 1] else widths[at]
-    for at in range(len(rows) - 1, 0, -1):
-        widths[at - 1] = max(widths[at], widths[at - 1]) if widths[at] and widths[at - 1] else widths[at - 1]
-    lines = [f"{code.ljust(width)} /* {comment} */" if comment else code for (code, comment), width in zip(rows, widths)]
-    return Region(PATH, f"struct cimaroly_{'_'.join(tables.words_of(kind))} {{", "};", lines)
+    rows = [(f"struct cimaroly_span {it.member};", comment_of(it)) for it in tables.fields(kind)]
+    return Region(PATH, f"struct cimaroly_{'_'.join(tables.words_of(kind))} {{", "};", lines_of(rows))
 
 
 def names(function, table):
@@ -56,6 +56,6 @@ def names(function, table):
 
 def regions():
     yield from enums()
-    yield from map(struct, tables.WITH_FIELDS)
+    yield from map(struct, tables.with_fields())
     yield names("error", "errors")
     yield names("deviation", "deviations")

@@ -41,7 +41,7 @@ def core():
     statuses = [f"{tables.member(it.name)}: {it.number}" for it in tables.rows_of("statuses")]
     yield constant("core.mjs", "// What a call answers.", [f"const STATUS = {{ {', '.join(statuses)} }};"], "")
     lines = []
-    for kind in tables.WITH_FIELDS[:-1]:
+    for kind in tables.kinds_with_fields():
         call = f"cimaroly_{'_'.join(tables.words_of(kind))}_fields"
         lines += [f"  {key(kind)}: {{", f'    call: "{call}",']
         lines += [*array("    ", "names: ", [quoted(it.name) for it in tables.fields(kind)], ","), "  },"]
@@ -52,7 +52,7 @@ def types():
     path, kinds = "web/cimaroly.d.ts", tables.kinds()
     union = [f'  | "{it.name}"' for it in kinds]
     yield Region(path, "export type Kind =", "", [*union[:-1], f"{union[-1]};"])
-    for kind in tables.WITH_FIELDS[:-1]:
+    for kind in tables.kinds_with_fields():
         yield Region(path, f"export interface {tables.variant(kind)}Fields {{", "}", members(kind))
     roots = dict.fromkeys(it.type for it in kinds)
     yield Region(path, "  field?: string;", "}", [f"  {it}?: ReportNode;" for it in roots])

@@ -38,4 +38,4 @@ def regions():
     statuses = tables.rows_of("statuses")
     line = f"{', '.join(it.name for it in statuses)} = range({len(statuses)})"
     yield Region(LIBRARY, "# What a call answers.", "", [line])
-    yield from map(structure, tables.WITH_FIELDS)
+    yield from map(structure, tables.with_fields())

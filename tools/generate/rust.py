@@ -85,5 +85,5 @@ def regions():
     told = [it for it in tables.rows_of("statuses") if it.name in TOLD]
     lines = [f"    pub(crate) const {it.name}: u32 = {it.number};" for it in told]
     yield Region(f"{SOURCE}/library.rs", "pub(crate) mod status {", "}", lines)
-    for kind in tables.WITH_FIELDS:
+    for kind in tables.with_fields():
         yield from structs(kind)

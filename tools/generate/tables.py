@@ -38,8 +38,13 @@ def fields(kind):
     return [it for it in rows_of("fields") if it.kind == kind]
 
 
-# The kinds that have fields, with extensions at the end.
-WITH_FIELDS = ("certificate", "request", "private-key", "extension")
+def with_fields():
+    """The kinds whose fields are told, and an extension, whose fields are too."""
+    return list(dict.fromkeys(it.kind for it in rows_of("fields")))
+
+
+def kinds_with_fields():
+    return [it for it in with_fields() if it != "extension"]
 
 
 def words_of(name):

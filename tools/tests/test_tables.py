@@ -132,7 +132,7 @@ class ByHand(unittest.TestCase):
     def test_fields(self):
         """The structs of the C calls have them in this order, and refusals name them."""
         named = text_of("crates/x509_inspect_parts/src/field_path.rt")
-        for kind in tables.WITH_FIELDS:
+        for kind in tables.with_fields():
             rows = tables.fields(kind)
             name = "certificate_fields" if kind == "certificate" else f"{kind.replace('-', '_')}_fields"
             path = "extensions" if kind == "extension" else name

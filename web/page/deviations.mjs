@@ -1,4 +1,5 @@
-// What each deviation is, and what the DER encoding has in its place (README's table of ten).
+// What each deviation is, and what the DER encoding has in its place (README's table of ten), as tools/make_tables.py writes
+// it.
 
 const SENTENCES = new Map([
   [

@@ -1,4 +1,5 @@
-// What a structure is, in a few lines: whose it is, how long it is valid, which key it has.
+// What a structure is, in a few lines: whose it is, how long it is valid, which key it has. tools/make_tables.py writes the
+// titles, short names, algorithms and sizes.
 
 import { clipped, counted, grouped, shown } from "./text.mjs";
 import { isNode, valueOf } from "./values.mjs";
