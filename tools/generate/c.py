@@ -50,7 +50,8 @@ def struct(kind):
 
 
 def names(function, table):
-    behind = f"static inline const char *cimaroly_{function}_name(size_t {function})\n{{\n    static const char *const names[] = {{"
+    behind = f"static inline const char *cimaroly_{function}_name(size_t {function})\n{{"
+    behind += "\n    static const char *const names[] = {"
     return Region(PATH, behind, "    };", ['        "",', *[f'        "{it.text}",' for it in tables.rows_of(table)]])
 
 

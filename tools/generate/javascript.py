@@ -42,8 +42,7 @@ def core():
     yield constant("core.mjs", "// What a call answers.", [f"const STATUS = {{ {', '.join(statuses)} }};"], "")
     lines = []
     for kind in tables.kinds_with_fields():
-        call = f"cimaroly_{'_'.join(tables.words_of(kind))}_fields"
-        lines += [f"  {key(kind)}: {{", f'    call: "{call}",']
+        lines += [f"  {key(kind)}: {{", f'    call: "{tables.call_of(kind)}",']
         lines += [*array("    ", "names: ", [quoted(it.name) for it in tables.fields(kind)], ","), "  },"]
     yield constant("core.mjs", "const FIELDS = {", lines, "};")
 
@@ -54,6 +53,8 @@ def types():
     yield Region(path, "export type Kind =", "", [*union[:-1], f"{union[-1]};"])
     for kind in tables.kinds_with_fields():
         yield Region(path, f"export interface {tables.variant(kind)}Fields {{", "}", members(kind))
+    lines = [f"  {key(it)}: {tables.variant(it)}Fields;" for it in tables.kinds_with_fields()]
+    yield Region(path, "export interface FieldsByKind {", "}", lines)
     roots = dict.fromkeys(it.type for it in kinds)
     yield Region(path, "  field?: string;", "}", [f"  {it}?: ReportNode;" for it in roots])
 

@@ -39,3 +39,5 @@ def regions():
     line = f"{', '.join(it.name for it in statuses)} = range({len(statuses)})"
     yield Region(LIBRARY, "# What a call answers.", "", [line])
     yield from map(structure, tables.with_fields())
+    lines = [f'    "{it}": ("{tables.call_of(it)}", {tables.variant(it)}),' for it in tables.kinds_with_fields()]
+    yield Region(LIBRARY, "_FIELDS: dict[Kind, tuple[str, type[ctypes.Structure]]] = {", "}", lines)

@@ -5,18 +5,14 @@ refused by the prover.
 """
 
 from . import tables
-from .regions import Region, wrapped
-
-
-def doc(text, indent="    "):
-    return wrapped(text.split(), f"{indent}/// ", f"{indent}/// ")
+from .regions import Region, comment
 
 
 def enum(path, name, rows):
     """An enum of variants, each with what it means."""
     lines = []
     for variant, text in rows:
-        lines += [*doc(text), f"    {variant},"]
+        lines += [*comment(text, "    /// "), f"    {variant},"]
     return Region(path, f"pub enum {name} {{", "}", lines)
 
 
@@ -26,10 +22,10 @@ def list_of(path, behind, constant, items, indent):
     return Region(path, behind, f"{indent}];", lines)
 
 
-def arms(path, signature, pairs, end="        }", front="match self {", indent="        "):
-    """The arms of the one match of a function, whose head ends in a signature's line and what it ensures."""
-    behind = f"{signature}\n{indent[4:]}{{\n{indent}{front}"
-    return Region(path, behind, end, [f"{indent}    {pattern} => {value}," for pattern, value in pairs])
+def arms(path, ensures, pairs, value="self"):
+    """The arms of a match of a value, which is the whole body of a method: its head ends in the line of what it ensures."""
+    behind = f"        {ensures}\n    {{\n        match {value} {{"
+    return Region(path, behind, "        }", [f"            {pattern} => {answer}," for pattern, answer in pairs])
 
 
 def kind_enum(path):
@@ -46,31 +42,26 @@ def kinds():
     all_kinds = "    /// All types, those that are met the most first."
     yield list_of(INSPECTED, all_kinds, "pub const ALL: [Kind; {}]", variants, "    ")
     names = [(f"Kind::{it.variant}", f'"{it.name}"') for it in rows]
-    yield arms(INSPECTED, "        ensures { result.now ≡ kind_name self }", names)
+    yield arms(INSPECTED, "ensures { result.now ≡ kind_name self }", names)
     found = [(f'"{it.name}"', f"Some(Kind::{it.variant})") for it in rows] + [("_", "None")]
-    none = "        ensures none { IfNone result ((kind : Kind) → name.now ≡ kind_name kind → ⊥) }"
-    yield arms(INSPECTED, none, found, front="match name {")
-    yield labels()
-    none = "        ensures none { IfNone result (label_of self ≡ None) }"
+    none = "ensures none { IfNone result ((kind : Kind) → name.now ≡ kind_name kind → ⊥) }"
+    yield arms(INSPECTED, none, found, value="name")
+    none = "ensures none { IfNone result ((kind : Kind) → IsLabelled kind label.now → ⊥) }"
+    yield by_label(INSPECTED, none, "Kind", [(it.variant, it.label_list) for it in rows if it.label_list])
+    none = "ensures none { IfNone result (label_of self ≡ None) }"
     labelled = [(f"Kind::{it.variant}", f'Some("{it.label_list[0]}")') for it in rows if it.label_list]
     others = " | ".join(f"Kind::{it.variant}" for it in rows if not it.label_list)
     yield arms(INSPECTED, none, [*labelled, (others, "None")])
 
 
-def chain(name, rows):
+def by_label(path, ensures, name, rows):
     """Which variant a label is that of: a chain of conditions."""
     lines, word = [], "        if"
     for variant, listed in rows:
         condition = " || ".join(f'is(label, "{it}")' for it in listed)
         lines += [f"{word} {condition} {{", f"            Some({name}::{variant})"]
         word = "        } else if"
-    return lines
-
-
-def labels():
-    behind = "        ensures none { IfNone result ((kind : Kind) → IsLabelled kind label.now → ⊥) }\n    {"
-    rows = [(it.variant, it.label_list) for it in tables.kinds() if it.label_list]
-    return Region(INSPECTED, behind, "        } else {", chain("Kind", rows))
+    return Region(path, f"        {ensures}\n    {{", "        } else {", lines)
 
 
 def unread():
@@ -79,9 +70,8 @@ def unread():
     reasons = [(f"Unread::{it.name}", f'"{it.reason}, which isn\'t read"') for it in rows]
     behind = "    pub fn reason(self) -> &'static str {\n        match self {"
     yield Region(path, behind, "        }", [f"            {name} => {text}," for name, text in reasons])
-    behind = "        ensures none { IfNone result ((unread : Unread) → HasUnreadLabel unread label.now → ⊥) }\n    {"
-    labelled = [(it.name, it.labels.split(",")) for it in rows if it.labels]
-    yield Region(path, behind, "        } else {", chain("Unread", labelled))
+    none = "ensures none { IfNone result ((unread : Unread) → HasUnreadLabel unread label.now → ⊥) }"
+    yield by_label(path, none, "Unread", [(it.name, it.labels.split(",")) for it in rows if it.labels])
 
 
 def in_the_program():
@@ -112,10 +102,10 @@ def by_number():
     path = "crates/x509_flat/src/kind.rt"
     yield kind_enum(path)
     found = [(it.number, f"Some(Kind::{it.variant})") for it in tables.kinds()] + [("_", "None")]
-    none = "        ensures none { IfNone result ((kind : Kind) → number ≡ kind_number kind → ⊥) }"
-    yield arms(path, none, found, front="match number {")
+    none = "ensures none { IfNone result ((kind : Kind) → number ≡ kind_number kind → ⊥) }"
+    yield arms(path, none, found, value="number")
     numbers = [(f"Status::{it.rattle}", it.number) for it in tables.rows_of("statuses")]
-    yield arms("crates/x509_flat/src/status.rt", "        ensures { result ≡ status_number self }", numbers)
+    yield arms("crates/x509_flat/src/status.rt", "ensures { result ≡ status_number self }", numbers)
 
 
 def served():
@@ -124,27 +114,28 @@ def served():
     rows = sorted((it for it in tables.kinds() if it.tool), key=lambda it: it.name)
     yield enum(path, "Served", [(it.variant, f"`{it.name}`.") for it in rows])
     found = [(f'"{it.name}"', f"Some(Served::{it.variant})") for it in rows] + [("_", "None")]
-    none = "        ensures none { IfNone result ((s : Served) → type_name.now ≡ served_name s → ⊥) }"
-    yield arms(path, none, found, front="match type_name {")
+    none = "ensures none { IfNone result ((s : Served) → type_name.now ≡ served_name s → ⊥) }"
+    yield arms(path, none, found, value="type_name")
     answers = [(f"Served::{it.variant}", f"answer::<{it.rattle}<A>, A>(alloc, bytes)") for it in rows]
-    yield arms(path, "        ensures { AnswersAs A self bytes.now (listed_answer (λ v. v.items) result) }", answers)
+    yield arms(path, "ensures { AnswersAs A self bytes.now (listed_answer (λ v. v.items) result) }", answers)
 
 
 def deviations():
     path, rows = "crates/x509_der_parts/src/deviation.rt", tables.rows_of("deviations")
     variants = [f"Deviation::{it.rattle}" for it in rows]
-    yield list_of(path, "    /// The ten kinds, in the order of their numbers.", "pub const ALL: [Deviation; {}]", variants, "    ")
+    all_kinds = "    /// The ten kinds, in the order of their numbers."
+    yield list_of(path, all_kinds, "pub const ALL: [Deviation; {}]", variants, "    ")
     names = [(f"Deviation::{it.rattle}", f'"{it.text}"') for it in rows]
-    yield arms(path, "        ensures { result.now ≡ kind_name self }", names)
-    yield arms(path, "        ensures ten { result < 10 }", [(it, at) for at, it in enumerate(variants)])
+    yield arms(path, "ensures { result.now ≡ kind_name self }", names)
+    yield arms(path, "ensures ten { result < 10 }", [(it, at) for at, it in enumerate(variants)])
 
 
 def errors():
     path, rows = "crates/x509_der_parts/src/errors.rt", tables.named("errors")
     yield enum(path, "ReadError", [(it.variant, it.meaning) for it in rows])
-    yield arms(path, "        ensures { result ≡ error_number self }", [(f"ReadError::{it.variant}", it.number) for it in rows])
+    yield arms(path, "ensures { result ≡ error_number self }", [(f"ReadError::{it.variant}", it.number) for it in rows])
     names = [(f"ReadError::{it.variant}", f'"{it.text}"') for it in rows]
-    yield arms(path, "        ensures { result.now ≡ error_name self }", names)
+    yield arms(path, "ensures { result.now ≡ error_name self }", names)
 
 
 def content(identifier):

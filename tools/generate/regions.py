@@ -1,5 +1,6 @@
 """Regions of files: what stands between two texts that are written by hand, of which the first says what it is."""
 
+import textwrap
 from typing import NamedTuple
 
 
@@ -28,12 +29,6 @@ def filled(text, region):
     return f"{head}{region.behind}\n{body}{region.before}\n{rest}"
 
 
-def wrapped(words, first, other, end="", width=120):
-    """Lines of words, the first behind one front, the others behind another."""
-    lines, line = [], first
-    for word in words:
-        if len(line) + len(word) + 1 > width - len(end):
-            lines.append(line + end)
-            line = other
-        line += word if line in (first, other) else f" {word}"
-    return [*lines, line]
+def comment(text, front, width=120):
+    """A text as lines of a comment, each behind the same front."""
+    return textwrap.wrap(text, width, initial_indent=front, subsequent_indent=front, break_long_words=False, break_on_hyphens=False)

@@ -1,7 +1,7 @@
 """What bindings/rust/ has of the tables: kinds, deviations, reasons, statuses, and the fields of structures."""
 
 from . import tables
-from .regions import Region, wrapped
+from .regions import Region, comment
 
 SOURCE = "bindings/rust/src"
 # Which statuses the crate tells apart: another means that the call isn't for the kind.
@@ -9,20 +9,20 @@ TOLD = ("OK", "REFUSED", "OUT_OF_MEMORY", "BUFFER_TOO_SHORT", "TOO_LONG")
 FILES = {"Kind": "kind.rs", "Deviation": "kind.rs", "Reason": "error.rs"}
 
 
-def doc(text, indent):
-    return wrapped(text.split(), f"{indent}/// ", f"{indent}/// ", width=100)
+def doc(text):
+    return comment(text, "    /// ", width=100)
 
 
 def enum(name, rows):
     """An enum of rows, each a number, a variant and what it means."""
     lines = []
     for number, variant, text in rows:
-        lines += [*doc(text, "    "), f"    {variant} = {number},"]
+        lines += [*doc(text), f"    {variant} = {number},"]
     return Region(f"{SOURCE}/{FILES[name]}", f"pub enum {name} {{", "}", lines)
 
 
 def all_of(name, what, rows):
-    """The constant with every variant. It is of no generated length: a line says how many there are."""
+    """The constant with every variant, and the line that says how many there are."""
     behind = f"    /// Every {what}, in the order of their numbers."
     lines = [f"    pub const ALL: [{name}; {len(rows)}] = ["]
     lines += [f"        {name}::{variant}," for _, variant, _ in rows]
@@ -59,23 +59,28 @@ def field_doc(field):
     return f"`{field.name}`{', ' if note else ''}{note}."
 
 
-def structs(kind):
-    """A kind's struct in the library, that of its fields, and how these are made of it."""
-    name, rows = tables.variant(kind), tables.fields(kind)
-    held = "ExtensionPlaces" if kind == "extension" else name
-    visible = "pub" if kind == "extension" else "pub(crate)"
-    lines = [f"    pub(crate) {it.member}: Span," for it in rows]
-    yield Region(f"{SOURCE}/library.rs", f"{visible} struct {held} {{", "}", lines)
+def places(kind):
+    """A kind's struct in the library."""
+    name = "pub struct ExtensionPlaces" if kind == "extension" else f"pub(crate) struct {tables.variant(kind)}"
+    lines = [f"    pub(crate) {it.member}: Span," for it in tables.fields(kind)]
+    return Region(f"{SOURCE}/library.rs", f"{name} {{", "}", lines)
+
+
+def struct(kind):
+    """The struct of a kind's fields."""
     lines = []
-    for it in rows:
+    for it in tables.fields(kind):
         kept = "Option<Field<'a>>" if it.optional else "Field<'a>"
-        lines += [*doc(field_doc(it), "    "), f"    pub {it.member}: {kept},"]
-    yield Region(f"{SOURCE}/fields.rs", f"pub struct {name}<'a> {{", "}", lines)
-    source, told, behind, before = ("der", "told", f"        Ok({name} {{", "        })")
-    if kind == "extension":
-        source, told, behind = ("self.der", "places", f"        Some({name} {{")
-    lines = [f"            {it.member}: {'optional' if it.optional else 'field'}({source}, {told}.{it.member})," for it in rows]
-    yield Region(f"{SOURCE}/reader.rs", behind, before, lines)
+        lines += [*doc(field_doc(it)), f"    pub {it.member}: {kept},"]
+    return Region(f"{SOURCE}/fields.rs", f"pub struct {tables.variant(kind)}<'a> {{", "}", lines)
+
+
+def made(kind):
+    """How a kind's fields are made of their places."""
+    answer, der, found = ("Some", "self.der", "places") if kind == "extension" else ("Ok", "der", "told")
+    call = {it.member: "optional" if it.optional else "field" for it in tables.fields(kind)}
+    lines = [f"            {member}: {make}({der}, {found}.{member})," for member, make in call.items()]
+    return Region(f"{SOURCE}/reader.rs", f"        {answer}({tables.variant(kind)} {{", "        })", lines)
 
 
 def regions():
@@ -86,4 +91,4 @@ def regions():
     lines = [f"    pub(crate) const {it.name}: u32 = {it.number};" for it in told]
     yield Region(f"{SOURCE}/library.rs", "pub(crate) mod status {", "}", lines)
     for kind in tables.with_fields():
-        yield from structs(kind)
+        yield from (places(kind), struct(kind), made(kind))

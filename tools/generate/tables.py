@@ -47,6 +47,11 @@ def kinds_with_fields():
     return [it for it in with_fields() if it != "extension"]
 
 
+def call_of(kind):
+    """The call of C that tells a kind's fields."""
+    return f"cimaroly_{'_'.join(words_of(kind))}_fields"
+
+
 def words_of(name):
     return name.lower().replace("_", "-").split("-")
 
