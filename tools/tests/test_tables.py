@@ -149,7 +149,7 @@ class ByHand(unittest.TestCase):
         self.assertEqual(re.findall(r"`([\w-]+)`", listed), [it.name for it in KINDS])
         listed = re.search(r"named as the standard names the type: (.*?)\.", page).group(1)
         self.assertEqual(re.findall(r"`(\w+)`", listed), [*dict.fromkeys(it.type for it in KINDS)])
-        doc = re.search(r'"""As what bytes are read: (.*?)"""', text_of("bindings/python/cimaroly/_kinds.py"), re.S).group(1)
+        doc = re.search(r'^\]\n"""[\w ]+: (.*?)"""', text_of("bindings/python/cimaroly/_kinds.py"), re.S | re.M).group(1)
         self.assertEqual(re.findall(r"`(\w+)`", doc), [*dict.fromkeys(it.type for it in KINDS)])
 
 
