@@ -35,11 +35,21 @@ def text_of(path):
         return file.read()
 
 
-def table():
-    """The rows of commands.tsv, in which a hyphen alone is nothing."""
-    with open(f"{HERE}/commands.tsv", encoding="utf-8", newline="") as file:
+def rows_of(path):
+    """The rows of a table, in which a hyphen alone is nothing."""
+    with open(f"{ROOT}/{path}", encoding="utf-8", newline="") as file:
         rows = csv.DictReader(file, delimiter="\t", quoting=csv.QUOTE_NONE)
         return [{key: "" if it == "-" else it for key, it in row.items()} for row in rows]
+
+
+def table():
+    """The rows of commands.tsv, with the names of the kinds in the place of the word."""
+    kinds = rows_of("tools/tables/kinds.tsv")
+    names = {
+        "kinds": ",".join(it["name"] for it in kinds),
+        "kinds of x509_tool": ",".join(sorted(it["name"] for it in kinds if it["tool"])),
+    }
+    return [{**row, "values": names.get(row["values"], row["values"])} for row in rows_of("packaging/commands.tsv")]
 
 
 def roff(text):

@@ -15,7 +15,7 @@ from functions import Source, contracts_of, homes_of
 
 ROOT = os.path.dirname(os.path.dirname(os.path.abspath(__file__)))
 
-# Edits that rt ci tries, those that tools/plant.py tries in the gate, and those that are tried by hand.
+# Edits that rt ci tries, those that tools/plant.py tries in the gate, and those that are to be tried before they are planted.
 FOLDERS = ("must-fail", "planted", "more-edits")
 
 # Words of what is stated, and of what code has proved.

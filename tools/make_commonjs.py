@@ -6,7 +6,7 @@ Run it after a change of core.mjs, names.mjs, pem.mjs or cimaroly.d.ts in web/, 
 import pathlib
 import re
 
-WEB = pathlib.Path(__file__).resolve().parent.parent / "web"
+ROOT = pathlib.Path(__file__).resolve().parent.parent
 MODULES = ("core", "names", "pem")
 HEAD = "// This file is written by tools/make_commonjs.py from web/{}.\n\n"
 
@@ -32,14 +32,17 @@ def common(name, text):
     return behind_licence(head, f"{text}\nmodule.exports = {{\n{lines}}};\n")
 
 
-def made():
-    """What is written: the name of each file in web/node/, and its text."""
-    for name in MODULES:
-        yield f"{name}.cjs", common(name, (WEB / f"{name}.mjs").read_text(encoding="utf-8"))
-    types = (WEB / "cimaroly.d.ts").read_text(encoding="utf-8")
-    yield "index.d.cts", behind_licence(HEAD.format("cimaroly.d.ts"), types)
+def text_of(path):
+    return (ROOT / path).read_text(encoding="utf-8")
+
+
+def made(read=text_of):
+    """The text of each file that is written, by its path; `read` gives that of a file that it is made of."""
+    texts = {f"web/node/{name}.cjs": common(name, read(f"web/{name}.mjs")) for name in MODULES}
+    types = behind_licence(HEAD.format("cimaroly.d.ts"), read("web/cimaroly.d.ts"))
+    return {**texts, "web/node/index.d.cts": types}
 
 
 if __name__ == "__main__":
-    for file, content in made():
-        (WEB / "node" / file).write_text(content, encoding="utf-8")
+    for file, content in made().items():
+        (ROOT / file).write_text(content, encoding="utf-8")

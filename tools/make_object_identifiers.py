@@ -1,8 +1,7 @@
 #!/usr/bin/env python3
 """Writes the two tables of object identifiers from object_identifiers.tsv, and the names of these and of further_names.tsv.
 
-A further identifier is one more line there; then run this script and `rt fmt` in the four crates, and commit what they write.
-The gate reads what is committed, and doesn't run this script.
+A further identifier is one more line there; then run tools/make_tables.py, which this is a part of.
 """
 import csv
 import pathlib
@@ -35,7 +34,7 @@ pub const {constant}: &'static str = "{arcs}";
 ///
 /// # Errors
 /// `AllocError` where memory is refused.
-pub fn {function}<A: Allocator>(alloc: A) -> Result<ObjectIdentifier<A>, AllocError>
+{signature}
     ensures arcs {{ IfOk result (λ o. o ≡ {listed}) }}
     ensures text {{ {constant}.now ≡ dotted ({listed}) }}
 {{
@@ -73,13 +72,27 @@ def rows_of(name):
         return list(csv.DictReader(file, delimiter="\t"))
 
 
-def write(crate, text, file="lib.rt"):
-    target = HERE.parent / "crates" / crate / "src" / file
-    target.parent.mkdir(parents=True, exist_ok=True)
-    target.write_text(text, encoding="utf-8")
+def path_of(crate, file="lib.rt"):
+    return f"crates/{crate}/src/{file}"
 
 
-def write_names(rows):
+def signature_of(function):
+    """The head of a function that makes an identifier, as `rt fmt` breaks it."""
+    line = f"pub fn {function}<A: Allocator>(alloc: A) -> Result<ObjectIdentifier<A>, AllocError>"
+    return line if len(line) <= 100 else line.replace("(alloc: A)", "(\n    alloc: A,\n)")
+
+
+def identifiers(crate, rows):
+    """The text of a table of identifiers."""
+    text = HEAD.format(title=TITLES[crate])
+    for row in (it for it in rows if it["crate"] == crate):
+        arcs = row["arcs"].split(".")
+        listed, array = " ∷ ".join(arcs + ["[]"]), ", ".join(arcs)
+        text += ENTRY.format(**row, signature=signature_of(row["function"]), listed=listed, array=array)
+    return text
+
+
+def names_texts(rows):
     """The crate of names: a function for the identifiers under each front, since one for all takes long to prove."""
     fronts = {}
     for row in rows:
@@ -95,9 +108,9 @@ def write_names(rows):
         for last, name in sorted(named):
             modules[module] += f'        {last} => Some("{name}"),\n'
         modules[module] += "        _ => None,\n    }\n}\n"
-    write("x509_oid_names", text + "        _ => None,\n    }\n}\n")
-    for module, text in modules.items():
-        write("x509_oid_names", text, f"{module}.rt")
+    text += "        _ => None,\n    }\n}\n"
+    parts = {path_of("x509_oid_names", f"{module}.rt"): part for module, part in modules.items()}
+    return {path_of("x509_oid_names"): text, **parts}
 
 
 TESTS_HEAD = """//! The identifiers of the two tables, each with its name. This file is written by `tools/make_object_identifiers.py`.
@@ -113,6 +126,13 @@ use x509_oids_objects as objects;
 LINES = 16
 
 
+def pair(constant, name):
+    """A pair of a table, as `rt fmt` breaks it."""
+    if len(f"{constant}, {name}") <= 60:
+        return f"    ({constant}, {name}),\n"
+    return f"    (\n        {constant},\n        {name},\n    ),\n"
+
+
 def tests_text(rows):
     """The tables of names that a test compares with what the crate of names answers."""
     text = TESTS_HEAD
@@ -120,7 +140,7 @@ def tests_text(rows):
     for number, part in enumerate(parts, 1):
         text += f"\nconst NAMES_{number}: &'static [(&'static str, &'static str)] = &[\n"
         for row in part:
-            text += f'    ({row["crate"].removeprefix("x509_oids_")}::{row["constant"]}, "{row["name"]}"),\n'
+            text += pair(f'{row["crate"].removeprefix("x509_oids_")}::{row["constant"]}', f'"{row["name"]}"')
         text += f"];\n\nfn names_{number}(rt: &impl Abort, alloc: Global) {{\n"
         text += f"    are_named(rt, alloc, NAMES_{number});\n}}\n"
     text += "\n/// Asks that each identifier has its name.\npub(super) fn all_named(rt: &impl Abort, alloc: Global) {\n"
@@ -129,20 +149,14 @@ def tests_text(rows):
     return text + "}\n"
 
 
-def main():
+def made():
+    """The text of each file that is written, by its path."""
     rows = rows_of("object_identifiers.tsv")
-    for crate, title in TITLES.items():
-        text = HEAD.format(title=title)
-        for row in rows:
-            if row["crate"] == crate:
-                arcs = row["arcs"].split(".")
-                text += ENTRY.format(
-                    **row, listed=" ∷ ".join(arcs + ["[]"]), array=", ".join(arcs)
-                )
-        write(crate, text)
-    write_names(rows + rows_of("further_names.tsv"))
-    (HERE.parent / "crates/x509_report_tests/src/tests/names.rt").write_text(tests_text(rows), encoding="utf-8")
+    texts = {path_of(crate): identifiers(crate, rows) for crate in TITLES}
+    texts |= names_texts(rows + rows_of("further_names.tsv"))
+    return {**texts, "crates/x509_report_tests/src/tests/names.rt": tests_text(rows)}
 
 
 if __name__ == "__main__":
-    main()
+    for file, content in made().items():
+        (HERE.parent / file).write_text(content, encoding="utf-8")

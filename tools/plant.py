@@ -5,7 +5,7 @@ usage: tools/plant.py CRATE [FOLDER] [--only WORD] [--one] [--log FILE]
        tools/plant.py --gate [--stood SUMS]
        tools/plant.py --before-ci
 
-FOLDER is crates/CRATE/more-edits where it is left out. --only takes the edits whose name contains WORD, --one tries each edit by
+FOLDER is crates/CRATE/planted where it is left out. --only takes the edits whose name contains WORD, --one tries each edit by
 itself, and --log appends what each check prints to a file. --gate tries the edits in planted/ of every crate, of as many crates at
 a time as there are processors, or as RT_JOBS says, and those that were refused on this machine over the same files only once. With
 SUMS, what --before-ci printed before a run of rt ci, it takes the libraries that are new since then as they are. --before-ci removes
@@ -283,7 +283,7 @@ def main():
     if not given.crate:
         print("a crate or --gate: see --help", file=sys.stderr)
         return 2
-    folder = os.path.abspath(given.folder or f"{ROOT}/crates/{given.crate}/more-edits")
+    folder = os.path.abspath(given.folder or f"{ROOT}/crates/{given.crate}/planted")
     if not os.path.isdir(folder):
         print(f"there is no folder {folder}", file=sys.stderr)
         return 2

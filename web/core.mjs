@@ -8,6 +8,7 @@ import { KINDS, isSequence, isUtf16, kindOfLabel, pemBlocks } from "./pem.mjs";
 
 export { DEVIATIONS, KINDS };
 
+// What a call answers.
 const STATUS = { ok: 0, refused: 1, outOfMemory: 2, bufferTooShort: 3, unknownKind: 4, tooLong: 5 };
 
 const FIELDS = {

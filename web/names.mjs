@@ -1,4 +1,5 @@
-// The names of errors and deviations, in the order of their numbers in bindings/c/cimaroly.h.
+// The names of errors and deviations, in the order of their numbers in bindings/c/cimaroly.h, as tools/make_tables.py writes
+// them.
 
 /** Why an input is refused; there is no number 0. */
 export const ERRORS = Object.freeze([

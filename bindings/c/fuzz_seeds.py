@@ -11,10 +11,11 @@ import re
 import sys
 
 ROOT = os.path.dirname(os.path.dirname(os.path.dirname(os.path.abspath(__file__))))
-KINDS = (
-    "certificate request private-key public-key rsa-private-key rsa-public-key ec-private-key name extensions algorithm "
-    "raw-algorithm"
-).split()
+
+
+def rows_of(path):
+    with open(f"{ROOT}/{path}", encoding="utf-8", newline="") as file:
+        return list(csv.DictReader(file, delimiter="\t", quoting=csv.QUOTE_NONE))
 
 
 def input_of(cell):
@@ -28,10 +29,10 @@ def input_of(cell):
 
 
 def main():
-    with open(f"{ROOT}/bindings/tests/table.tsv", encoding="utf-8", newline="") as file:
-        for row in csv.DictReader(file, delimiter="\t", quoting=csv.QUOTE_NONE):
-            with open(f"{sys.argv[1]}/{row['name']}", "wb") as seed:
-                seed.write(bytes([KINDS.index(row["kind"])]) + input_of(row["input"]))
+    kinds = [it["name"] for it in rows_of("tools/tables/kinds.tsv")]
+    for row in rows_of("bindings/tests/table.tsv"):
+        with open(f"{sys.argv[1]}/{row['name']}", "wb") as seed:
+            seed.write(bytes([kinds.index(row["kind"])]) + input_of(row["input"]))
 
 
 if __name__ == "__main__":

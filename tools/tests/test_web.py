@@ -4,26 +4,12 @@ import os
 import re
 import shutil
 import subprocess
-import sys
 import tempfile
 import unittest
 
 HERE = os.path.dirname(os.path.abspath(__file__))
 ROOT = os.path.dirname(os.path.dirname(HERE))
 WEB = f"{ROOT}/web"
-
-sys.path.insert(0, f"{ROOT}/tools")
-import make_commonjs  # noqa: E402
-
-# The fields that cimaroly.h calls by other words than the RFCs.
-WORDS = {"subjectPKInfo": "subject_public_key_info", "issuerUniqueID": "issuer_unique_id", "subjectUniqueID": "subject_unique_id"}
-
-# The types that have named fields: as the module, cimaroly.d.ts and cimaroly.h call them.
-WITH_FIELDS = (
-    ("certificate", "CertificateFields", "cimaroly_certificate"),
-    ("request", "RequestFields", "cimaroly_request"),
-    ("private_key", "PrivateKeyFields", "cimaroly_private_key"),
-)
 
 # How many seconds the tests may take: browsers are slow on machines with much else to do.
 PATIENCE = 2400
@@ -63,34 +49,6 @@ class Files(unittest.TestCase):
         self.assertEqual(sorted(names), sorted(os.listdir(f"{WEB}/samples")))
         for name in names:
             self.assertEqual(text_of(f"{WEB}/samples/{name}"), text_of(f"{HERE}/data/{name}"), name)
-
-    def test_names(self):
-        header = text_of(f"{ROOT}/bindings/c/cimaroly.h")
-        names = text_of(f"{WEB}/names.mjs")
-        for constant, function in (("ERRORS", "cimaroly_error_name"), ("DEVIATIONS", "cimaroly_deviation_name")):
-            mine = re.search(rf"{constant} = Object.freeze\(\[(.*?)\]", names, re.S).group(1)
-            theirs = re.search(rf"{function}\(.*?\{{\n(.*?)\}};", header, re.S).group(1)
-            listed = [it for it in re.findall(r'"(.*?)"', theirs) if it]
-            self.assertEqual([it for it in re.findall(r'"(.*?)"', mine) if it], listed)
-
-    def test_commonjs(self):
-        for name, text in make_commonjs.made():
-            self.assertEqual(text_of(f"{WEB}/node/{name}"), text, f"{name}: run tools/make_commonjs.py")
-
-    def test_fields(self):
-        # the types and the module have the fields of the C library, and may be without those that C says may be none
-        header = text_of(f"{ROOT}/bindings/c/cimaroly.h")
-        types = text_of(f"{WEB}/cimaroly.d.ts")
-        for kind, interface, struct in WITH_FIELDS:
-            body = re.search(rf"^struct {struct} \{{\n(.*?)^\}};", header, re.S | re.M).group(1)
-            members = re.findall(r"struct cimaroly_span (\w+);(.*)", body)
-            declared = re.search(rf"^export interface {interface} \{{\n(.*?)^\}}", types, re.S | re.M).group(1)
-            fields = re.findall(r"^  (\w+)(\??): Span;", declared, re.M)
-            names = [(WORDS.get(it) or re.sub("[A-Z]", lambda found: "_" + found[0].lower(), it)) for it, _ in fields]
-            self.assertEqual(names, [name for name, _ in members])
-            self.assertEqual([mark == "?" for _, mark in fields], ["or none" in comment for _, comment in members])
-            listed = re.search(rf'"cimaroly_{kind}_fields",\s+names: \[(.*?)\]', text_of(f"{WEB}/core.mjs"), re.S).group(1)
-            self.assertEqual(re.findall(r'"(\w+)"', listed), [name for name, _ in fields])
 
     def test_policy(self):
         # nothing is loaded from elsewhere, and nothing of an input becomes markup

@@ -9,6 +9,7 @@
 const { DEVIATIONS, ERRORS } = require("./names.cjs");
 const { KINDS, isSequence, isUtf16, kindOfLabel, pemBlocks } = require("./pem.cjs");
 
+// What a call answers.
 const STATUS = { ok: 0, refused: 1, outOfMemory: 2, bufferTooShort: 3, unknownKind: 4, tooLong: 5 };
 
 const FIELDS = {

@@ -2,7 +2,8 @@
 
 "use strict";
 
-// The names of errors and deviations, in the order of their numbers in bindings/c/cimaroly.h.
+// The names of errors and deviations, in the order of their numbers in bindings/c/cimaroly.h, as tools/make_tables.py writes
+// them.
 
 /** Why an input is refused; there is no number 0. */
 const ERRORS = Object.freeze([

@@ -1,4 +1,5 @@
 // What is said of a key on one line: its algorithm, its curve, and its own size beside the one that these ask for.
+// tools/make_tables.py writes the algorithms and the sizes.
 
 import { measured } from "./text.mjs";
 
@@ -6,7 +7,7 @@ const EC = "1.2.840.10045.2.1";
 
 const ALGORITHMS = new Map([
   ["1.2.840.113549.1.1.1", "RSA"],
-  [EC, "EC"],
+  ["1.2.840.10045.2.1", "EC"],
   ["1.3.101.110", "X25519"],
   ["1.3.101.111", "X448"],
   ["1.3.101.112", "Ed25519"],

@@ -1,4 +1,5 @@
-// What a structure is, in a few lines: whose it is, how long it is valid, which key it has.
+// What a structure is, in a few lines: whose it is, how long it is valid, which key it has. tools/make_tables.py writes the
+// titles and short names.
 
 import { ecLine, privateLine, publicLine, rsaLine } from "./key.mjs";
 import { clipped, counted, grouped, shown } from "./text.mjs";
@@ -111,6 +112,11 @@ function requestRows({ certificationRequestInfo: fields }, bytes) {
   ];
 }
 
+function extensionsRows(list, bytes) {
+  const names = list.items.filter((it) => it.id === "2.5.29.17");
+  return [["extensions", String(list.items.length), list], ...names.map((it) => ["names", namesLine(it, bytes), it])];
+}
+
 const ROWS = {
   Certificate: certificateRows,
   CertificationRequest: requestRows,
@@ -120,7 +126,7 @@ const ROWS = {
   RSAPublicKey: (it) => [["key", rsaLine(it.modulus), it.modulus]],
   ECPrivateKey: (it) => [["key", ecLine(it), it]],
   Name: (it, bytes) => [["name", nameLine(it, bytes), it]],
-  Extensions: (it) => [["extensions", grouped(it.items.length), it]],
+  Extensions: extensionsRows,
   AlgorithmIdentifier: (it) => [["algorithm", valueOf("", it.algorithm, new Uint8Array(1)).whole, it]],
 };
 

@@ -1,6 +1,9 @@
 // What the page shows is what the program `cimaroly` tells: the same report, and the same lines.
 
 import assert from "node:assert/strict";
+import { mkdtempSync, rmSync, writeFileSync } from "node:fs";
+import { tmpdir } from "node:os";
+import { join } from "node:path";
 import { test } from "node:test";
 import { parseReport, report, reportText } from "../cimaroly.mjs";
 import { Entry } from "../page/entry.mjs";
@@ -26,6 +29,16 @@ function told(line) {
   return rest;
 }
 
+// The rows of a summary, as the program prints them, but for those of deviations, which the page has elsewhere.
+function rowsOf(text) {
+  const lines = text.split("\n\n")[0].split("\n").filter((it) => /^ {2}(?!deviation )\S/.test(it));
+  return lines.map((it) => [it.slice(2, 14).trimEnd(), it.slice(14)]);
+}
+
+function summaryRows(report, bytes) {
+  return summaryOf(report, bytes).map(({ label, text }) => [label, text]);
+}
+
 for (const [name, structure] of read) {
   test(`the report of ${name}`, { skip: NOT_HERE }, () => {
     for (const secrets of [false, true]) {
@@ -43,11 +56,30 @@ for (const [name, structure] of read) {
 
   test(`the summary of ${name}`, { skip: NOT_HERE }, () => {
     const text = run("show", "--type", structure.kind, `${DATA}/${name}`);
-    for (const { label, text: value } of summaryOf(structure.report, structure.bytes)) {
-      assert.ok(text.includes(`  ${label.padEnd(11)} ${value}\n`), `${label}: ${value}\n${text.split("\n\n")[0]}`);
-    }
+    assert.deepEqual(summaryRows(structure.report, structure.bytes), rowsOf(text));
   });
 }
+
+// Structures that are no samples: the extensions of a certificate by themselves, and a key of ML-DSA-44 of 1312 bytes (FIPS
+// 204, table 2; RFC 9881, 4).
+function* further() {
+  const certificate = cimaroly.read(sample("certificate_ed25519.pem"));
+  const { start, end } = certificate.fields.extensions;
+  yield ["extensions", certificate.bytes({ start: start + 2, end })];
+  const head = [0x30, 0x82, 5, 50, 0x30, 11, 6, 9, 0x60, 0x86, 0x48, 1, 0x65, 3, 4, 3, 17, 3, 0x82, 5, 33, 0];
+  yield ["public-key", Uint8Array.of(...head, ...new Uint8Array(1312))];
+}
+
+test("the summary of further structures", { skip: NOT_HERE }, () => {
+  const folder = mkdtempSync(join(tmpdir(), "cimaroly-"));
+  for (const [kind, bytes] of further()) {
+    writeFileSync(`${folder}/it.der`, bytes);
+    const told = rowsOf(run("show", "--type", kind, `${folder}/it.der`));
+    assert.deepEqual(summaryRows(report(bytes, kind), bytes), told, kind);
+    assert.ok(told.length > 0, kind);
+  }
+  rmSync(folder, { recursive: true });
+});
 
 // The OBJECT IDENTIFIERs that the page shows of what it refuses, each by its place and its text.
 function identifiersShown(bytes, names) {

@@ -1,4 +1,7 @@
-"""Kinds of structures, deviations and reasons of refusal, with the numbers that the library has for them."""
+"""Kinds of structures, deviations and reasons of refusal, with the numbers that the library has for them.
+
+The lists are written by tools/make_tables.py.
+"""
 
 from __future__ import annotations
 

@@ -15,6 +15,7 @@ from typing import Any, Optional
 from ._kinds import KINDS, Kind, Refused
 from ._secret import PRIVATE, Held, Secret
 
+# What a call answers.
 OK, REFUSED, OUT_OF_MEMORY, BUFFER_TOO_SHORT, UNKNOWN_KIND, TOO_LONG = range(6)
 
 _HERE = os.path.dirname(os.path.abspath(__file__))

@@ -1,4 +1,4 @@
-//! Why a call gives no answer.
+//! Why a call gives no answer. The lists of reasons are written by tools/make_tables.py.
 
 use core::fmt;
 
@@ -66,35 +66,36 @@ impl core::error::Error for Refused {}
 /// Why an input is refused.
 #[derive(Clone, Copy, Debug, PartialEq, Eq, Hash)]
 pub enum Reason {
-    /// Memory was refused.
+    /// A request for memory was refused.
     OutOfMemory = 1,
-    /// An element is cut short.
+    /// The input ends before the element does.
     Truncated = 2,
-    /// Bytes are left over.
+    /// Bytes are left over behind the value.
     LeftOver = 3,
-    /// A tag that can't stand there.
+    /// Another tag was asked for, or the tag is of several bytes.
     WrongTag = 4,
-    /// A length that isn't in the fewest bytes, or is indefinite.
+    /// The length digits are missing, indefinite or not the shortest.
     BadLength = 5,
-    /// An INTEGER that is padded, empty or out of range.
+    /// The content of an INTEGER is not minimal, or its number is out of range.
     BadNumber = 6,
-    /// A BOOLEAN that is neither 00 nor FF.
+    /// The content of a BOOLEAN is neither 00 nor FF.
     BadBoolean = 7,
-    /// A BIT STRING whose unused bits are more than seven, or set.
+    /// The count of unused bits of a BIT STRING is above 7, or not 0 where there are no bytes, or
+    /// an unused bit is set.
     BadBits = 8,
-    /// An object identifier that is malformed.
+    /// The content of an OBJECT IDENTIFIER is no list of numbers of at most 64 bits.
     BadOid = 9,
-    /// A character that the string type can't have.
+    /// A string holds a character that its type does not allow.
     BadText = 10,
-    /// A time that is malformed, or that the calendar doesn't have.
+    /// A time is not in its DER form, or its day does not exist.
     BadTime = 11,
-    /// A version that isn't known.
+    /// A version number is not one that the structure has.
     BadVersion = 12,
-    /// An algorithm, or a choice, that isn't known.
+    /// An object identifier or a choice is not one that is understood.
     Unsupported = 13,
-    /// A unique identifier in a certificate of version 1.
+    /// A unique identifier stands in a certificate of version 1.
     UniqueIdNeedsV2 = 14,
-    /// Extensions in a certificate that isn't of version 3.
+    /// Extensions stand in a certificate that is not of version 3.
     ExtensionsNeedV3 = 15,
 }
 

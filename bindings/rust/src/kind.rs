@@ -1,4 +1,4 @@
-//! Kinds of structures, and of deviations.
+//! Kinds of structures, and of deviations. The lists are written by tools/make_tables.py.
 
 use core::fmt;
 
@@ -24,7 +24,7 @@ pub enum Kind {
     Name = 8,
     /// `Extensions` (RFC 5280, 4.1).
     Extensions = 9,
-    /// `AlgorithmIdentifier` (RFC 5280, 4.1.1.2) of a known algorithm.
+    /// `AlgorithmIdentifier` (RFC 5280, 4.1.1.2), of an algorithm that is known.
     Algorithm = 10,
     /// `AlgorithmIdentifier` with any parameters.
     RawAlgorithm = 11,
@@ -80,11 +80,11 @@ impl fmt::Display for Kind {
 /// How an input that is read deviates from the one form that is written.
 #[derive(Clone, Copy, Debug, PartialEq, Eq, Hash, PartialOrd, Ord)]
 pub enum Deviation {
-    /// The algorithm identifier of rsaEncryption or of a PKCS #1 v1.5 signature without its NULL.
+    /// The algorithm identifier of rsaEncryption or of a PKCS #1 v1.5 signature without the NULL.
     RsaParametersAbsent = 1,
-    /// An algorithm identifier without parameters, if it is read as a [`Kind::RawAlgorithm`].
+    /// An algorithm identifier without parameters, where it is read as a `raw-algorithm`.
     AlgorithmParametersAbsent = 2,
-    /// A hash algorithm identifier without its NULL.
+    /// A hash algorithm identifier without the NULL.
     HashParametersAbsent = 3,
     /// A salt length above 2^64 - 1, which is read as 2^64 - 1.
     SaltTooLarge = 4,
@@ -94,12 +94,12 @@ pub enum Deviation {
     EmptyExtensionsEncoded = 6,
     /// `critical` FALSE, which is the default.
     DefaultCriticalityEncoded = 7,
-    /// Fields of an authority key identifier whose tags don't ascend.
+    /// Fields of an authority key identifier whose tags don't ascend; the last with each tag
+    /// counts.
     AuthorityKeyFieldOrder = 8,
-    /// A general name with an explicit tag in place of an implicit one, or for a directory name the
-    /// reverse.
+    /// An explicit tag in place of an implicit one, or for a directory name the reverse.
     GeneralNameForm = 9,
-    /// An element behind a private key that isn't understood, such as `attributes [0]`.
+    /// One element that isn't understood, such as `attributes [0]`, which is left out.
     SkippedKeyElement = 10,
 }
 

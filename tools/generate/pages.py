@@ -1,0 +1,17 @@
+"""What README and docs/ have of the tables."""
+
+from . import tables
+from .regions import Region
+
+
+def regions():
+    rows = [f"| {it.number} | {it.text} | `{it.rattle}` | {it.stands} |" for it in tables.rows_of("deviations")]
+    yield Region("README.md", "| | Deviation | In code | What stands in the input |\n|--:|---|---|---|", "", rows)
+    yield Region("docs/BINDINGS.md", "| Status | Meaning |\n|---|---|", "", list(map(status, tables.rows_of("statuses"))))
+    errors = [f"{it.number}. {it.text}" for it in tables.rows_of("errors")]
+    yield Region("docs/CALLING.md", "errors (`ReadError`), by number:\n", "", errors)
+
+
+def status(row):
+    advice = f". {row.advice}" if row.advice else ""
+    return f"| `CIMAROLY_{row.name}` | {row.meaning}{advice} |"

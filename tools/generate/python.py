@@ -1,0 +1,43 @@
+"""What bindings/python/ has of the tables: kinds, deviations, reasons, labels of PEM blocks, and where fields stand."""
+
+from . import tables
+from .regions import Region
+
+KINDS = "bindings/python/cimaroly/_kinds.py"
+LIBRARY = "bindings/python/cimaroly/_library.py"
+PEM = "bindings/python/cimaroly/_pem.py"
+
+
+def enum(name, doc, table):
+    lines = [f"    {it.name} = {it.number}" for it in tables.rows_of(table)]
+    return Region(KINDS, f'class {name}(enum.IntEnum):\n    """{doc}"""\n', "", lines)
+
+
+def texts(name, table):
+    return Region(KINDS, f"{name} = (", ")", [f'    "{it.text}",' for it in tables.rows_of(table)])
+
+
+def structure(kind):
+    """The fields of a `ctypes.Structure`."""
+    name = "_".join(tables.words_of(kind))
+    behind = f'class {tables.variant(kind)}(ctypes.Structure):\n    """`struct cimaroly_{name}`."""\n'
+    listed = [f'("{it.member}", Span)' for it in tables.fields(kind)]
+    line = f"    _fields_ = [{', '.join(listed)}]"
+    several = ["    _fields_ = [", *[f"        {it}," for it in listed], "    ]"]
+    return Region(LIBRARY, behind, "", [line] if len(line) <= 120 else several)
+
+
+def regions():
+    yield Region(KINDS, "Kind = Literal[", "]", [f'    "{it.name}",' for it in tables.kinds()])
+    yield enum("Deviation", "How bytes that are read deviate from the one form that is written.", "deviations")
+    yield enum("Reason", "Why bytes are refused.", "errors")
+    yield texts("_DEVIATIONS", "deviations")
+    yield texts("_REASONS", "errors")
+    labels = [f'    "{label}": "{it.name}",' for it in tables.kinds() for label in it.label_list]
+    yield Region(PEM, "_LABELS: dict[str, Kind] = {", "}", labels)
+    statuses = tables.rows_of("statuses")
+    line = f"{', '.join(it.name for it in statuses)} = range({len(statuses)})"
+    yield Region(LIBRARY, "# What a call answers.", "", [line])
+    yield from map(structure, tables.with_fields())
+    lines = [f'    "{it}": ("{tables.call_of(it)}", {tables.variant(it)}),' for it in tables.kinds_with_fields()]
+    yield Region(LIBRARY, "_FIELDS: dict[Kind, tuple[str, type[ctypes.Structure]]] = {", "}", lines)

@@ -1,0 +1,178 @@
+"""What code of the crates has of the tables: plain lists, and functions from names and numbers.
+
+Only code is written, in src/: what it must answer stands in specs/, by hand. A contract that doesn't hold of what is written is
+refused by the prover.
+"""
+
+from . import tables
+from .regions import Region, comment
+
+
+def enum(path, name, rows):
+    """An enum of variants, each with what it means."""
+    lines = []
+    for variant, text in rows:
+        lines += [*comment(text, "    /// "), f"    {variant},"]
+    return Region(path, f"pub enum {name} {{", "}", lines)
+
+
+def list_of(path, behind, constant, items, indent):
+    """A constant with a list; the line that says how many there are is written too."""
+    lines = [f"{indent}{constant.format(len(items))} = [", *[f"{indent}    {it}," for it in items]]
+    return Region(path, behind, f"{indent}];", lines)
+
+
+def arms(path, ensures, pairs, value="self"):
+    """The arms of a match of a value, which is the whole body of a method: its head ends in the line of what it ensures."""
+    behind = f"        {ensures}\n    {{\n        match {value} {{"
+    return Region(path, behind, "        }", [f"            {pattern} => {answer}," for pattern, answer in pairs])
+
+
+def kind_enum(path):
+    return enum(path, "Kind", [(it.variant, f"{tables.meaning(it, ', also called')}.") for it in tables.kinds()])
+
+
+INSPECTED = "crates/x509_inspect_parts/src/kind.rt"
+
+
+def kinds():
+    rows = tables.kinds()
+    yield kind_enum(INSPECTED)
+    variants = [f"Kind::{it.variant}" for it in rows]
+    all_kinds = "    /// All types, those that are met the most first."
+    yield list_of(INSPECTED, all_kinds, "pub const ALL: [Kind; {}]", variants, "    ")
+    names = [(f"Kind::{it.variant}", f'"{it.name}"') for it in rows]
+    yield arms(INSPECTED, "ensures { result.now ≡ kind_name self }", names)
+    found = [(f'"{it.name}"', f"Some(Kind::{it.variant})") for it in rows] + [("_", "None")]
+    none = "ensures none { IfNone result ((kind : Kind) → name.now ≡ kind_name kind → ⊥) }"
+    yield arms(INSPECTED, none, found, value="name")
+    none = "ensures none { IfNone result ((kind : Kind) → IsLabelled kind label.now → ⊥) }"
+    yield by_label(INSPECTED, none, "Kind", [(it.variant, it.label_list) for it in rows if it.label_list])
+    none = "ensures none { IfNone result (label_of self ≡ None) }"
+    labelled = [(f"Kind::{it.variant}", f'Some("{it.label_list[0]}")') for it in rows if it.label_list]
+    others = " | ".join(f"Kind::{it.variant}" for it in rows if not it.label_list)
+    yield arms(INSPECTED, none, [*labelled, (others, "None")])
+
+
+def by_label(path, ensures, name, rows):
+    """Which variant a label is that of: a chain of conditions."""
+    lines, word = [], "        if"
+    for variant, listed in rows:
+        condition = " || ".join(f'is(label, "{it}")' for it in listed)
+        lines += [f"{word} {condition} {{", f"            Some({name}::{variant})"]
+        word = "        } else if"
+    return Region(path, f"        {ensures}\n    {{", "        } else {", lines)
+
+
+def unread():
+    path, rows = "crates/x509_inspect_parts/src/unread.rt", tables.rows_of("unread")
+    yield enum(path, "Unread", [(it.name, tables.sentence(it.meaning)) for it in rows])
+    reasons = [(f"Unread::{it.name}", f'"{it.reason}, which isn\'t read"') for it in rows]
+    behind = "    pub fn reason(self) -> &'static str {\n        match self {"
+    yield Region(path, behind, "        }", [f"            {name} => {text}," for name, text in reasons])
+    none = "ensures none { IfNone result ((unread : Unread) → HasUnreadLabel unread label.now → ⊥) }"
+    yield by_label(path, none, "Unread", [(it.name, it.labels.split(",")) for it in rows if it.labels])
+
+
+def in_the_program():
+    yield list_of(
+        "crates/cimaroly_parts/src/cli.rt",
+        "/// The names of the types, as `--type` takes them.",
+        "const KINDS: [&'static str; {}]",
+        [f'"{it.name}"' for it in tables.kinds()],
+        "",
+    )
+
+
+def run_by_kind():
+    """Where one call is made for each kind, at its type."""
+    rows, flat = tables.kinds(), "crates/x509_flat/src"
+    behind = "fn run_as<A: Allocator + Copy, K: Task<A>>(kind: Kind, task: K) -> K::Answer {\n    match kind {"
+    lines = [f"        Kind::{it.variant} => task.run::<{it.rattle}<A>>()," for it in rows]
+    yield Region("crates/x509_inspect/src/task.rt", behind, "    }", lines)
+    for file, call, further in (("check", "check_as", ""), ("encode", "encode_as", ", out"), ("places", "places_as", ", out")):
+        lines = [f"        Kind::{it.variant} => {call}::<{it.rattle}<A>, A>(alloc, bytes{further})," for it in rows]
+        yield Region(f"{flat}/{file}.rt", "    match kind {", "    }", lines)
+    lines = [f"        Kind::{it.variant} => Inspected::{it.variant}," for it in rows]
+    yield Region("crates/x509_flat_report/src/lib.rt", "    match kind {", "    }", lines)
+
+
+def by_number():
+    """The kinds and statuses of the C calls."""
+    path = "crates/x509_flat/src/kind.rt"
+    yield kind_enum(path)
+    found = [(it.number, f"Some(Kind::{it.variant})") for it in tables.kinds()] + [("_", "None")]
+    none = "ensures none { IfNone result ((kind : Kind) → number ≡ kind_number kind → ⊥) }"
+    yield arms(path, none, found, value="number")
+    numbers = [(f"Status::{it.rattle}", it.number) for it in tables.rows_of("statuses")]
+    yield arms("crates/x509_flat/src/status.rt", "ensures { result ≡ status_number self }", numbers)
+
+
+def served():
+    """The kinds that x509_tool serves, by name."""
+    path = "crates/x509_tool_parts/src/served.rt"
+    rows = sorted((it for it in tables.kinds() if it.tool), key=lambda it: it.name)
+    yield enum(path, "Served", [(it.variant, f"`{it.name}`.") for it in rows])
+    found = [(f'"{it.name}"', f"Some(Served::{it.variant})") for it in rows] + [("_", "None")]
+    none = "ensures none { IfNone result ((s : Served) → type_name.now ≡ served_name s → ⊥) }"
+    yield arms(path, none, found, value="type_name")
+    answers = [(f"Served::{it.variant}", f"answer::<{it.rattle}<A>, A>(alloc, bytes)") for it in rows]
+    yield arms(path, "ensures { AnswersAs A self bytes.now (listed_answer (λ v. v.items) result) }", answers)
+
+
+def deviations():
+    path, rows = "crates/x509_der_parts/src/deviation.rt", tables.rows_of("deviations")
+    variants = [f"Deviation::{it.rattle}" for it in rows]
+    all_kinds = "    /// The ten kinds, in the order of their numbers."
+    yield list_of(path, all_kinds, "pub const ALL: [Deviation; {}]", variants, "    ")
+    names = [(f"Deviation::{it.rattle}", f'"{it.text}"') for it in rows]
+    yield arms(path, "ensures { result.now ≡ kind_name self }", names)
+    yield arms(path, "ensures ten { result < 10 }", [(it, at) for at, it in enumerate(variants)])
+
+
+def errors():
+    path, rows = "crates/x509_der_parts/src/errors.rt", tables.named("errors")
+    yield enum(path, "ReadError", [(it.variant, it.meaning) for it in rows])
+    yield arms(path, "ensures { result ≡ error_number self }", [(f"ReadError::{it.variant}", it.number) for it in rows])
+    names = [(f"ReadError::{it.variant}", f'"{it.text}"') for it in rows]
+    yield arms(path, "ensures { result.now ≡ error_name self }", names)
+
+
+def content(identifier):
+    """The content of an object identifier with dots, as a list of bytes (X.690, 8.19)."""
+    first, second, *rest = map(int, identifier.split("."))
+    found = []
+    for arc in (40 * first + second, *rest):
+        digits = [arc & 127]
+        while arc := arc >> 7:
+            digits.insert(0, 128 | arc & 127)
+        found += digits
+    return f"[{', '.join(f'0x{it:02x}' for it in found)}]"
+
+
+def words_by_identifier(path, function, rows):
+    """What a function answers for the contents of object identifiers."""
+    lines = []
+    for identifier, word in rows:
+        lines += [f"        // {identifier}", f'        {content(identifier)} => Some("{word}"),']
+    behind = f"fn {function}(content: &[u8]) -> Option<&'static str> {{\n    match content {{"
+    return Region(path, behind, "        _ => None,", lines)
+
+
+def in_reports():
+    short = [(it.id, it.short) for it in tables.rows_of("attributes")]
+    yield words_by_identifier("crates/x509_report_fields/src/name.rt", "short_name", short)
+    words = [(it.id, it.word) for it in tables.rows_of("keys") if it.word]
+    yield words_by_identifier("crates/x509_report_fields/src/key.rt", "common_word", words)
+
+
+def regions():
+    yield from kinds()
+    yield from unread()
+    yield from in_the_program()
+    yield from run_by_kind()
+    yield from by_number()
+    yield from served()
+    yield from deviations()
+    yield from errors()
+    yield from in_reports()

@@ -1,0 +1,94 @@
+"""What bindings/rust/ has of the tables: kinds, deviations, reasons, statuses, and the fields of structures."""
+
+from . import tables
+from .regions import Region, comment
+
+SOURCE = "bindings/rust/src"
+# Which statuses the crate tells apart: another means that the call isn't for the kind.
+TOLD = ("OK", "REFUSED", "OUT_OF_MEMORY", "BUFFER_TOO_SHORT", "TOO_LONG")
+FILES = {"Kind": "kind.rs", "Deviation": "kind.rs", "Reason": "error.rs"}
+
+
+def doc(text):
+    return comment(text, "    /// ", width=100)
+
+
+def enum(name, rows):
+    """An enum of rows, each a number, a variant and what it means."""
+    lines = []
+    for number, variant, text in rows:
+        lines += [*doc(text), f"    {variant} = {number},"]
+    return Region(f"{SOURCE}/{FILES[name]}", f"pub enum {name} {{", "}", lines)
+
+
+def all_of(name, what, rows):
+    """The constant with every variant, and the line that says how many there are."""
+    behind = f"    /// Every {what}, in the order of their numbers."
+    lines = [f"    pub const ALL: [{name}; {len(rows)}] = ["]
+    lines += [f"        {name}::{variant}," for _, variant, _ in rows]
+    return Region(f"{SOURCE}/{FILES[name]}", behind, "    ];", lines)
+
+
+def texts(name, what, texts_of):
+    """What `name` answers."""
+    behind = f"    /// The name, {what}.\n    #[must_use]\n    pub const fn name(self) -> &'static str {{\n        match self {{"
+    lines = [f'            {name}::{variant} => "{text}",' for variant, text in texts_of]
+    return Region(f"{SOURCE}/{FILES[name]}", behind, "        }", lines)
+
+
+def kinds():
+    rows = [(it.number, it.variant, f"{tables.meaning(it, ', or')}.") for it in tables.kinds()]
+    yield enum("Kind", rows)
+    yield all_of("Kind", "kind", rows)
+    yield texts("Kind", "as reports have it", [(it.variant, it.name) for it in tables.kinds()])
+
+
+def numbered(name, what, table, meaning):
+    rows = [(it.number, it.variant, tables.sentence(getattr(it, meaning))) for it in tables.named(table)]
+    yield enum(name, rows)
+    yield all_of(name, what, rows)
+    yield texts(name, "in plain words", [(it.variant, it.text) for it in tables.named(table)])
+
+
+def field_doc(field):
+    if field.name == "whole":
+        return "The whole of it."
+    if field.name == "skipped":
+        return tables.sentence(field.note)
+    note = field.note or ("unless it is left out" if field.kind == "extension" and field.optional else "")
+    return f"`{field.name}`{', ' if note else ''}{note}."
+
+
+def places(kind):
+    """A kind's struct in the library."""
+    name = "pub struct ExtensionPlaces" if kind == "extension" else f"pub(crate) struct {tables.variant(kind)}"
+    lines = [f"    pub(crate) {it.member}: Span," for it in tables.fields(kind)]
+    return Region(f"{SOURCE}/library.rs", f"{name} {{", "}", lines)
+
+
+def struct(kind):
+    """The struct of a kind's fields."""
+    lines = []
+    for it in tables.fields(kind):
+        kept = "Option<Field<'a>>" if it.optional else "Field<'a>"
+        lines += [*doc(field_doc(it)), f"    pub {it.member}: {kept},"]
+    return Region(f"{SOURCE}/fields.rs", f"pub struct {tables.variant(kind)}<'a> {{", "}", lines)
+
+
+def made(kind):
+    """How a kind's fields are made of their places."""
+    answer, der, found = ("Some", "self.der", "places") if kind == "extension" else ("Ok", "der", "told")
+    call = {it.member: "optional" if it.optional else "field" for it in tables.fields(kind)}
+    lines = [f"            {member}: {make}({der}, {found}.{member})," for member, make in call.items()]
+    return Region(f"{SOURCE}/reader.rs", f"        {answer}({tables.variant(kind)} {{", "        })", lines)
+
+
+def regions():
+    yield from kinds()
+    yield from numbered("Deviation", "deviation", "deviations", "stands")
+    yield from numbered("Reason", "reason", "errors", "meaning")
+    told = [it for it in tables.rows_of("statuses") if it.name in TOLD]
+    lines = [f"    pub(crate) const {it.name}: u32 = {it.number};" for it in told]
+    yield Region(f"{SOURCE}/library.rs", "pub(crate) mod status {", "}", lines)
+    for kind in tables.with_fields():
+        yield from (places(kind), struct(kind), made(kind))
