@@ -104,7 +104,7 @@ enum cimaroly_deviation {
 /*
  * Memory that a call works in. `at` is aligned to 16, as what malloc returns. `size` is in bytes; those past the last
  * multiple of 16 aren't used. The call writes both fields, and restores them before it returns. A certificate needs
- * some 15 times its size and a few thousand bytes, a list of many small items up to 160 times its size, and
+ * some 15 times its size and a few thousand bytes, a list of many small items up to 120 times its size, and
  * cimaroly_report up to three times as much.
  */
 struct cimaroly_memory {

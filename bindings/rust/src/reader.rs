@@ -13,7 +13,7 @@ use crate::told::{Place, SignedPart, Verdict};
 /// Reads inputs, in memory that it is lent. Nothing of an input is kept from one call to the next.
 ///
 /// A certificate needs some 15 times its size and a few thousand bytes, a list of many small items up
-/// to 160 times, and a report some 40 times; the field of a refusal takes a kilobyte more. With too
+/// to 120 times, and a report some 40 times; the field of a refusal takes a kilobyte more. With too
 /// little the answer is [`Error::OutOfMemory`], and never another.
 ///
 /// ```
