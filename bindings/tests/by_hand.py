@@ -1,6 +1,6 @@
 """What is stated of inputs by hand, from X.690 and the RFCs: which are in DER, and why, where and in which field others are refused.
 
-An error's number is that of docs/CALLING.md. The byte is the first of the element, or of the primitive content, that can't be
+An error's number is that of bindings/c/cimaroly.h. The byte is the first of the element, or of the primitive content, that can't be
 read, the first that is left over, or the first of the structure whose fields don't go together. The field is the path of the
 fields around that byte, as their standard names them, `none` where it stands in no field but the whole, and `-` where the
 standards leave open which field it belongs to.

@@ -100,7 +100,7 @@ SHOW = [it[1] for it in options_of("show")]
 ZSH = r"""
 zmodload zsh/zpty
 zpty shell zsh -f -i
-zpty -w shell "fpath=($1 \$fpath); autoload -U compinit; compinit -u -D; PS1="
+zpty -w shell "fpath=($1 \$fpath); autoload -U compinit; compinit -u; PS1="
 zpty -w shell "compadd() {
     if [[ \${@[1,(i)(-|--)]} != *-(O|A|D)\ * ]]; then
         local -a hits
@@ -149,7 +149,7 @@ class Completions(unittest.TestCase):
 
     def ran(self, *words):
         environment = {"PATH": os.environ["PATH"], "HOME": self.folder, "LC_ALL": "C.UTF-8", "TERM": "dumb"}
-        how = {"capture_output": True, "encoding": "utf-8", "check": False, "timeout": 60}
+        how = {"capture_output": True, "encoding": "utf-8", "check": False, "timeout": 600}
         ran = subprocess.run(words, cwd=self.folder, env=environment, **how)
         self.assertEqual(ran.stderr, "")
         return ran.stdout
