@@ -22,7 +22,7 @@ def filled(text, region):
     head, found, tail = text.partition(f"{region.behind}\n")
     if not found or (head and not head.endswith("\n")) or f"\n{region.behind}\n" in f"\n{tail}":
         raise Misplaced(f"{region.path} doesn't have this once: {region.behind}")
-    old, found, rest = f"\n{tail}".partition(f"\n{region.before}\n")
+    _, found, rest = f"\n{tail}".partition(f"\n{region.before}\n")
     if not found:
         raise Misplaced(f"{region.path}: nothing ends what stands behind this: {region.behind}")
     body = "".join(f"{it}\n" for it in region.lines)

@@ -1,4 +1,4 @@
-//! Why a call gives no answer. The lists of reasons are written by tools/make_tables.py.
+//! Why a call gives no answer. The lists of reasons are written by `tools/make_tables.py`.
 
 use core::fmt;
 

@@ -1,4 +1,4 @@
-//! Kinds of structures, and of deviations. The lists are written by tools/make_tables.py.
+//! Kinds of structures, and of deviations. The lists are written by `tools/make_tables.py`.
 
 use core::fmt;
 
