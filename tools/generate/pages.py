@@ -8,8 +8,6 @@ def regions():
     rows = [f"| {it.number} | {it.text} | `{it.rattle}` | {it.stands} |" for it in tables.rows_of("deviations")]
     yield Region("README.md", "| | Deviation | In code | What stands in the input |\n|--:|---|---|---|", "", rows)
     yield Region("docs/BINDINGS.md", "| Status | Meaning |\n|---|---|", "", list(map(status, tables.rows_of("statuses"))))
-    errors = [f"{it.number}. {it.text}" for it in tables.rows_of("errors")]
-    yield Region("docs/CALLING.md", "errors (`ReadError`), by number:\n", "", errors)
 
 
 def status(row):
