@@ -44,7 +44,7 @@ const BINARY: &str = "DER isn't written to a terminal: use -o FILE, or --pem";
 /// What stands at the end of the help.
 const AFTER: &str = "\
 Input is PEM with text around it, DER, or hexadecimal with white space; - or no FILE is standard input.
-Without a command, as in cimaroly FILE, it is shown.
+cimaroly FILE is short for cimaroly show FILE.
 
 Exit status: 0 all is in DER; 1 something was refused; 2 wrong usage; 3 something has deviations;
 4 input or output failed; 5 out of memory.
@@ -87,7 +87,7 @@ fn color_option<'a>(alloc: Global) -> Arg<'a> {
 
 /// The option that has long values shown whole.
 fn full_option<'a>(alloc: Global) -> Arg<'a> {
-    flag(alloc, "full", "Show long lines whole on a terminal")
+    flag(alloc, "full", "Don't cut long lines on a terminal")
 }
 
 /// The files.
@@ -113,13 +113,11 @@ fn show_command<'a>(alloc: Global) -> Result<Command<'a>, AllocError> {
 
 /// `cimaroly check`.
 fn check_command<'a>(alloc: Global) -> Result<Command<'a>, AllocError> {
-    let quiet = flag(alloc, "quiet", "Print nothing; the exit status tells")
+    let quiet = flag(alloc, "quiet", "Print nothing; only set the exit status")
         .short('q')
         .conflicts_with("json")?;
     Command::new(alloc, "check")
-        .about(
-            "Says of each structure whether it is in DER, or how it deviates, or why it is refused",
-        )
+        .about("Tells whether each structure is in DER, how it deviates, or why it is refused")
         .arg(flag(alloc, "json", "Print one JSON object for each structure"))?
         .arg(quiet)?
         .arg(flag(
@@ -130,7 +128,7 @@ fn check_command<'a>(alloc: Global) -> Result<Command<'a>, AllocError> {
         .arg(flag(
             alloc,
             "strict-files",
-            "Refuse files in folders that hold nothing to check",
+            "Refuse files in folders that hold no structure",
         ))?
         .arg(color_option(alloc))?
         .arg(kind_option(alloc))?
@@ -144,7 +142,7 @@ fn der_command<'a>(alloc: Global) -> Result<Command<'a>, AllocError> {
         .arg(flag(
             alloc,
             "pem",
-            "Write it as PEM, and of any number of structures",
+            "Write PEM, and allow any number of structures",
         ))?
         .arg(
             Arg::new(alloc, "output")
