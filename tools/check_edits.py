@@ -31,7 +31,7 @@ BUDGETS = [
     (18, ["x509_fields"]),
     (2, ["x509_oids_algorithms", "x509_oids_objects"]),
     (9, ["x509_pem"]),
-    (8, ["x509_report_parts"]),
+    (13, ["x509_report_parts"]),
     (7, ["x509_oid_names", "x509_report_fields", "x509_inspect_parts"]),
     (6, ["x509_inspect", "cimaroly_work", "cimaroly_parts"]),
     (41, ["lent_memory", "x509_flat", "x509_flat_report", "cimaroly_c"]),
