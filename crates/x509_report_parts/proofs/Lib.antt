@@ -1,1 +1,3 @@
 mod Elements
+mod Firsts
+mod Lasts

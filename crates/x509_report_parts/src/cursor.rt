@@ -1,6 +1,6 @@
 //! Where elements stand: a cursor over bytes that were read before.
 
-ghost use Rattle.std.specs.Prelude.{◌≡◌, ◌≤◌, ◌<◌, ◌+◌, ◌^◌, ◌↔◌, length, drop, IsTrue, IfSome, MatchOption};
+ghost use Rattle.std.specs.Prelude.{◌≡◌, ◌≤◌, ◌<◌, ◌+◌, ◌^◌, ◌↔◌, ℕ, List, [], ◌∷◌, length, drop, IsTrue, MatchOption};
 
 use x509_der::parts::first_element;
 
@@ -44,7 +44,7 @@ pub struct Element<'a> {
 }
 
 impl<'a> Cursor<'a> {
-    ghost use Rattle.x509_report_parts.specs.Cursors.{IsNext, IsNone, Next};
+    ghost use Rattle.x509_report_parts.specs.Cursors.{IsNext, IsNone, Next, NotNext, Last};
 
     /// At the start of an input.
     pub fn new(bytes: &'a [u8]) -> Self
@@ -87,9 +87,9 @@ impl<'a> Cursor<'a> {
         }
     }
 
-    /// The next element, which it goes past, if its tag is this one.
+    /// The next element, which it goes past, if its tag is this one; else it stays where it is.
     pub fn next_if(&mut self, tag: u8) -> Option<Element<'a>>
-        ensures { IfSome result (λ e. (e.tag ≡ tag) × IsNext self.old e self.new) }
+        ensures { MatchOption result (NotNext tag self.old self.new) (λ e. (e.tag ≡ tag) × IsNext self.old e self.new) }
     {
         let mut ahead = *self;
         match ahead.take() {
@@ -101,8 +101,10 @@ impl<'a> Cursor<'a> {
         }
     }
 
-    /// The last element with a tag, of fields that may stand in any order.
-    pub fn last(&self, tag: u8) -> Option<Element<'a>> {
+    /// The last element with a tag, of all up to the first bytes that begin with none: of fields in any order.
+    pub fn last(&self, tag: u8) -> Option<Element<'a>>
+        ensures { Last self.now tag result }
+    {
         let mut cursor = *self;
         let mut found = None;
         for _ in 0..self.rest.len() {
@@ -115,8 +117,10 @@ impl<'a> Cursor<'a> {
         found
     }
 
-    /// The tag of the next element.
-    pub fn tag(&self) -> Option<u8> {
+    /// The first byte, which is the tag of the next element.
+    pub fn tag(&self) -> Option<u8>
+        ensures { MatchOption result (self.now.rest.now ≡ []) (λ tag. (more : List ℕ) × (self.now.rest.now ≡ tag ∷ more)) }
+    {
         self.rest.first().copied()
     }
 

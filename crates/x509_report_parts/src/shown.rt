@@ -1,16 +1,17 @@
 //! How text of the input is shown, so that it can't do anything to a terminal.
 
-ghost use Rattle.std.specs.Prelude.{◌≡◌, true, false};
-ghost use Rattle.x509_report_parts.specs.Seen.{IsControl, TurnsText};
+ghost use Rattle.std.specs.Prelude.{◌≡◌, ◌≤◌, ◌<◌, ◌⊎◌, ◌↔◌, IsTrue, All, false};
+ghost use Rattle.x509_report_parts.specs.Seen.{InSome, IsControl, TurnsText, IsUnseen, IsShown, IsShownIn};
+ghost use Rattle.x509_report_parts.specs.Seen.{privates, marks, harmless};
 
 use std::fmt::{self, Display, Write};
 use std::str;
 
-/// Whether a character has no glyph of its own: controls, marks that turn the direction of text, and characters without
-/// a width (general categories Cc, Cf, Zl and Zp, and the other characters that Unicode calls ignorable by default).
+/// Whether a character that UTF-16 writes by one unit has no glyph of its own: controls, marks that turn the direction of
+/// text, and characters without a width (general categories Cc, Cf, Zl and Zp, and the other characters that Unicode calls
+/// ignorable by default).
 fn is_unseen(c: char) -> bool
-    ensures control { IsControl c → result ≡ true }
-    ensures direction { TurnsText c → result ≡ true }
+    ensures { IsTrue result ↔ ((c < 0x10000) × IsUnseen c) }
 {
     match c {
         '\u{0}'..='\u{1f}' | '\u{7f}'..='\u{9f}' | '\u{ad}' | '\u{34f}' => true,
@@ -25,7 +26,9 @@ fn is_unseen(c: char) -> bool
 
 /// Whether a character that UTF-16 writes by a pair of surrogates has no glyph of its own, or isn't assigned for
 /// everybody: format controls, tags, the planes for private use.
-fn is_far_unseen(c: char) -> bool {
+fn is_far_unseen(c: char) -> bool
+    ensures { IsTrue result ↔ ((0x10000 ≤ c) × (IsUnseen c ⊎ InSome privates c)) }
+{
     match c {
         '\u{110bd}' | '\u{110cd}' | '\u{13430}'..='\u{1343f}' => true,
         '\u{1bca0}'..='\u{1bca3}' | '\u{1d173}'..='\u{1d17a}' => true,
@@ -36,6 +39,7 @@ fn is_far_unseen(c: char) -> bool {
 
 /// Whether a character is shown as it is. The code points from U+E000 up to U+F8FF, for private use, aren't.
 pub fn is_plain(c: char) -> bool
+    ensures exact { IsTrue result ↔ IsShown c }
     ensures control { IsControl c → result ≡ false }
     ensures direction { TurnsText c → result ≡ false }
 {
@@ -58,7 +62,9 @@ pub enum Frame {
 }
 
 /// Whether a character of a text might be taken for the end of what it stands in.
-fn is_mark(frame: Frame, c: char) -> bool {
+fn is_mark(frame: Frame, c: char) -> bool
+    ensures { IsTrue result ↔ InSome (marks frame) c }
+{
     match frame {
         Frame::Quotes => matches!(c, '"' | '\\'),
         Frame::Name => matches!(c, '"' | '\\' | ',' | '+' | '=' | ';' | '<' | '>'),
@@ -79,8 +85,11 @@ fn write_char<W: Write>(out: &mut W, frame: Frame, c: char) -> fmt::Result {
     write!(out, "\\u{{{code:x}}}")
 }
 
-/// Whether all characters of a text are letters and digits of ASCII, or stand for nothing in any frame.
-pub(crate) fn is_harmless(text: &str) -> bool {
+/// Whether all characters of a text are letters and digits of ASCII, or some that stand for nothing in any frame.
+pub(crate) fn is_harmless(text: &str) -> bool
+    ensures exact { IsTrue result ↔ All (λ b. InSome harmless b) text.now }
+    ensures shown { IsTrue result → (frame : Frame) → All (λ b. IsShownIn frame b) text.now }
+{
     text.bytes().all(
         |b| matches!(b, b'a'..=b'z' | b'A'..=b'Z' | b'0'..=b'9' | b' ' | b'-' | b'.' | b'/' | b':' | b'@' | b'*'),
     )
