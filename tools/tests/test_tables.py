@@ -143,6 +143,14 @@ class ByHand(unittest.TestCase):
                 if it.name not in ("whole", "skipped"):
                     self.assertIn(f'"{it.name}"', named)
 
+    def test_formats_on_the_page(self):
+        code, rows = text_of("web/page/formats.mjs"), tables.rows_of("unread")
+        names = dict(re.findall(r'^const (\w+) = \{ name: "(.*?)"', code, re.M))
+        self.assertEqual([*names.values()], [it.reason for it in rows])
+        labels = re.findall(r'^  \["(.*)", (\w+)\],$', code, re.M)
+        listed = [(label, it.reason) for it in rows for label in it.labels.split(",") if label]
+        self.assertEqual([(label, names[it]) for label, it in labels], listed)
+
     def test_pages(self):
         page = " ".join(text_of("docs/JSON.md").split())
         listed = re.search(r"`type`, if it is read as one: (.*?); and with it", page).group(1)
