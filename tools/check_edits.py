@@ -30,6 +30,7 @@ BUDGETS = [
     (18, ["x509_tool_parts", "x509_callers", "refusing"]),
     (16, ["x509_fields"]),
     (2, ["x509_oids_algorithms", "x509_oids_objects"]),
+    (4, ["x509_outline_parts"]),
     (9, ["x509_pem"]),
     (13, ["x509_report_parts"]),
     (7, ["x509_oid_names", "x509_report_fields", "x509_inspect_parts"]),
