@@ -54,18 +54,18 @@ enum cimaroly_kind {
     CIMAROLY_EC_PRIVATE_KEY = 7,  /* ECPrivateKey (RFC 5915, 3) */
     CIMAROLY_NAME = 8,            /* Name (RFC 5280, 4.1.2.4) */
     CIMAROLY_EXTENSIONS = 9,      /* Extensions (RFC 5280, 4.1) */
-    CIMAROLY_ALGORITHM = 10,      /* AlgorithmIdentifier (RFC 5280, 4.1.1.2) of a known algorithm */
+    CIMAROLY_ALGORITHM = 10,      /* AlgorithmIdentifier (RFC 5280, 4.1.1.2), of an algorithm that is known */
     CIMAROLY_RAW_ALGORITHM = 11   /* AlgorithmIdentifier with any parameters */
 };
 
 /* What a call answers. */
 enum cimaroly_status {
-    CIMAROLY_OK = 0,               /* the input encodes a value of the kind, and the call succeeded */
+    CIMAROLY_OK = 0,               /* the input encodes a value of the kind, and all is done */
     CIMAROLY_REFUSED = 1,          /* the input encodes no value of the kind; cimaroly_check says why and where */
-    CIMAROLY_OUT_OF_MEMORY = 2,    /* the lent memory was too little; nothing is known of the input */
-    CIMAROLY_BUFFER_TOO_SHORT = 3, /* the size or the count that is needed is told; the buffer is unchanged */
-    CIMAROLY_UNKNOWN_KIND = 4,     /* there is no such kind, or the call isn't for it */
-    CIMAROLY_TOO_LONG = 5          /* the encoding would have 2^64 bytes or more */
+    CIMAROLY_OUT_OF_MEMORY = 2,    /* the memory was too little: nothing is known of the input */
+    CIMAROLY_BUFFER_TOO_SHORT = 3, /* the size or the count that is needed is told, and the buffer is as it was */
+    CIMAROLY_UNKNOWN_KIND = 4,     /* the number is that of no kind, or of none that the call is for */
+    CIMAROLY_TOO_LONG = 5          /* what is to be written has 2^64 bytes or more */
 };
 
 /* Why an input is refused. */
@@ -181,7 +181,7 @@ struct cimaroly_private_key {
 struct cimaroly_extension {
     struct cimaroly_span whole;
     struct cimaroly_span extn_id;
-    struct cimaroly_span critical; /* or none, if it is left out */
+    struct cimaroly_span critical; /* or none, where it is left out */
     struct cimaroly_span extn_value;
 };
 
