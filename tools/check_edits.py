@@ -35,7 +35,7 @@ BUDGETS = [
     (13, ["x509_report_parts"]),
     (7, ["x509_oid_names", "x509_report_fields", "x509_inspect_parts"]),
     (6, ["x509_inspect", "cimaroly_work", "cimaroly_parts"]),
-    (38, ["lent_memory", "x509_flat", "x509_flat_report", "cimaroly_c"]),
+    (43, ["lent_memory", "x509_flat", "x509_flat_report", "cimaroly_c"]),
 ]
 
 
