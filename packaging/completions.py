@@ -97,8 +97,13 @@ def bash(rows):
     return NOTE + text
 
 
+def zsh_text(row):
+    """What zsh shows of an option or a command, as it stands between single quotes."""
+    return row["text"].replace("'", r"'\''")
+
+
 def zsh_option(row):
-    text = row["text"].replace("[", r"\[").replace("]", r"\]").replace(":", r"\:")
+    text = zsh_text(row).replace("[", r"\[").replace("]", r"\]").replace(":", r"\:")
     values = f"({values_of(row)})" if row["values"] else "_files"
     value = f":{row['value'].lower()}:{values}" if row["value"] else ""
     if row["short"]:
@@ -113,10 +118,15 @@ def zsh(rows):
         further = f"'*:command:({names})'" if it["command"] == "help" else "'*:file:_files'"
         words = [*map(zsh_option, options_of(rows, it["command"])), further]
         cases.append(f"    {it['command']}) _arguments {' '.join(words)} ;;")
-    described = [f"        '{it['command']}:{it['text']}'" for it in named(rows)]
+    described = [f"        '{it['command']}:{zsh_text(it)}'" for it in named(rows)]
     first = " ".join([*map(zsh_option, first_options(rows)), "'*:file:_files'"])
     text = ZSH.replace("@COMMANDS@", "\n".join(described)).replace("@CASES@", "\n".join(cases))
     return "#compdef cimaroly\n" + NOTE + text.replace("@FIRST@", first).replace("@UNNAMED@", UNNAMED)
+
+
+def fish_text(row):
+    """What fish shows of an option or a command, as it stands between single quotes."""
+    return row["text"].replace("'", r"\'")
 
 
 def fish_option(row, when):
@@ -124,13 +134,13 @@ def fish_option(row, when):
     value = ""
     if row["value"]:
         value = f" -x -a '{values_of(row)}'" if row["values"] else " -r -F"
-    return f"complete -c cimaroly -n '{when}'{short} -l {row['long'][2:]}{value} -d '{row['text']}'"
+    return f"complete -c cimaroly -n '{when}'{short} -l {row['long'][2:]}{value} -d '{fish_text(row)}'"
 
 
 def fish(rows):
     names = [it["command"] for it in named(rows)]
     first = "test (count (commandline -opc)) -eq 1"
-    lines = [f"complete -c cimaroly -n '{first}' -a {it['command']} -d '{it['text']}'" for it in named(rows)]
+    lines = [f"complete -c cimaroly -n '{first}' -a {it['command']} -d '{fish_text(it)}'" for it in named(rows)]
     lines += [fish_option(it, first) for it in options_of(rows, "")]
     for name in names:
         when = f"__fish_seen_subcommand_from {name}"
