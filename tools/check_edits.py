@@ -23,7 +23,7 @@ BUDGETS = [
     (34, ["x509_der_parts"]),
     (10, ["x509_prim", "x509_prim_parts"]),
     (20, ["x509_names", "x509_names_parts"]),
-    (31, ["x509_keys_parts"]),
+    (30, ["x509_keys_parts"]),
     (16, ["x509_keys"]),
     (21, ["picky_asn1_x509_parts"]),
     (19, ["picky_asn1_x509"]),
