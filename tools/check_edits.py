@@ -31,6 +31,7 @@ BUDGETS = [
     (16, ["x509_fields"]),
     (2, ["x509_oids_algorithms", "x509_oids_objects"]),
     (4, ["x509_outline_parts"]),
+    (3, ["x509_make"]),
     (3, ["x509_more_extensions"]),
     (9, ["x509_pem"]),
     (13, ["x509_report_parts"]),
