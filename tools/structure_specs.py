@@ -87,7 +87,8 @@ def choice_facts(made, crate, home, file):
     s, cases = made.snake, made.components
     parameter, value, of = over(made)
     count = len(cases)
-    common = ["◌≡◌", "ℕ", "◌||◌", "eqb", "true", "false", "refl", "arith"]
+    tests = [begins(it.tags) for it in cases]
+    common = ["◌≡◌", "ℕ", *(["◌||◌"] if count > 2 or "||" in "".join(tests) else []), "eqb", "true", "false", "refl", "arith"]
     sides = [side(i, count) for i in range(count)]
     explicit = ("(A : Type 0) ", " A", " {A = A}") if made.generic else ("", "", "")
     lines = [
@@ -106,7 +107,6 @@ def choice_facts(made, crate, home, file):
         f"\npub {s}_whole : {explicit[0]}(f : {of}) → {s}_parts ({s}_of{explicit[2]} f) ≡ f",
         *(f"{s}_whole{explicit[1]} {within(it)} = refl" for it in sides),
     ]
-    tests = [begins(it.tags) for it in cases]
     for i, case in enumerate(cases[:-1]):
         lines.append(apart(made, snake_of(case), tests[i], either(tests[i + 1:])).rstrip("\n"))
     return "\n".join(lines) + "\n"
@@ -269,7 +269,7 @@ def choice_law(made, crate, home, first, path):
         lines.append(f"returns g c {value} string y a = {found}")
     return "\n".join([
         first,
-        uses([("x509_der.specs.Choice", "choice")]
+        uses([("x509_der.specs.Choice", "choice")] * (len(cases) > 2)
              + [("x509_der.specs.facts.FieldPlaces", it) for it in ("stands_parts", "stands_first", "stands_second")]
              + grammar + [(home, f"{s}_parts"), (home, f"{s}_base")]),
         f"use Rattle.{own(made, crate)}.TheVariants as variant",

@@ -81,7 +81,7 @@ impl ReadError {
             ReadError::WrongTag => "wrong tag",
             ReadError::BadLength => "malformed length",
             ReadError::BadNumber => "malformed number",
-            ReadError::BadBoolean => "malformed truth value",
+            ReadError::BadBoolean => "malformed boolean",
             ReadError::BadBits => "malformed bit string",
             ReadError::BadOid => "malformed object identifier",
             ReadError::BadText => "character not allowed",
