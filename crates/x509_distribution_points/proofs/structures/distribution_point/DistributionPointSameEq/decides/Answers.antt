@@ -1,0 +1,8 @@
+-- That == of DistributionPoint tells the same, written by tools/structures.py from declarations.asn1.
+use Rattle.x509_distribution_points.specs.DistributionPoint.{distribution_point_parts}
+use Rattle.x509_distribution_points.specs.facts.structures.DistributionPoint.{distribution_point_same}
+use Rattle.x509_der.specs.facts.SameEq.{both_decide, told_decide}
+use Rattle.x509_distribution_points.proofs.structures.distribution_point.DistributionPointSameEq.decides.Goals as goal
+
+pub returns : goal.returns
+returns g c = told_decide distribution_point_parts distribution_point_same (both_decide c.decides.ensures (both_decide c.decides-2.ensures c.decides-3.ensures))
