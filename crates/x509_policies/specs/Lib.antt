@@ -1,0 +1,10 @@
+pub mod DisplayText
+pub mod Explained
+pub mod NoticeReference
+pub mod PolicyInformation
+pub mod PolicyQualifierInfo
+pub mod Qualifiers
+pub mod UserNotice
+pub mod VisibleString
+pub mod facts
+pub mod fields

@@ -1,0 +1,3 @@
+-- Lemmas about the definitions.
+pub mod VisibleString
+pub mod structures
