@@ -1,0 +1,3 @@
+-- Lemmas about the definitions.
+pub mod CertificateTemplate
+pub mod structures

@@ -1,0 +1,3 @@
+-- Facts about structures, written by tools/structures.py from declarations.asn1.
+pub mod DirectoryAttribute
+pub mod QcStatement
