@@ -1,0 +1,4 @@
+pub mod Reading
+pub mod Timestamps
+pub mod Views
+pub mod facts
