@@ -3,6 +3,7 @@
 ghost use Rattle.x509_fields.specs.Slices.{SliceAt};
 
 /// Bytes of an input, from the first on up to the one behind the last.
+#[repr(C)]
 #[derive(Clone, Copy, Debug, PartialEq, Eq)]
 pub struct Span {
     /// How many bytes of the input stand before it.

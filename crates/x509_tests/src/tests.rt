@@ -31,3 +31,4 @@ mod raw_algorithms;
 mod refusals;
 mod rows;
 mod times;
+mod values;

@@ -3,11 +3,26 @@
 use super::checks::{bytes_of, same, same_bytes};
 use std::alloc::{Allocator, Global};
 use std::process::Abort;
-use x509_der::{Asn1RawDer, from_bytes, to_vec};
+use x509_der::{Asn1RawDer, ToDer, from_bytes, to_vec};
 
 #[test]
 fn null_is_as_stated(rt: HostRuntime) {
     assert!(rt; from_bytes::<(), Global>(rt.alloc(), &[5, 0]) == Ok(()));
+}
+
+/// Fills the front of a slice with a value's DER encoding, if it fits.
+fn filled<T: ToDer>(value: &T, room: &mut [u8]) -> Option<usize> {
+    match value.encoded_len() {
+        Ok(len) if len <= room.len() => Some(value.write(room)),
+        _ => None,
+    }
+}
+
+#[test]
+fn values_are_written_to_the_front(rt: HostRuntime) {
+    let mut room: [u8; 5] = [7; 5];
+    assert!(rt; filled(&true, &mut room) == Some(3));
+    assert!(rt; room == [1, 1, 0xff, 7, 7]);
 }
 
 /// Whether the bytes are taken as one element; those that aren't come back.

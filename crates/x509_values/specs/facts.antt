@@ -1,0 +1,4 @@
+-- Lemmas about what is told.
+pub mod Elements
+pub mod UnixTimes
+pub mod Values
