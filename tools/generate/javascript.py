@@ -1,4 +1,4 @@
-"""What web/ has of the tables: the module's names, statuses, fields and types, and the page's titles, short names and sizes."""
+"""What web/ has of the tables: the module's names, statuses, fields, types and keys, and the page's titles and short names."""
 
 from . import tables
 from .regions import Region
@@ -72,9 +72,9 @@ def in_page():
     yield constant(path, "const TITLES = new Map([", [f'  ["{it.name}", "{it.title}"],' for it in tables.kinds()])
     yield constant(path, "const SHORT = new Map([", [f'  ["{it.id}", "{it.short}"],' for it in tables.rows_of("attributes")])
     keys = tables.rows_of("keys")
-    path = "page/key.mjs"
-    yield constant(path, "const ALGORITHMS = new Map([", [f'  ["{it.id}", "{it.word}"],' for it in keys if it.word])
-    yield constant(path, "const SIZES = new Map([", [f'  ["{it.id}", {it.bits}],' for it in keys if it.bits])
+    path = "keys.mjs"
+    yield constant(path, "export const ALGORITHMS = new Map([", [f'  ["{it.id}", "{it.word}"],' for it in keys if it.word])
+    yield constant(path, "export const SIZES = new Map([", [f'  ["{it.id}", {it.bits}],' for it in keys if it.bits])
     sentences = [line for it in tables.rows_of("deviations") for line in pair(it.text, it.sentence)]
     yield constant("page/deviations.mjs", "const SENTENCES = new Map([", sentences)
 

@@ -87,7 +87,7 @@ def in_the_program():
 def run_by_kind():
     """Where one call is made for each kind, at its type."""
     rows, flat = tables.kinds(), "crates/x509_flat/src"
-    behind = "fn run_as<A: Allocator + Copy, K: Task<A>>(kind: Kind, task: K) -> K::Answer {\n    match kind {"
+    behind = "    ensures { K.says task (Value A kind) (shape_of A kind) result }\n{\n    match kind {"
     lines = [f"        Kind::{it.variant} => task.run::<{it.rattle}<A>>()," for it in rows]
     yield Region("crates/x509_inspect/src/task.rt", behind, "    }", lines)
     for file, call, further in (("check", "check_as", ""), ("encode", "encode_as", ", out"), ("places", "places_as", ", out")):
@@ -95,6 +95,19 @@ def run_by_kind():
         yield Region(f"{flat}/{file}.rt", "    match kind {", "    }", lines)
     lines = [f"        Kind::{it.variant} => Inspected::{it.variant}," for it in rows]
     yield Region("crates/x509_flat_report/src/lib.rt", "    match kind {", "    }", lines)
+
+
+def outcomes():
+    """What reading bytes as each kind comes to."""
+    path, rows = "crates/x509_inspect/src/kinds.rt", tables.kinds()
+    fields = [(it, it.name.replace("-", "_")) for it in rows]
+    lines = []
+    for it, name in fields:
+        lines += [*comment(f"As {tables.meaning(it, ', also called')}.", "    /// "), f"    pub {name}: Option<Refused>,"]
+    yield Region(path, "pub struct Outcomes {", "}", lines)
+    yield arms(path, "ensures { result ≡ outcome_of self.now kind }", [(f"Kind::{it.variant}", f"self.{name}") for it, name in fields], value="kind")
+    lines = [f"        {name}: accepts(alloc, Kind::{it.variant}, bytes)," for it, name in fields]
+    yield Region(path, "    ensures { Tried A bytes.now result }\n{\n    Outcomes {", "    }", lines)
 
 
 def by_number():
@@ -171,6 +184,7 @@ def regions():
     yield from unread()
     yield from in_the_program()
     yield from run_by_kind()
+    yield from outcomes()
     yield from by_number()
     yield from served()
     yield from deviations()

@@ -41,6 +41,17 @@ def kinds():
     yield enum("Kind", rows)
     yield all_of("Kind", "kind", rows)
     yield texts("Kind", "as reports have it", [(it.variant, it.name) for it in tables.kinds()])
+    yield labels()
+
+
+def labels():
+    """Which kind the label of a PEM block names."""
+    behind = "    pub fn from_label(label: &[u8]) -> Option<Kind> {\n        match label {"
+    lines = []
+    for it in tables.kinds():
+        arms = " | ".join(f'b"{label}"' for label in it.label_list)
+        lines += [f"            {arms} => Some(Kind::{it.variant}),"] if arms else []
+    return Region(f"{SOURCE}/kind.rs", behind, "            _ => None,", lines)
 
 
 def numbered(name, what, table, meaning):
@@ -72,6 +83,8 @@ def struct(kind):
     for it in tables.fields(kind):
         kept = "Option<Field<'a>>" if it.optional else "Field<'a>"
         lines += [*doc(field_doc(it)), f"    pub {it.member}: {kept},"]
+    if kind == "certificate":
+        lines += ["    pub(crate) whole: Field<'a>,"]
     return Region(f"{SOURCE}/fields.rs", f"pub struct {tables.variant(kind)}<'a> {{", "}", lines)
 
 
@@ -80,6 +93,8 @@ def made(kind):
     answer, der, found = ("Some", "self.der", "places") if kind == "extension" else ("Ok", "der", "told")
     call = {it.member: "optional" if it.optional else "field" for it in tables.fields(kind)}
     lines = [f"            {member}: {make}({der}, {found}.{member})," for member, make in call.items()]
+    if kind == "certificate":
+        lines += ["            whole: field(der, Span { start: 0, end: der.len() }),"]
     return Region(f"{SOURCE}/reader.rs", f"        {answer}({tables.variant(kind)} {{", "        })", lines)
 
 

@@ -251,11 +251,27 @@ pub(crate) fn under_1_3_6_1_4_1_311_10_11(last: u64) -> Option<&'static str> {
     }
 }
 
+/// The names under 1.3.6.1.4.1.311.20.
+pub(crate) fn under_1_3_6_1_4_1_311_20(last: u64) -> Option<&'static str> {
+    match last {
+        2 => Some("ENROLL_CERTTYPE_EXTENSION"),
+        _ => None,
+    }
+}
+
 /// The names under 1.3.6.1.4.1.311.20.2.
 pub(crate) fn under_1_3_6_1_4_1_311_20_2(last: u64) -> Option<&'static str> {
     match last {
         2 => Some("KP_SMARTCARD_LOGON"),
         3 => Some("NT_PRINCIPAL_NAME"),
+        _ => None,
+    }
+}
+
+/// The names under 1.3.6.1.4.1.311.21.
+pub(crate) fn under_1_3_6_1_4_1_311_21(last: u64) -> Option<&'static str> {
+    match last {
+        7 => Some("CERTIFICATE_TEMPLATE"),
         _ => None,
     }
 }
@@ -336,8 +352,18 @@ pub(crate) fn under_1_3_6_1_5_5(last: u64) -> Option<&'static str> {
 pub(crate) fn under_1_3_6_1_5_5_7_1(last: u64) -> Option<&'static str> {
     match last {
         1 => Some("id-pe-authorityInfoAccess"),
+        3 => Some("id-pe-qcStatements"),
         11 => Some("id-pe-subjectInfoAccess"),
         24 => Some("id-pe-tlsfeature"),
+        _ => None,
+    }
+}
+
+/// The names under 1.3.6.1.5.5.7.2.
+pub(crate) fn under_1_3_6_1_5_5_7_2(last: u64) -> Option<&'static str> {
+    match last {
+        1 => Some("id-qt-cps"),
+        2 => Some("id-qt-unotice"),
         _ => None,
     }
 }
@@ -354,6 +380,46 @@ pub(crate) fn under_1_3_6_1_5_5_7_3(last: u64) -> Option<&'static str> {
         7 => Some("id-kp-ipsecUser"),
         8 => Some("id-kp-timeStamping"),
         9 => Some("id-kp-OCSPSigning"),
+        _ => None,
+    }
+}
+
+/// The names under 1.3.6.1.5.5.7.9.
+pub(crate) fn under_1_3_6_1_5_5_7_9(last: u64) -> Option<&'static str> {
+    match last {
+        1 => Some("id-pda-dateOfBirth"),
+        2 => Some("id-pda-placeOfBirth"),
+        3 => Some("id-pda-gender"),
+        4 => Some("id-pda-countryOfCitizenship"),
+        5 => Some("id-pda-countryOfResidence"),
+        _ => None,
+    }
+}
+
+/// The names under 1.3.6.1.5.5.7.11.
+pub(crate) fn under_1_3_6_1_5_5_7_11(last: u64) -> Option<&'static str> {
+    match last {
+        1 => Some("id-qcs-pkixQCSyntax-v1"),
+        2 => Some("id-qcs-pkixQCSyntax-v2"),
+        _ => None,
+    }
+}
+
+/// The names under 1.3.6.1.5.5.7.48.
+pub(crate) fn under_1_3_6_1_5_5_7_48(last: u64) -> Option<&'static str> {
+    match last {
+        1 => Some("id-ad-ocsp"),
+        2 => Some("id-ad-caIssuers"),
+        3 => Some("id-ad-timeStamping"),
+        5 => Some("id-ad-caRepository"),
+        _ => None,
+    }
+}
+
+/// The names under 1.3.6.1.5.5.7.48.1.
+pub(crate) fn under_1_3_6_1_5_5_7_48_1(last: u64) -> Option<&'static str> {
+    match last {
+        5 => Some("id-pkix-ocsp-nocheck"),
         _ => None,
     }
 }

@@ -1,6 +1,30 @@
 //! Names of ITU-T's identifiers, under arc 0, and of those that it shares with ISO, under arc 2. This file is written by
 //! `tools/make_object_identifiers.py`.
 
+/// The names under 0.4.0.1862.1.
+pub(crate) fn under_0_4_0_1862_1(last: u64) -> Option<&'static str> {
+    match last {
+        1 => Some("id-etsi-qcs-QcCompliance"),
+        2 => Some("id-etsi-qcs-QcLimitValue"),
+        3 => Some("id-etsi-qcs-QcRetentionPeriod"),
+        4 => Some("id-etsi-qcs-QcSSCD"),
+        5 => Some("id-etsi-qcs-QcPDS"),
+        6 => Some("id-etsi-qcs-QcType"),
+        7 => Some("id-etsi-qcs-QcCClegislation"),
+        _ => None,
+    }
+}
+
+/// The names under 0.4.0.1862.1.6.
+pub(crate) fn under_0_4_0_1862_1_6(last: u64) -> Option<&'static str> {
+    match last {
+        1 => Some("id-etsi-qct-esign"),
+        2 => Some("id-etsi-qct-eseal"),
+        3 => Some("id-etsi-qct-web"),
+        _ => None,
+    }
+}
+
 /// The names under 0.9.2342.19200300.100.1.
 pub(crate) fn under_0_9_2342_19200300_100_1(last: u64) -> Option<&'static str> {
     match last {
@@ -49,6 +73,7 @@ pub(crate) fn under_2_5_29(last: u64) -> Option<&'static str> {
         18 => Some("id-ce-issuerAltName"),
         19 => Some("id-ce-basicConstraints"),
         20 => Some("id-ce-cRLNumber"),
+        28 => Some("id-ce-issuingDistributionPoint"),
         30 => Some("id-ce-nameConstraints"),
         31 => Some("id-ce-cRLDistributionPoints"),
         32 => Some("id-ce-certificatePolicies"),
@@ -58,6 +83,14 @@ pub(crate) fn under_2_5_29(last: u64) -> Option<&'static str> {
         37 => Some("id-ce-extKeyUsage"),
         46 => Some("id-ce-freshestCRL"),
         54 => Some("id-ce-inhibitAnyPolicy"),
+        _ => None,
+    }
+}
+
+/// The names under 2.5.29.32.
+pub(crate) fn under_2_5_29_32(last: u64) -> Option<&'static str> {
+    match last {
+        0 => Some("anyPolicy"),
         _ => None,
     }
 }
@@ -138,6 +171,33 @@ pub(crate) fn under_2_16_840_1_101_3_4_3(last: u64) -> Option<&'static str> {
         17 => Some("id-ml-dsa-44"),
         18 => Some("id-ml-dsa-65"),
         19 => Some("id-ml-dsa-87"),
+        _ => None,
+    }
+}
+
+/// The names under 2.16.840.1.113730.1.
+pub(crate) fn under_2_16_840_1_113730_1(last: u64) -> Option<&'static str> {
+    match last {
+        1 => Some("netscape-cert-type"),
+        13 => Some("netscape-comment"),
+        _ => None,
+    }
+}
+
+/// The names under 2.23.140.1.
+pub(crate) fn under_2_23_140_1(last: u64) -> Option<&'static str> {
+    match last {
+        1 => Some("ev-guidelines"),
+        _ => None,
+    }
+}
+
+/// The names under 2.23.140.1.2.
+pub(crate) fn under_2_23_140_1_2(last: u64) -> Option<&'static str> {
+    match last {
+        1 => Some("domain-validated"),
+        2 => Some("organization-validated"),
+        3 => Some("individual-validated"),
         _ => None,
     }
 }

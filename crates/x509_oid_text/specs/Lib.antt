@@ -1,0 +1,2 @@
+-- What is told of object identifiers.
+pub mod Texts
