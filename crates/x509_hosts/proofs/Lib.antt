@@ -1,0 +1,2 @@
+-- Lemmas about labels.
+pub mod Labels

@@ -1,0 +1,3 @@
+-- For which hosts a certificate is.
+pub mod Names
+pub mod Hosts
