@@ -1,30 +1,40 @@
 -- The text of a block: what encodes the bytes of the lines that were decoded, and the symbols behind them.
-use Rattle.std.proofs.Common.{◌≡◌, ℕ, ◌+◌, ◌*◌, ◌/◌, ◌%◌, ◌≤◌, Bool, true, false, List, [], ◌++◌, take, drop, length, refl, sym, ap, subst, ◌∙◌, arith, Result, Ok, Err, is_ok, is_err, if◌then◌else◌}
-use Rattle.std.proofs.lemmas.List.{append-nil, length-append, take-append-drop}
+use Rattle.std.proofs.Common.{◌≡◌, ℕ, ◌⊎◌, inl, inr, replicate, ◌+◌, ◌*◌, ◌/◌, ◌%◌, ◌≤◌, Bool, true, false, List, [], ◌++◌, take, drop, length, refl, sym, ap, subst, ◌∙◌, arith, Result, Ok, Err, is_ok, is_err, if◌then◌else◌}
+use Rattle.std.proofs.lemmas.List.{length-replicate, nil_from_length, append-nil, length-append, take-append-drop}
 use Rattle.base64.specs.Engines.{standard}
-use Rattle.base64.specs.GeneralPurpose.{IsBytes, decode_of, encode_of, engine_symbols}
+use Rattle.base64.specs.GeneralPurpose.{IsBytes, decode_of, encode_of, engine_padding, engine_symbols}
+use Rattle.base64.specs.Rfc4648.{encode_symbols, padding_len}
 use Rattle.base64.proofs.EngineFacts.{encode_of-nil, encode_of-append, decode_of_strict, decode_of-encode_of}
 use Rattle.base64.proofs.RoundTrip.{length-encode_symbols}
 use Rattle.std.specs.Result.{OnOk}
 use Rattle.x509_pem.specs.Block.{State, Decodes}
 use Rattle.x509_pem.specs.Rest.{IsDecoded}
-use Rattle.x509_pem.proofs.FullLine.{bytes_append, encode_of_whole}
+use Rattle.x509_pem.proofs.FullLine.{bytes_append}
 
 -- the text of a block
 abbrev pub text_of : List ℕ → List ℕ → List ℕ
 text_of bytes text = encode_of standard bytes ++ text
 
+-- the length of what encodes bytes
+pub encoded_length : (bytes : List ℕ) → length (encode_of standard bytes) ≡ (length bytes + 2) / 3 * 4
+encoded_length bytes =
+    let symbols = length-encode_symbols (engine_symbols standard) bytes in
+    let padding = length-replicate (padding_len (length bytes)) (engine_padding standard) in
+    length-append (encode_symbols (engine_symbols standard) bytes) (replicate (padding_len (length bytes)) (engine_padding standard))
+    ∙ omega (arith, symbols, padding)
+
+-- which is none only of none
+pub encodes_none : (bytes : List ℕ) → [] ≡ encode_of standard bytes → bytes ≡ []
+encodes_none bytes e = nil_from_length bytes (omega (arith, ap length e, encoded_length bytes))
+
 pub no_text : (bytes text : List ℕ) → bytes ≡ [] → text ≡ [] → text_of bytes text ≡ []
 no_text bytes text none empty =
     ap (λ b. text_of b text) none ∙ ap (λ l. l ++ text) (encode_of-nil standard) ∙ empty
 
--- its length, where whole groups were decoded
-pub length_text : (bytes text : List ℕ) → length bytes % 3 ≡ 0 → length (text_of bytes text) ≡ length bytes / 3 * 4 + length text
-length_text bytes text whole =
-    let symbols = length-encode_symbols (engine_symbols standard) bytes in
-    let spelled : length (encode_of standard bytes) ≡ length bytes / 3 * 4 =
-    ap length (encode_of_whole bytes whole) ∙ (symbols ∙ omega (arith, whole)) in
-    length-append (encode_of standard bytes) text ∙ ap (λ n. n + length text) spelled
+-- its length
+pub length_text : (bytes text : List ℕ) → length (text_of bytes text) ≡ (length bytes + 2) / 3 * 4 + length text
+length_text bytes text =
+    length-append (encode_of standard bytes) text ∙ ap (λ n. n + length text) (encoded_length bytes)
 
 -- a full line behind whole groups
 pub text_full : (bytes text line more new : List ℕ) → length bytes % 3 ≡ 0 → text ≡ [] → line ≡ encode_of standard more
@@ -37,18 +47,32 @@ text_full bytes text line more new whole empty is joined =
     after ∙ ap (λ l. encode_of standard l) joined ∙ encode_of-append standard bytes more whole
     ∙ ap (λ l. encode_of standard bytes ++ l) (sym is) ∙ ap (λ l. l ++ line) (sym before)
 
--- the rest of the text is decoded behind whole groups
-pub text_kept : (bytes text new tail : List ℕ) → length bytes % 3 ≡ 0 → IsDecoded text bytes new → tail ≡ []
+-- what is spelled behind whole groups, or is none
+pub spelled_on : (bytes more text : List ℕ) → ((length bytes % 3 ≡ 0) ⊎ (text ≡ [])) → text ≡ encode_of standard more
+    → encode_of standard (bytes ++ more) ≡ encode_of standard bytes ++ text
+spelled_on bytes more text fits spelled = elim fits [
+  | inl whole ↦ encode_of-append standard bytes more whole ∙ ap (λ l. encode_of standard bytes ++ l) (sym spelled)
+  | inr none ↦
+      let nothing : more ≡ [] = encodes_none more (sym none ∙ spelled) in
+      ap (λ l. encode_of standard (bytes ++ l)) nothing ∙ ap (λ l. encode_of standard l) (append-nil bytes)
+      ∙ sym (ap (λ l. encode_of standard bytes ++ l) none ∙ append-nil (encode_of standard bytes))
+]
+
+-- the rest of the text is decoded behind whole groups, or is none
+pub text_kept : (bytes text new tail : List ℕ) → ((length bytes % 3 ≡ 0) ⊎ (text ≡ [])) → IsDecoded text bytes new → tail ≡ []
     → text_of new tail ≡ text_of bytes text
-text_kept bytes text new tail whole rest empty =
+text_kept bytes text new tail fits rest empty =
     ap (λ l. encode_of standard new ++ l) empty ∙ append-nil (encode_of standard new)
-    ∙ ap (λ l. encode_of standard l) rest.1 ∙ encode_of-append standard bytes rest.0 whole
-    ∙ ap (λ l. encode_of standard bytes ++ l) (sym rest.2)
+    ∙ ap (λ l. encode_of standard l) rest.1 ∙ spelled_on bytes rest.0 text fits rest.2
+
+-- what is decoded is bytes
+pub decoded_bytes : (bytes text new : List ℕ) → IsBytes bytes → IsDecoded text bytes new → IsBytes new
+decoded_bytes bytes text new octets rest = subst IsBytes (sym rest.1) (bytes_append bytes rest.0 octets rest.3)
 
 pub text_decodes : (bytes text new tail : List ℕ) → IsBytes bytes → IsDecoded text bytes new → tail ≡ []
     → decode_of standard (text_of new tail) ≡ Ok new
 text_decodes bytes text new tail octets rest empty =
-    let all : IsBytes new = subst IsBytes (sym rest.1) (bytes_append bytes rest.0 octets rest.3) in
+    let all : IsBytes new = decoded_bytes bytes text new octets rest in
     ap (λ l. decode_of standard (encode_of standard new ++ l)) empty
     ∙ ap (λ l. decode_of standard l) (append-nil (encode_of standard new))
     ∙ decode_of-encode_of standard new refl all
@@ -65,11 +89,11 @@ decoded_rest (Ok u) text old new n len fits decodes front bytes = (
   bytes,
 )
 
--- what a block keeps while it is open
+-- what a block keeps
 pub record Kept (is_open : Bool) (bytes text : List ℕ) (limit : ℕ) : Type 0 where
-  pub octets : is_open ≡ true → IsBytes bytes
+  pub octets : IsBytes bytes
   pub groups : is_open ≡ true → length bytes % 3 ≡ 0
-  pub fits : is_open ≡ true → length bytes / 3 * 4 + length text ≤ limit
+  pub fits : (length bytes + 2) / 3 * 4 + length text ≤ limit
 
 -- a full line was tried, and is there if there was memory
 pub full_kept : {T E : Type 0} → (r : Result T E) (is_open : Bool) (bytes text more new : List ℕ) (limit room : ℕ) → is_open ≡ true
@@ -80,12 +104,12 @@ full_kept (Err e) is_open bytes text more new limit room is kept left wide len o
 full_kept (Ok u) is_open bytes text more new limit room is kept left wide len octets grown =
     let P : List ℕ → Type 0 = λ b. Kept is_open b text limit in
     let n : length (bytes ++ more) ≡ length bytes + length more = length-append bytes more in
-    let before = length_text bytes text (kept.groups is) in
+    let before = length_text bytes text in
     let whole = kept.groups is in
     subst P (sym grown) (record {
-      octets = λ o. bytes_append bytes more (kept.octets is) octets;
+      octets = bytes_append bytes more kept.octets octets;
       groups = λ o. omega (arith, n, len, whole);
-      fits = λ o. omega (arith, n, len, whole, before, left, wide);
+      fits = omega (arith, n, len, before, left, wide);
     })
 
 -- the state of a block by its parts
@@ -115,3 +139,10 @@ pub grown_all : {T E : Type 0} → (r : Result T E) (all old new : List ℕ) →
     → new ≡ all
 grown_all (Ok u) all old new fine grown = grown
 grown_all (Err e) all old new fine grown = absurd (cc fine)
+
+-- and then the block fits its limit
+pub decoded_fits : (bytes text new tail : List ℕ) (limit : ℕ) → ((length bytes % 3 ≡ 0) ⊎ (text ≡ [])) → IsDecoded text bytes new
+    → tail ≡ [] → (length bytes + 2) / 3 * 4 + length text ≤ limit → (length new + 2) / 3 * 4 + length tail ≤ limit
+decoded_fits bytes text new tail limit whole rest empty fits =
+    let same = ap length (text_kept bytes text new tail whole rest empty) in
+    omega (arith, same, length_text new tail, length_text bytes text, fits)

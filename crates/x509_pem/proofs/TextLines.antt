@@ -1,6 +1,8 @@
 -- The first line of a text that is made of parts.
-use Rattle.std.specs.Prelude.{◌≡◌, ℕ, List, [], ◌∷◌, ◌++◌, Bool, true, false, cond, length, refl}
-use Rattle.std.proofs.Common.{sym, ◌∙◌, ap, arith, inl, inr, append_assoc}
+use Rattle.std.specs.Prelude.{◌≡◌, ℕ, ◌<◌, ◌≤◌, take, drop, List, [], ◌∷◌, ◌++◌, Bool, true, false, cond, length, refl}
+use Rattle.std.proofs.Common.{sym, ◌∙◌, ap, arith, inl, inr, append_assoc, append-nil, subst}
+use Rattle.std.proofs.BufReadLemmas.{zero_unless_positive}
+use Rattle.std.proofs.lemmas.List.{length-drop, length-take-le, nil_from_length, take-append-drop, take_all}
 use Rattle.std.proofs.lemmas.List.Elements.{All-head, All-tail}
 use Rattle.x509_pem.specs.Part.{IsPart}
 use Rattle.x509_pem.specs.Text.{is_line_end, line_of, behind_line, IsInner}
@@ -57,3 +59,25 @@ part_of_line part rest is none = elim is [
         ap behind_line joined ∙ behind_line_ended some.0 some.1 rest some.3 some.4,
       )
 ]
+
+-- the first part of a text, where it has the end of a line or is the whole, is its first line
+pub first_part : (s : List ℕ) (n : ℕ) (done : Bool) → n ≤ length s → (0 < length s → 0 < n) → (done ≡ false → n ≡ length s)
+    → IsPart done (take n s) → (take n s ≡ line_of s) × (drop n s ≡ behind_line s)
+first_part s n true within some all is =
+    let joined = take-append-drop n s in
+    let none : length (take n s) ≡ 0 → drop n s ≡ [] =
+    λ empty. nil_from_length (drop n s) (omega (
+      arith,
+      length-drop n s,
+      zero_unless_positive (length s) n some (sym (length-take-le n s within) ∙ empty),
+    )) in
+    let both = part_of_line (take n s) (drop n s) is none in
+    (sym both.0 ∙ ap line_of joined, sym both.1 ∙ ap behind_line joined)
+first_part s n false within some all is =
+    let len = all refl in
+    let whole : take n s ≡ s = take_all n s (omega (arith, len)) in
+    let inner : IsInner s = subst IsInner whole is in
+    let nothing : drop n s ≡ [] = nil_from_length (drop n s) (omega (arith, len, length-drop n s)) in (
+      whole ∙ sym (ap line_of (sym (append-nil s)) ∙ line_of_append s [] inner ∙ append-nil s),
+      nothing ∙ sym (ap behind_line (sym (append-nil s)) ∙ behind_line_append s [] inner),
+    )

@@ -1,5 +1,7 @@
 pub mod Block
+pub mod Decoding
 pub mod Group
+pub mod InText
 pub mod Line
 pub mod Part
 pub mod Reader

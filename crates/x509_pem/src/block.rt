@@ -1,6 +1,6 @@
 //! A block that is read line by line.
 
-ghost use Rattle.std.specs.Prelude.{◌≡◌, ◌≢◌, ◌↔◌, ◌≤◌, ◌<◌, ◌+◌, ◌*◌, ◌/◌, ◌%◌, ◌++◌, [], true, false, length, OnOk, OnErr, IfOk, IsErrOf, MatchResult};
+ghost use Rattle.std.specs.Prelude.{◌≡◌, ◌≢◌, ◌↔◌, ◌⊎◌, ◌≤◌, ◌<◌, ◌+◌, ◌*◌, ◌/◌, ◌%◌, ◌++◌, [], true, false, length, OnOk, OnErr, IfOk, IsErrOf, MatchResult};
 ghost use Rattle.base64.specs.GeneralPurpose.{IsBytes};
 ghost use Rattle.x509_pem.specs.Line.{Trimmed};
 ghost use Rattle.x509_pem.specs.Text.{solid};
@@ -25,9 +25,9 @@ pub struct Block<A: Allocator = Global> {
     is_open: bool,
     begun: u64,
     limit: usize,
-    ghost octets: { is_open ≡ true → IsBytes bytes.items },
+    ghost octets: { IsBytes bytes.items },
     ghost groups: { is_open ≡ true → length bytes.items % 3 ≡ 0 },
-    ghost fits: { is_open ≡ true → length bytes.items / 3 * 4 + length text.items ≤ limit },
+    ghost fits: { (length bytes.items + 2) / 3 * 4 + length text.items ≤ limit },
 }
 
 impl<A: Allocator + Copy> Block<A> {
@@ -124,10 +124,9 @@ impl<A: Allocator> Block<A> {
 
     /// How many symbols may still come.
     fn room(&self) -> usize
-        requires { (state_of self.now).is_open ≡ true }
         ensures { result + length ((state_of self.now).text) ≡ limit_of self.now }
     {
-        self.limit - (self.bytes.len() / 3 * 4 + self.text.len())
+        self.limit - (self.bytes.len().div_ceil(3) * 4 + self.text.len())
     }
 
     /// Takes a full line of symbols and decodes it, and answers whether it did: where it didn't, the block is as it was.
@@ -174,7 +173,6 @@ impl<A: Allocator> Block<A> {
     /// # Errors
     /// `TooLong`, where the text would be longer than the limit; else memory is refused. The block is given up.
     fn add(&mut self, line: &[u8]) -> Result<(), Fault>
-        requires { (state_of self.old).is_open ≡ true }
         ensures adds { MatchResult result (λ _. Adds (solid line.now) (state_of self.old) (state_of self.new))
             (λ fault. AddsNot (limit_of self.old) fault (solid line.now) (state_of self.old) × GivenUp (state_of self.new)) }
         ensures limit { limit_of self.new ≡ limit_of self.old }
@@ -190,12 +188,18 @@ impl<A: Allocator> Block<A> {
         Ok(())
     }
 
+    /// Whether the text can stand behind the bytes: behind a group that isn't whole, as padding makes it, nothing can.
+    fn is_decodable(&self) -> bool
+        ensures { result ≡ true → (length self.now.bytes.items % 3 ≡ 0) ⊎ (self.now.text.items ≡ []) }
+    {
+        self.bytes.len() % 3 == 0 || self.text.is_empty()
+    }
+
     /// Ends the block, and decodes what is left of its text. No block is open in any case.
     ///
     /// # Errors
     /// `LabelMismatch`, where the label is another; else the text is invalid base64, or memory is refused.
     fn close(&mut self, label: &[u8]) -> Result<(), Fault>
-        requires { (state_of self.old).is_open ≡ true }
         ensures closes { MatchResult result (λ _. ((state_of self.old).label ≡ label.now) × Closes (state_of self.old) (state_of self.new))
             (λ fault. ClosesNot fault label.now (state_of self.old) × GivenUp (state_of self.new)) }
         ensures limit { limit_of self.new ≡ limit_of self.old }
@@ -204,6 +208,10 @@ impl<A: Allocator> Block<A> {
         if self.label.as_slice() != label {
             self.give_up();
             return Err(Fault::LabelMismatch);
+        }
+        if !self.is_decodable() {
+            self.give_up();
+            return Err(Fault::BadBase64);
         }
         match decode_rest(self.text.as_slice(), &mut self.bytes) {
             Ok(()) => {

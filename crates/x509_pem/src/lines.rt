@@ -61,8 +61,9 @@ struct Part {
 }
 
 /// How many bytes of a chunk belong to its first line, and whether that line ends there.
-fn line_part(chunk: &[u8]) -> (usize, bool)
+pub(crate) fn line_part(chunk: &[u8]) -> (usize, bool)
     ensures bound { result.0 ≤ length chunk.now }
+    ensures all { result.1 ≡ false → result.0 ≡ length chunk.now }
     ensures some { 0 < length chunk.now → 0 < result.0 }
     ensures part { IsPart result.1 (take result.0 chunk.now) }
 {

@@ -1,4 +1,5 @@
 mod grammar;
+mod in_text;
 
 use crate::{Fault, PemError, PemReader};
 use std::io::{BufRead, BufReader};

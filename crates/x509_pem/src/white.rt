@@ -35,7 +35,7 @@ fn front_end(bytes: &[u8]) -> usize
 }
 
 /// Where the white space begins that stands at the end, `start` at the earliest.
-fn back_start(bytes: &[u8], start: usize) -> usize
+pub(crate) fn back_start(bytes: &[u8], start: usize) -> usize
     requires { start ≤ length bytes.now }
     ensures low { start ≤ result }
     ensures bound { result ≤ length bytes.now }

@@ -7,7 +7,7 @@ use std::process::Abort;
 use std::test::Fail;
 
 /// Texts with one block, of the label `A` and the bytes 1, 2 and 3, and the lines that begin and end it.
-const TAKEN: &[(&str, u64, u64)] = &[
+pub(super) const TAKEN: &[(&str, u64, u64)] = &[
     ("-----BEGIN A-----\nAQID\n-----END A-----\n", 1, 3),
     ("-----BEGIN A-----\r\nAQID\r\n-----END A-----\r\n", 1, 3),
     // CR alone ends a line (RFC 7468, 3): OpenSSL finds no block
@@ -79,7 +79,7 @@ fn blocks_are_taken_in_pieces(rt: HostRuntime) -> Result<(), Fail> {
 
 /// Blocks whose text is no base64 (RFC 4648, 4): bits behind the last byte, which OpenSSL takes, padding that is missing,
 /// too much or in the middle, another alphabet, a byte order mark.
-const NO_BASE64: &[&str] = &[
+pub(super) const NO_BASE64: &[&str] = &[
     "AR==",
     "AQJ=",
     "AQ",
