@@ -1,12 +1,16 @@
 //! A report as JSON: one object on one line.
 
+ghost use Rattle.std.specs.Prelude.{IfOk, IfErr};
+ghost use Rattle.x509_inspect.specs.Outcomes.{Counts, NotRead};
+
 use crate::text_report::{FieldOf, NAMED};
-use crate::told::{Task, read_told};
+use crate::told::{Task, faults_in, pin_told, read_told};
 use std::alloc::{AllocError, Allocator};
 use x509_der::{FromDer, Place, Refused};
+use x509_fingerprints::{Fingerprints, HexDigits, Keyed};
 use x509_inspect_parts::json_line::{begin, line_of, write_refused};
-use x509_inspect_parts::{Extent, Head};
-use x509_report::{JsonSink, Reported, Span};
+use x509_inspect_parts::{Extent, Head, Standing};
+use x509_report::{Fault, JsonSink, Moment, Reported, Span};
 
 /// Writes a deviation.
 fn write_deviation<T: Reported, A: Allocator + Copy>(
@@ -51,9 +55,87 @@ fn write_deviations<T: Reported, A: Allocator + Copy>(
     sink.writer().end_array()
 }
 
-/// Writes what a read came to that gave a value.
-fn write_value<T: Reported, A: Allocator + Copy>(
+/// Writes a member that is a digest in hexadecimal.
+fn write_digest<A: Allocator + Copy>(
     sink: &mut JsonSink<A>,
+    name: &str,
+    digest: &[u8],
+) -> Result<(), AllocError> {
+    sink.writer().key(name)?;
+    sink.printed(&HexDigits(digest))
+}
+
+/// Writes the digests: fingerprints of what is signed, and the pin of the public key.
+fn write_digests<T: Reported + Keyed<A>, A: Allocator + Copy>(
+    sink: &mut JsonSink<A>,
+    alloc: A,
+    bytes: &[u8],
+    value: &T,
+) -> Result<(), AllocError> {
+    if value.signed(bytes).is_some() {
+        let prints = Fingerprints::of(bytes);
+        write_digest(sink, "sha256", &prints.sha256)?;
+        write_digest(sink, "sha1", &prints.sha1)?;
+    }
+    match pin_told(alloc, value) {
+        Ok(Some(pin)) => {
+            sink.writer().key("pin")?;
+            sink.printed(&pin)
+        }
+        Ok(None) => Ok(()),
+        Err(_) => Err(AllocError),
+    }
+}
+
+/// Writes whether a value is valid at a time, if it says for which it is.
+fn write_validity<T: Reported, A: Allocator + Copy>(
+    sink: &mut JsonSink<A>,
+    value: &T,
+    at: Moment,
+) -> Result<(), AllocError> {
+    match value.validity() {
+        Some((first, last)) => sink.member("validity", Standing::of(at, first, last).name()),
+        None => Ok(()),
+    }
+}
+
+/// Writes octets that don't encode what they should.
+fn write_fault<A: Allocator + Copy>(
+    sink: &mut JsonSink<A>,
+    fault: Fault,
+) -> Result<(), AllocError> {
+    let Fault { name, reason, at } = fault;
+    sink.writer().begin_object()?;
+    sink.member("name", name)?;
+    sink.member("reason", reason)?;
+    sink.count("at", at as u64)?;
+    sink.writer().end_object()
+}
+
+/// Writes what is wrong in extensions that the encoding keeps as octets.
+fn write_deep<T: Reported, A: Allocator + Copy>(
+    sink: &mut JsonSink<A>,
+    alloc: A,
+    bytes: &[u8],
+    value: &T,
+) -> Result<(), AllocError> {
+    let faults = faults_in(alloc, value, bytes)?;
+    sink.writer().key("octets")?;
+    sink.writer().begin_object()?;
+    sink.writer().key("malformed")?;
+    sink.writer().begin_array()?;
+    for fault in faults.malformed.as_slice() {
+        write_fault(sink, *fault)?;
+    }
+    sink.writer().end_array()?;
+    sink.count("deviations", faults.deviations as u64)?;
+    sink.writer().end_object()
+}
+
+/// Writes what a read came to that gave a value.
+fn write_value<T: Reported + Keyed<A>, A: Allocator + Copy>(
+    sink: &mut JsonSink<A>,
+    alloc: A,
     head: &Head<'_>,
     value: &T,
     places: &[Place],
@@ -69,20 +151,31 @@ fn write_value<T: Reported, A: Allocator + Copy>(
         sink.place("signed", span)?;
     }
     match head.extent {
-        Extent::Fields(options) => value.tell(sink, head.bytes, options.secrets),
+        Extent::Fields(options) => {
+            write_digests(sink, alloc, head.bytes, value)?;
+            value.tell(sink, head.bytes, options.secrets)
+        }
         Extent::Outcome => Ok(()),
+        Extent::OutcomeAt(at) => write_validity(sink, value, at),
+        Extent::Deep(at) => {
+            if let Some(at) = at {
+                write_validity(sink, value, at)?;
+            }
+            write_deep(sink, alloc, head.bytes, value)
+        }
     }
 }
 
 /// Writes the whole object of a value.
-fn write_accepted<T: Reported, A: Allocator + Copy>(
+fn write_accepted<T: Reported + Keyed<A>, A: Allocator + Copy>(
     sink: &mut JsonSink<A>,
+    alloc: A,
     head: &Head<'_>,
     value: &T,
     places: &[Place],
 ) -> Result<(), AllocError> {
     begin(sink, head)?;
-    write_value(sink, head, value, places)?;
+    write_value(sink, alloc, head, value, places)?;
     sink.writer().end_object()
 }
 
@@ -103,12 +196,14 @@ pub type Written<A> = (Vec<u8, A>, Result<usize, Refused>);
 impl<A: Allocator + Copy> Task<A> for WriteJson<'_, A> {
     type Answer = Result<Written<A>, AllocError>;
 
-    fn run<T: FromDer<A> + Reported>(self) -> Result<Written<A>, AllocError> {
+    ghost says = { λ t V s r. IfOk r (λ written. IfOk written.1 (Counts V s t.head.bytes.now)) × IfOk r (λ written. IfErr written.1 (NotRead V s t.head.bytes.now)) };
+
+    fn run<T: FromDer<A> + Reported + Keyed<A>>(self) -> Result<Written<A>, AllocError> {
         let WriteJson { alloc, out, head } = self;
         let mut sink = JsonSink::new(alloc, out);
         let (written, outcome) = match read_told::<T, A>(alloc, head.bytes) {
             Ok((value, places)) => {
-                let written = write_accepted(&mut sink, &head, &value, places.as_slice());
+                let written = write_accepted(&mut sink, alloc, &head, &value, places.as_slice());
                 drop(value);
                 (written, Ok(places.len()))
             }

@@ -4,17 +4,21 @@
 
 mod json_report;
 mod kinds;
+mod row;
 mod task;
 mod text_report;
 mod told;
 
 pub use crate::json_report::Written;
-pub use crate::kinds::{Determined, Kinds, determine};
-pub use crate::task::{check, encoded, push_json, write_text};
+pub use crate::kinds::{Determined, Outcomes, determine};
+pub use crate::row::{Row, Told};
+pub use crate::task::{check, dated, encoded, pinned, push_json, searched, write_row, write_text};
 pub use crate::text_report::TextReport;
+pub use crate::told::{Dated, Pinned, Searched};
 pub use x509_der::Refused;
+pub use x509_fingerprints::Pin;
 pub use x509_inspect_parts::{
-    Extent, Form, Head, Kind, Options, RefusalLine, Source, TreeError, Unread, push_note,
+    Extent, Form, Head, Kind, Options, RefusalLine, Source, Standing, TreeError, Unread, push_note,
     write_tree,
 };
-pub use x509_report::{Identifiers, Secrets};
+pub use x509_report::{Column, Fault, Faults, Identifiers, Moment, Secrets};

@@ -1,9 +1,13 @@
 //! A report as text.
 
-use crate::told::{Task, read_told};
+ghost use Rattle.std.specs.Prelude.{IfOk, IfErr};
+ghost use Rattle.x509_inspect.specs.Outcomes.{Counts, NotRead, WantsMemory};
+
+use crate::told::{Task, pin_told, read_told};
 use std::alloc::Allocator;
 use std::fmt::{self, Display, Write};
 use x509_der::{FromDer, Place, Refused};
+use x509_fingerprints::{Fingerprints, HexDigits, Keyed, Pin};
 use x509_inspect_parts::Options;
 use x509_report::{FieldSink, Reported, Secrets, Span, TextSink};
 use x509_report_parts::{Columns, Layout, Mark};
@@ -20,6 +24,8 @@ pub struct TextReport<'a, T: Reported> {
     pub bytes: &'a [u8],
     /// The deviations.
     pub places: &'a [Place],
+    /// The pin of the public key, if the value holds one.
+    pub pin: Option<Pin>,
     /// What is told.
     pub options: Options,
     /// How it is laid out.
@@ -121,10 +127,22 @@ impl<T: Reported> TextReport<'_, T> {
         out.unseen(colours.end())?;
         out.write_str("\n")?;
         self.value.summary(out)?;
+        self.write_digests(out)?;
+        self.write_deviations(out)
+    }
+
+    /// Writes the lines of digests: the pin of the public key, and of what is signed where that stands, and fingerprints.
+    fn write_digests<W: Write>(&self, out: &mut Columns<'_, W>) -> fmt::Result {
+        if let Some(pin) = self.pin {
+            writeln!(out, "  pin         {pin}")?;
+        }
         if let Some(Span { start, end }) = self.value.signed(self.bytes) {
             writeln!(out, "  signed      {start}..{end}")?;
+            let prints = Fingerprints::of(self.bytes);
+            writeln!(out, "  SHA-256     {}", HexDigits(&prints.sha256))?;
+            writeln!(out, "  SHA-1       {}", HexDigits(&prints.sha1))?;
         }
-        self.write_deviations(out)
+        Ok(())
     }
 }
 
@@ -154,27 +172,40 @@ pub(crate) struct WriteText<'a, 'w, A, W: Write> {
 }
 
 /// Writes the report of a value.
-fn write_report<T: Reported, W: Write>(
+///
+/// # Errors
+/// Memory for the pin is refused; inside, writing failed.
+fn write_report<T: Reported + Keyed<A>, A: Allocator + Copy, W: Write>(
+    alloc: A,
     out: &mut W,
     value: &T,
-    bytes: &[u8],
-    places: &[Place],
-    (options, layout): (Options, Layout),
-) -> fmt::Result {
+    input: (&[u8], &[Place]),
+    form: (Options, Layout),
+) -> Result<fmt::Result, Refused>
+    ensures { IfErr result WantsMemory }
+{
+    let (bytes, places) = input;
+    let (options, layout) = form;
+    let pin = pin_told(alloc, value)?;
     let report = TextReport {
         value,
         bytes,
         places,
+        pin,
         options,
         layout,
     };
-    write!(out, "{report}")
+    Ok(write!(out, "{report}"))
 }
 
 impl<A: Allocator + Copy, W: Write> Task<A> for WriteText<'_, '_, A, W> {
     type Answer = Result<Result<usize, fmt::Error>, Refused>;
 
-    fn run<T: FromDer<A> + Reported>(self) -> Result<Result<usize, fmt::Error>, Refused> {
+    ghost says = { λ t V s r. IfOk r (λ written. IfOk written (Counts V s t.bytes.now)) × IfErr r (NotRead V s t.bytes.now) };
+
+    fn run<T: FromDer<A> + Reported + Keyed<A>>(
+        self,
+    ) -> Result<Result<usize, fmt::Error>, Refused> {
         let WriteText {
             alloc,
             bytes,
@@ -183,8 +214,9 @@ impl<A: Allocator + Copy, W: Write> Task<A> for WriteText<'_, '_, A, W> {
             out,
         } = self;
         let (value, places) = read_told::<T, A>(alloc, bytes)?;
-        let written = write_report(out, &value, bytes, places.as_slice(), (options, layout));
+        let input = (bytes, places.as_slice());
+        let written = write_report(alloc, out, &value, input, (options, layout));
         drop(value);
-        Ok(written.map(|()| places.len()))
+        Ok(written?.map(|()| places.len()))
     }
 }

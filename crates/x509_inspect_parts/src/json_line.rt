@@ -5,8 +5,8 @@ use crate::kind::Kind;
 use crate::options::Options;
 use std::alloc::{AllocError, Allocator};
 use x509_der::Refused;
-use x509_report_parts::JsonSink;
 use x509_report_parts::shown::ShownBytes;
+use x509_report_parts::{JsonSink, Moment};
 
 /// Where bytes come from.
 #[derive(Clone, Copy, Drop)]
@@ -24,6 +24,11 @@ pub enum Extent {
     Outcome,
     /// The fields too.
     Fields(Options),
+    /// What the read came to, and whether the value is valid at a time.
+    OutcomeAt(Moment),
+    /// What the read came to, what is wrong in extensions that the encoding keeps as octets, and where a time is asked for,
+    /// whether the value is valid then.
+    Deep(Option<Moment>),
 }
 
 /// What stands in an object besides what the read came to.

@@ -9,6 +9,7 @@ pub mod json_line;
 mod kind;
 mod options;
 mod refusal;
+mod standing;
 mod tree;
 mod unread;
 
@@ -16,5 +17,6 @@ pub use crate::json_line::{Extent, Head, Source, push_note};
 pub use crate::kind::Kind;
 pub use crate::options::Options;
 pub use crate::refusal::RefusalLine;
+pub use crate::standing::Standing;
 pub use crate::tree::{Form, TreeError, write_tree};
 pub use crate::unread::Unread;

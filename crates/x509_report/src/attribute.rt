@@ -1,14 +1,19 @@
 //! Attributes of requests.
 
+use crate::certificate::alternative_names;
 use crate::extension::extensions;
 use picky_asn1_x509::{
-    Asn1SequenceOf, Attribute, AttributeValues, Attributes, ObjectIdentifierAsn1,
+    Asn1SequenceOf, Asn1SetOf, Attribute, AttributeValues, Attributes, Extensions, GeneralNames,
+    ObjectIdentifierAsn1,
 };
 use std::alloc::Allocator;
-use x509_report_parts::{Cursor, Element, Label, Moment, Shape, Sink, Span, Value};
+use std::fmt::{self, Write};
+use x509_report_further::Limited;
+use x509_report_further::summary::write_services;
+use x509_report_parts::{Cursor, Element, Label, Moment, Shape, Span, Value};
 
 /// Tells attributes.
-pub(crate) fn attributes<A: Allocator + Copy, S: Sink>(
+pub(crate) fn attributes<A: Allocator + Copy, S: Limited>(
     sink: &mut S,
     bytes: &[u8],
     at: Element<'_>,
@@ -22,8 +27,47 @@ pub(crate) fn attributes<A: Allocator + Copy, S: Sink>(
     sink.end()
 }
 
+/// The alternative names that are asked for: those of the first list of extensions that has any (RFC 2985, 5.4.2).
+pub(crate) fn requested_names<A: Allocator>(value: &Attributes<A>) -> Option<&GeneralNames<A>> {
+    for attribute in &value.0 {
+        if let AttributeValues::Extensions(lists) = &attribute.value {
+            for list in &lists.0 {
+                let names = alternative_names(list.0.0.as_slice());
+                if names.is_some() {
+                    return names;
+                }
+            }
+        }
+    }
+    None
+}
+
+/// Writes the lines of a summary that tell of extensions which are asked for.
+pub(crate) fn write_requested<A: Allocator + Copy, W: Write>(
+    out: &mut W,
+    value: &Attributes<A>,
+) -> fmt::Result {
+    for attribute in &value.0 {
+        if let AttributeValues::Extensions(lists) = &attribute.value {
+            write_lists(out, lists)?;
+        }
+    }
+    Ok(())
+}
+
+/// Writes the lines of lists of extensions.
+fn write_lists<A: Allocator + Copy, W: Write>(
+    out: &mut W,
+    lists: &Asn1SetOf<Extensions<A>, A>,
+) -> fmt::Result {
+    for list in &lists.0 {
+        write_services(out, list.0.0.as_slice())?;
+    }
+    Ok(())
+}
+
 /// Tells an attribute: its values as the items of a node.
-fn attribute<A: Allocator + Copy, S: Sink>(
+fn attribute<A: Allocator + Copy, S: Limited>(
     sink: &mut S,
     bytes: &[u8],
     at: Element<'_>,
@@ -42,7 +86,7 @@ fn attribute<A: Allocator + Copy, S: Sink>(
 }
 
 /// Tells the values of an attribute.
-fn items_of<A: Allocator + Copy, S: Sink>(
+fn items_of<A: Allocator + Copy, S: Limited>(
     sink: &mut S,
     bytes: &[u8],
     mut items: Cursor<'_>,
@@ -66,7 +110,7 @@ fn items_of<A: Allocator + Copy, S: Sink>(
 }
 
 /// Tells the values of an attribute that have no fields in them.
-fn plain_items<A: Allocator, S: Sink>(
+fn plain_items<A: Allocator, S: Limited>(
     sink: &mut S,
     items: Cursor<'_>,
     value: &AttributeValues<A>,
@@ -89,7 +133,7 @@ fn plain_items<A: Allocator, S: Sink>(
                     time: (time.0.hour(), time.0.minute(), time.0.second()),
                 };
                 let span: Span = items.next().span;
-                sink.field(Label::Field("SigningTime"), span, Value::Time(moment))?;
+                sink.field(Label::Field("SigningTime"), span, Value::UtcTime(moment))?;
             }
             Ok(())
         }
@@ -98,7 +142,7 @@ fn plain_items<A: Allocator, S: Sink>(
 }
 
 /// Tells object identifiers.
-fn identifiers<A: Allocator, S: Sink>(
+fn identifiers<A: Allocator, S: Limited>(
     sink: &mut S,
     mut items: Cursor<'_>,
     field: &'static str,
@@ -112,7 +156,7 @@ fn identifiers<A: Allocator, S: Sink>(
 }
 
 /// Tells a list of statement types.
-fn statement_types<A: Allocator, S: Sink>(
+fn statement_types<A: Allocator, S: Limited>(
     sink: &mut S,
     at: Element<'_>,
     value: &Asn1SequenceOf<ObjectIdentifierAsn1<A>, A>,

@@ -10,11 +10,15 @@ use picky_asn1_x509::{
 use std::alloc::Allocator;
 use std::fmt::{self, Write};
 use x509_fields::{CertificateFields, Span as FieldSpan, TbsCertificateFields};
-use x509_report_fields::algorithm::algorithm;
+use x509_report_fields::algorithm::{algorithm, write_algorithm};
+use x509_report_fields::column::Column;
 use x509_report_fields::key::{bits, public_key, public_line};
 use x509_report_fields::name::{NameLine, NamesLine, name};
-use x509_report_parts::values::Stamp;
-use x509_report_parts::{Element, Label, Moment, Secrets, Shape, Sink, Span, Value};
+use x509_report_fields::number::NumberLine;
+use x509_report_further::Limited;
+use x509_report_further::summary::write_services;
+use x509_report_parts::values::{Hex, Stamp};
+use x509_report_parts::{Element, Label, Moment, Secrets, Shape, Span, Value};
 
 /// The second that a time says.
 pub(crate) fn moment_of(time: &Time) -> Moment {
@@ -30,8 +34,20 @@ pub(crate) fn moment_of(time: &Time) -> Moment {
     }
 }
 
+/// The value of a time.
+fn time_of(time: &Time) -> Value<'_> {
+    match time {
+        Time::Utc(_) => Value::UtcTime(moment_of(time)),
+        Time::Generalized(_) => Value::Time(moment_of(time)),
+    }
+}
+
 /// Tells the version, where it is encoded.
-fn version<S: Sink>(sink: &mut S, at: Option<FieldSpan>, version: Version) -> Result<(), S::Error> {
+fn version<S: Limited>(
+    sink: &mut S,
+    at: Option<FieldSpan>,
+    version: Version,
+) -> Result<(), S::Error> {
     let word = match version {
         Version::V1 => "v1",
         Version::V2 => "v2",
@@ -44,18 +60,18 @@ fn version<S: Sink>(sink: &mut S, at: Option<FieldSpan>, version: Version) -> Re
 }
 
 /// Tells from when and until when a certificate is valid.
-fn validity<S: Sink>(sink: &mut S, at: Element<'_>, value: &Validity) -> Result<(), S::Error> {
+fn validity<S: Limited>(sink: &mut S, at: Element<'_>, value: &Validity) -> Result<(), S::Error> {
     let mut fields = at.inside;
     sink.begin(Label::Field("validity"), at.span, Shape::Fields)?;
-    let before = Value::Time(moment_of(&value.not_before));
+    let before = time_of(&value.not_before);
     sink.field(Label::Field("notBefore"), fields.next().span, before)?;
-    let after = Value::Time(moment_of(&value.not_after));
+    let after = time_of(&value.not_after);
     sink.field(Label::Field("notAfter"), fields.next().span, after)?;
     sink.end()
 }
 
 /// Tells a unique identifier, where there is one.
-fn unique_id<A: Allocator, S: Sink>(
+fn unique_id<A: Allocator, S: Limited>(
     sink: &mut S,
     field: &'static str,
     at: Option<FieldSpan>,
@@ -68,7 +84,7 @@ fn unique_id<A: Allocator, S: Sink>(
 }
 
 /// Tells the fields that each certificate has.
-fn head<A: Allocator, S: Sink>(
+fn head<A: Allocator, S: Limited>(
     sink: &mut S,
     bytes: &[u8],
     at: &TbsCertificateFields,
@@ -88,7 +104,7 @@ fn head<A: Allocator, S: Sink>(
 }
 
 /// Tells the fields that a certificate may lack.
-fn tail<A: Allocator + Copy, S: Sink>(
+fn tail<A: Allocator + Copy, S: Limited>(
     sink: &mut S,
     bytes: &[u8],
     at: &TbsCertificateFields,
@@ -108,7 +124,7 @@ fn tail<A: Allocator + Copy, S: Sink>(
 }
 
 /// Tells what is signed.
-fn tbs_certificate<A: Allocator + Copy, S: Sink>(
+fn tbs_certificate<A: Allocator + Copy, S: Limited>(
     sink: &mut S,
     bytes: &[u8],
     at: &CertificateFields,
@@ -123,7 +139,9 @@ fn tbs_certificate<A: Allocator + Copy, S: Sink>(
 }
 
 /// The alternative names of the subject, by the first extension that has them.
-fn alternative_names<A: Allocator>(extensions: &[Extension<A>]) -> Option<&GeneralNames<A>> {
+pub(crate) fn alternative_names<A: Allocator>(
+    extensions: &[Extension<A>],
+) -> Option<&GeneralNames<A>> {
     for extension in extensions {
         if let ExtensionView::SubjectAltName(names) = extension.extn_value() {
             return Some(names);
@@ -141,10 +159,32 @@ fn write_parties<A: Allocator, W: Write>(out: &mut W, value: &TbsCertificate<A>)
     writeln!(out, "  issuer      {}", NameLine(&value.issuer))
 }
 
+/// Writes what a column tells of a name, a number or a time.
+fn write_column<A: Allocator, W: Write>(
+    out: &mut W,
+    value: &TbsCertificate<A>,
+    column: Column,
+) -> fmt::Result {
+    match column {
+        Column::Subject => write!(out, "{}", NameLine(&value.subject)),
+        Column::Issuer => write!(out, "{}", NameLine(&value.issuer)),
+        Column::SerialNumber => write!(out, "{}", Hex(value.serial_number.as_bytes())),
+        Column::NotBefore => write!(out, "{}", Stamp(moment_of(&value.validity.not_before))),
+        Column::NotAfter => write!(out, "{}", Stamp(moment_of(&value.validity.not_after))),
+        Column::Key => write!(out, "{}", public_line(&value.subject_public_key_info)),
+        _ => Ok(()),
+    }
+}
+
 impl<A: Allocator + Copy> Reported for Certificate<A> {
     const TITLE: &'static str = "Certificate";
 
-    fn tell<S: Sink>(&self, sink: &mut S, bytes: &[u8], _secrets: Secrets) -> Result<(), S::Error> {
+    fn tell<S: Limited>(
+        &self,
+        sink: &mut S,
+        bytes: &[u8],
+        _secrets: Secrets,
+    ) -> Result<(), S::Error> {
         let at = CertificateFields::of(self, bytes);
         sink.begin(Label::Field("Certificate"), whole(bytes), Shape::Fields)?;
         tbs_certificate(sink, bytes, &at, &self.tbs_certificate)?;
@@ -163,13 +203,42 @@ impl<A: Allocator + Copy> Reported for Certificate<A> {
     fn summary<W: Write>(&self, out: &mut W) -> fmt::Result {
         let fields = &self.tbs_certificate;
         write_parties(out, fields)?;
+        let serial = NumberLine(fields.serial_number.as_bytes());
+        writeln!(out, "  serial      {serial}")?;
         let before = Stamp(moment_of(&fields.validity.not_before));
         let after = Stamp(moment_of(&fields.validity.not_after));
         writeln!(out, "  valid       {before} to {after}")?;
         if let Some(names) = alternative_names(self.extensions()) {
             writeln!(out, "  names       {}", NamesLine(names))?;
         }
+        write_services(out, self.extensions())?;
         let key = public_line(&fields.subject_public_key_info);
         writeln!(out, "  key         {key}")
+    }
+
+    fn column<W: Write>(&self, column: Column, out: &mut W) -> fmt::Result {
+        match column {
+            Column::Names => match alternative_names(self.extensions()) {
+                Some(names) => write!(out, "{}", NamesLine(names)),
+                None => Ok(()),
+            },
+            Column::SignatureAlgorithm => write_algorithm(out, &self.signature_algorithm),
+            _ => write_column(out, &self.tbs_certificate, column),
+        }
+    }
+
+    fn brief<W: Write>(&self, out: &mut W) -> fmt::Result {
+        let fields = &self.tbs_certificate;
+        let after = Stamp(moment_of(&fields.validity.not_after));
+        let key = public_line(&fields.subject_public_key_info);
+        write!(out, "{}; until {after}; {key}", NameLine(&fields.subject))
+    }
+
+    fn validity(&self) -> Option<(Moment, Moment)> {
+        let validity = &self.tbs_certificate.validity;
+        Some((
+            moment_of(&validity.not_before),
+            moment_of(&validity.not_after),
+        ))
     }
 }

@@ -1,16 +1,21 @@
 //! Extensions.
 
+use crate::certificate::alternative_names;
 use crate::extension_values::{authority, basic_constraints, key_usage, purposes};
 use crate::places::extn_value_at;
 use crate::reported::Reported;
 use picky_asn1_x509::{Extension, ExtensionView, Extensions, GeneralNames};
 use std::alloc::Allocator;
 use std::fmt::{self, Write};
+use x509_report_fields::column::Column;
 use x509_report_fields::name::{NamesLine, general_names};
-use x509_report_parts::{Cursor, Element, Label, Secrets, Shape, Sink, Span, Value};
+use x509_report_further::summary::write_services;
+use x509_report_further::{Limited, Place, further};
+use x509_report_parts::values::Count;
+use x509_report_parts::{Cursor, Element, Label, Secrets, Shape, Span, Value};
 
 /// Tells extensions.
-pub(crate) fn extensions<A: Allocator + Copy, S: Sink>(
+pub(crate) fn extensions<A: Allocator + Copy, S: Limited>(
     sink: &mut S,
     field: &'static str,
     bytes: &[u8],
@@ -26,22 +31,34 @@ pub(crate) fn extensions<A: Allocator + Copy, S: Sink>(
 }
 
 /// Tells an extension.
-fn extension<A: Allocator + Copy, S: Sink>(
+fn extension<A: Allocator + Copy, S: Limited>(
     sink: &mut S,
     bytes: &[u8],
     at: Span,
     value: &Extension<A>,
 ) -> Result<(), S::Error> {
-    let mut string = extn_value_at(bytes, at, value).inside;
+    let inside = extn_value_at(bytes, at, value).inside.next();
     let label = Label::Extension {
         content: value.extn_id().0.content(),
         is_critical: value.critical(),
     };
-    held(sink, label, at, string.next(), value.extn_value())
+    let view = value.extn_value();
+    if let ExtensionView::Generic(octets) = view {
+        let place = Place {
+            label,
+            span: at,
+            inside,
+        };
+        let alloc = *octets.0.allocator();
+        if further(sink, alloc, place, &value.extn_id().0, octets.0.as_slice())? {
+            return Ok(());
+        }
+    }
+    held(sink, label, at, inside, view)
 }
 
 /// Tells what an extension holds.
-fn held<A: Allocator, S: Sink>(
+fn held<A: Allocator, S: Limited>(
     sink: &mut S,
     label: Label<'_>,
     span: Span,
@@ -70,7 +87,7 @@ fn held<A: Allocator, S: Sink>(
 }
 
 /// Tells alternative names.
-fn alternative<A: Allocator, S: Sink>(
+fn alternative<A: Allocator, S: Limited>(
     sink: &mut S,
     label: Label<'_>,
     span: Span,
@@ -85,7 +102,12 @@ fn alternative<A: Allocator, S: Sink>(
 impl<A: Allocator + Copy> Reported for Extensions<A> {
     const TITLE: &'static str = "Extensions";
 
-    fn tell<S: Sink>(&self, sink: &mut S, bytes: &[u8], _secrets: Secrets) -> Result<(), S::Error> {
+    fn tell<S: Limited>(
+        &self,
+        sink: &mut S,
+        bytes: &[u8],
+        _secrets: Secrets,
+    ) -> Result<(), S::Error> {
         let at = Cursor::new(bytes).next();
         extensions(sink, "Extensions", bytes, at, self)
     }
@@ -97,6 +119,17 @@ impl<A: Allocator + Copy> Reported for Extensions<A> {
                 writeln!(out, "  names       {}", NamesLine(names))?;
             }
         }
-        Ok(())
+        write_services(out, self.0.0.as_slice())
+    }
+
+    fn column<W: Write>(&self, column: Column, out: &mut W) -> fmt::Result {
+        match (column, alternative_names(self.0.0.as_slice())) {
+            (Column::Names, Some(names)) => write!(out, "{}", NamesLine(names)),
+            _ => Ok(()),
+        }
+    }
+
+    fn brief<W: Write>(&self, out: &mut W) -> fmt::Result {
+        write!(out, "{}", Count(self.0.0.len() as u64, "extension"))
     }
 }

@@ -3,10 +3,11 @@
 use picky_asn1_x509::{AuthorityKeyIdentifier, BasicConstraints, ExtendedKeyUsage, KeyUsage};
 use std::alloc::Allocator;
 use x509_report_fields::name::general_name;
-use x509_report_parts::{Element, Label, Shape, Sink, Span, Value};
+use x509_report_further::Limited;
+use x509_report_parts::{Element, Label, Shape, Span, Value};
 
 /// Tells what the certified key is for.
-pub(crate) fn purposes<A: Allocator, S: Sink>(
+pub(crate) fn purposes<A: Allocator, S: Limited>(
     sink: &mut S,
     label: Label<'_>,
     span: Span,
@@ -51,7 +52,7 @@ fn flags_of<A: Allocator>(usage: &KeyUsage<A>) -> [bool; 9] {
 }
 
 /// Tells what the certified key may be used for, by the names of the bits that are set.
-pub(crate) fn key_usage<A: Allocator, S: Sink>(
+pub(crate) fn key_usage<A: Allocator, S: Limited>(
     sink: &mut S,
     label: Label<'_>,
     span: Span,
@@ -66,11 +67,13 @@ pub(crate) fn key_usage<A: Allocator, S: Sink>(
             count += 1;
         }
     }
-    sink.field(label, span, Value::Words(words.get(..count).unwrap_or(&[])))
+    let bits = u64::try_from(usage.len()).unwrap_or(u64::MAX);
+    let set = words.get(..count).unwrap_or(&[]);
+    sink.field(label, span, Value::Usages(bits, usage.as_bytes(), set))
 }
 
 /// Tells whether the subject is an authority, and how many authorities may stand below it.
-pub(crate) fn basic_constraints<S: Sink>(
+pub(crate) fn basic_constraints<S: Limited>(
     sink: &mut S,
     label: Label<'_>,
     span: Span,
@@ -79,8 +82,9 @@ pub(crate) fn basic_constraints<S: Sink>(
 ) -> Result<(), S::Error> {
     let mut fields = inside.inside;
     sink.begin(label, span, Shape::Line)?;
-    if let Some(ca) = constraints.ca() {
-        sink.field(Label::Field("cA"), fields.next().span, Value::Flag(ca))?;
+    match constraints.ca() {
+        Some(ca) => sink.field(Label::Field("cA"), fields.next().span, Value::Flag(ca))?,
+        None => sink.left_out(Label::Field("cA"), Value::Flag(false))?,
     }
     if let Some(length) = constraints.pathlen() {
         let length = Value::Number(u64::from(length));
@@ -94,7 +98,7 @@ pub(crate) fn basic_constraints<S: Sink>(
 }
 
 /// Tells which key signed. Of fields with one tag, the last counts.
-pub(crate) fn authority<A: Allocator, S: Sink>(
+pub(crate) fn authority<A: Allocator, S: Limited>(
     sink: &mut S,
     label: Label<'_>,
     span: Span,
@@ -119,7 +123,7 @@ pub(crate) fn authority<A: Allocator, S: Sink>(
 }
 
 /// Tells who certified the key that signed.
-fn issuer<A: Allocator, S: Sink>(
+fn issuer<A: Allocator, S: Limited>(
     sink: &mut S,
     at: Option<Element<'_>>,
     key: &AuthorityKeyIdentifier<A>,

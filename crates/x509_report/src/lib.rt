@@ -15,6 +15,8 @@ mod request;
 mod small;
 
 pub use crate::reported::Reported;
+pub use x509_report_fields::column::Column;
+pub use x509_report_further::faults::{Fault, Faults};
 pub use x509_report_parts::{
     Cursor, Element, FieldSink, Identifiers, JsonSink, Label, Moment, Secrets, Shape, Sink, Span,
     TextSink, Value,

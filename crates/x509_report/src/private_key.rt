@@ -10,8 +10,10 @@ use std::alloc::Allocator;
 use std::fmt::{self, Write};
 use x509_fields::PrivateKeyInfoFields;
 use x509_report_fields::algorithm::algorithm;
+use x509_report_fields::column::Column;
 use x509_report_fields::key::{KeyLine, bits, line_of, octet_bits, rsa_line, sized};
-use x509_report_parts::{Cursor, Element, Label, Secrets, Shape, Sink, Value};
+use x509_report_further::Limited;
+use x509_report_parts::{Cursor, Element, Label, Secrets, Shape, Value};
 
 /// A secret number, or how many bytes it has.
 fn secret_number<A: Allocator>(number: &IntegerAsn1<A>, secrets: Secrets) -> Value<'_> {
@@ -39,7 +41,7 @@ fn rsa_version<A: Allocator>(version: &IntegerAsn1<A>) -> Value<'_> {
 }
 
 /// Tells the fields of an RSA private key up to the public exponent.
-fn rsa_head<A: Allocator, S: Sink>(
+fn rsa_head<A: Allocator, S: Limited>(
     sink: &mut S,
     fields: &mut Cursor<'_>,
     value: &RsaPrivateKey<A>,
@@ -53,7 +55,7 @@ fn rsa_head<A: Allocator, S: Sink>(
 }
 
 /// Tells a secret number of an RSA private key.
-fn rsa_secret<A: Allocator, S: Sink>(
+fn rsa_secret<A: Allocator, S: Limited>(
     sink: &mut S,
     field: &'static str,
     at: Element<'_>,
@@ -64,7 +66,7 @@ fn rsa_secret<A: Allocator, S: Sink>(
 }
 
 /// Tells the fields of an RSA private key behind the public exponent.
-fn rsa_tail<A: Allocator, S: Sink>(
+fn rsa_tail<A: Allocator, S: Limited>(
     sink: &mut S,
     fields: &mut Cursor<'_>,
     value: &RsaPrivateKey<A>,
@@ -86,7 +88,7 @@ fn rsa_tail<A: Allocator, S: Sink>(
 }
 
 /// Tells an RSA private key.
-fn rsa<A: Allocator, S: Sink>(
+fn rsa<A: Allocator, S: Limited>(
     sink: &mut S,
     field: &'static str,
     at: Element<'_>,
@@ -101,7 +103,7 @@ fn rsa<A: Allocator, S: Sink>(
 }
 
 /// Tells an elliptic curve private key.
-fn ec<A: Allocator, S: Sink>(
+fn ec<A: Allocator, S: Limited>(
     sink: &mut S,
     field: &'static str,
     at: Element<'_>,
@@ -129,7 +131,7 @@ fn ec<A: Allocator, S: Sink>(
 }
 
 /// Tells the key in its OCTET STRING.
-fn private_key<A: Allocator, S: Sink>(
+fn private_key<A: Allocator, S: Limited>(
     sink: &mut S,
     at: Element<'_>,
     value: &PrivateKeyValue<A>,
@@ -149,7 +151,7 @@ fn private_key<A: Allocator, S: Sink>(
 }
 
 /// Tells what stands behind a private key: an element that was skipped, and the public key.
-fn tail<A: Allocator, S: Sink>(
+fn tail<A: Allocator, S: Limited>(
     sink: &mut S,
     bytes: &[u8],
     at: &PrivateKeyInfoFields,
@@ -158,7 +160,7 @@ fn tail<A: Allocator, S: Sink>(
     if let Some(skipped) = at.skipped {
         let skipped = field_at(bytes, skipped);
         let label = Label::Field("skipped");
-        sink.field(label, skipped.span, Value::Octets(skipped.inside.rest))?;
+        sink.field(label, skipped.span, Value::Opaque(skipped.inside.rest))?;
     }
     match (at.public_key, public_key) {
         (Some(at), Some(key)) => sink.field(Label::Field("publicKey"), place(at), bits(key)),
@@ -179,7 +181,12 @@ fn private_line<A: Allocator>(value: &PrivateKeyInfo<A>) -> KeyLine<'_> {
 impl<A: Allocator + Copy> Reported for PrivateKeyInfo<A> {
     const TITLE: &'static str = "Private key";
 
-    fn tell<S: Sink>(&self, sink: &mut S, bytes: &[u8], secrets: Secrets) -> Result<(), S::Error> {
+    fn tell<S: Limited>(
+        &self,
+        sink: &mut S,
+        bytes: &[u8],
+        secrets: Secrets,
+    ) -> Result<(), S::Error> {
         let at = PrivateKeyInfoFields::of(self, bytes);
         let label = Label::Field("PrivateKeyInfo");
         sink.begin(label, whole(bytes), Shape::Fields)?;
@@ -196,12 +203,24 @@ impl<A: Allocator + Copy> Reported for PrivateKeyInfo<A> {
     fn summary<W: Write>(&self, out: &mut W) -> fmt::Result {
         writeln!(out, "  key         {}", private_line(self))
     }
+
+    fn column<W: Write>(&self, column: Column, out: &mut W) -> fmt::Result {
+        match column {
+            Column::Key => write!(out, "{}", private_line(self)),
+            _ => Ok(()),
+        }
+    }
 }
 
 impl<A: Allocator> Reported for RsaPrivateKey<A> {
     const TITLE: &'static str = "RSA private key";
 
-    fn tell<S: Sink>(&self, sink: &mut S, bytes: &[u8], secrets: Secrets) -> Result<(), S::Error> {
+    fn tell<S: Limited>(
+        &self,
+        sink: &mut S,
+        bytes: &[u8],
+        secrets: Secrets,
+    ) -> Result<(), S::Error> {
         rsa(
             sink,
             "RSAPrivateKey",
@@ -213,6 +232,13 @@ impl<A: Allocator> Reported for RsaPrivateKey<A> {
 
     fn summary<W: Write>(&self, out: &mut W) -> fmt::Result {
         writeln!(out, "  key         {}", rsa_line(&self.modulus))
+    }
+
+    fn column<W: Write>(&self, column: Column, out: &mut W) -> fmt::Result {
+        match column {
+            Column::Key => write!(out, "{}", rsa_line(&self.modulus)),
+            _ => Ok(()),
+        }
     }
 }
 
@@ -228,7 +254,12 @@ fn ec_line<A: Allocator>(value: &ECPrivateKey<A>) -> KeyLine<'_> {
 impl<A: Allocator> Reported for ECPrivateKey<A> {
     const TITLE: &'static str = "EC private key";
 
-    fn tell<S: Sink>(&self, sink: &mut S, bytes: &[u8], secrets: Secrets) -> Result<(), S::Error> {
+    fn tell<S: Limited>(
+        &self,
+        sink: &mut S,
+        bytes: &[u8],
+        secrets: Secrets,
+    ) -> Result<(), S::Error> {
         ec(
             sink,
             "ECPrivateKey",
@@ -240,5 +271,12 @@ impl<A: Allocator> Reported for ECPrivateKey<A> {
 
     fn summary<W: Write>(&self, out: &mut W) -> fmt::Result {
         writeln!(out, "  key         {}", ec_line(self))
+    }
+
+    fn column<W: Write>(&self, column: Column, out: &mut W) -> fmt::Result {
+        match column {
+            Column::Key => write!(out, "{}", ec_line(self)),
+            _ => Ok(()),
+        }
     }
 }

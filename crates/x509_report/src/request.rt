@@ -1,16 +1,18 @@
 //! Certification requests.
 
-use crate::attribute::attributes;
+use crate::attribute::{attributes, requested_names, write_requested};
 use crate::places::{field_at, place, whole};
 use crate::reported::Reported;
 use picky_asn1_x509::{CertificationRequest, CertificationRequestInfo};
 use std::alloc::Allocator;
 use std::fmt::{self, Write};
 use x509_fields::CertificationRequestFields;
-use x509_report_fields::algorithm::algorithm;
+use x509_report_fields::algorithm::{algorithm, write_algorithm};
+use x509_report_fields::column::Column;
 use x509_report_fields::key::{bits, public_key, public_line};
-use x509_report_fields::name::{NameLine, name};
-use x509_report_parts::{Label, Secrets, Shape, Sink, Span, Value};
+use x509_report_fields::name::{NameLine, NamesLine, name};
+use x509_report_further::Limited;
+use x509_report_parts::{Label, Secrets, Shape, Span, Value};
 
 /// The version of a request: `v1` is 0 (RFC 2986, 4.1).
 fn version_of(version: u8) -> Value<'static> {
@@ -21,7 +23,7 @@ fn version_of(version: u8) -> Value<'static> {
 }
 
 /// Tells what is signed.
-fn request_info<A: Allocator + Copy, S: Sink>(
+fn request_info<A: Allocator + Copy, S: Limited>(
     sink: &mut S,
     bytes: &[u8],
     at: &CertificationRequestFields,
@@ -43,7 +45,12 @@ fn request_info<A: Allocator + Copy, S: Sink>(
 impl<A: Allocator + Copy> Reported for CertificationRequest<A> {
     const TITLE: &'static str = "Certification request";
 
-    fn tell<S: Sink>(&self, sink: &mut S, bytes: &[u8], _secrets: Secrets) -> Result<(), S::Error> {
+    fn tell<S: Limited>(
+        &self,
+        sink: &mut S,
+        bytes: &[u8],
+        _secrets: Secrets,
+    ) -> Result<(), S::Error> {
         let at = CertificationRequestFields::of(self, bytes);
         let label = Label::Field("CertificationRequest");
         sink.begin(label, whole(bytes), Shape::Fields)?;
@@ -63,7 +70,31 @@ impl<A: Allocator + Copy> Reported for CertificationRequest<A> {
     fn summary<W: Write>(&self, out: &mut W) -> fmt::Result {
         let info = &self.certification_request_info;
         writeln!(out, "  subject     {}", NameLine(&info.subject))?;
+        if let Some(names) = requested_names(&info.attributes.0) {
+            writeln!(out, "  names       {}", NamesLine(names))?;
+        }
+        write_requested(out, &info.attributes.0)?;
         let key = public_line(&info.subject_public_key_info);
         writeln!(out, "  key         {key}")
+    }
+
+    fn column<W: Write>(&self, column: Column, out: &mut W) -> fmt::Result {
+        let info = &self.certification_request_info;
+        match column {
+            Column::Subject => write!(out, "{}", NameLine(&info.subject)),
+            Column::Key => write!(out, "{}", public_line(&info.subject_public_key_info)),
+            Column::SignatureAlgorithm => write_algorithm(out, &self.signature_algorithm),
+            Column::Names => match requested_names(&info.attributes.0) {
+                Some(names) => write!(out, "{}", NamesLine(names)),
+                None => Ok(()),
+            },
+            _ => Ok(()),
+        }
+    }
+
+    fn brief<W: Write>(&self, out: &mut W) -> fmt::Result {
+        let info = &self.certification_request_info;
+        let key = public_line(&info.subject_public_key_info);
+        write!(out, "{}; {key}", NameLine(&info.subject))
     }
 }

@@ -5,7 +5,9 @@ use picky_asn1_x509::{
     EcParameters, HashAlgorithm, MaskGenAlgorithm, RsassaPssParams,
 };
 use std::alloc::Allocator;
-use x509_report_parts::{Element, Label, Shape, Sink, Value};
+use std::fmt::{self, Write};
+use x509_report_parts::text_sink::Named;
+use x509_report_parts::{Element, Identifiers, Label, Shape, Sink, Value};
 
 /// Tells an algorithm with its parameters.
 pub fn algorithm<A: Allocator, S: Sink>(
@@ -23,6 +25,14 @@ pub fn algorithm<A: Allocator, S: Sink>(
         told_parameters(sink, fields.next(), parameters)?;
     }
     sink.end()
+}
+
+/// Writes the name of an algorithm, or its object identifier with dots.
+pub fn write_algorithm<A: Allocator, W: Write>(
+    out: &mut W,
+    value: &AlgorithmIdentifier<A>,
+) -> fmt::Result {
+    write!(out, "{}", Named(value.oid().content(), Identifiers::Named))
 }
 
 /// Whether an algorithm stands on one line.
@@ -110,7 +120,7 @@ fn mask<A: Allocator, S: Sink>(
     sink.begin(Label::Field("maskGenAlgorithm"), at.span, Shape::Line)?;
     let identifier = Value::Identifier(value.mask_gen_algorithm.0.content());
     sink.field(Label::Field("algorithm"), fields.next().span, identifier)?;
-    let hash = Value::Word(hash_word(value.hash_algorithm));
+    let hash = Value::Algorithm(hash_word(value.hash_algorithm));
     sink.field(Label::Field("parameters"), fields.next().span, hash)?;
     sink.end()
 }
@@ -124,7 +134,7 @@ fn pss<A: Allocator, S: Sink>(
     let mut fields = at.inside;
     sink.begin(Label::Field("parameters"), at.span, Shape::Fields)?;
     if let Some(found) = fields.next_if(0xa0) {
-        let hash = Value::Word(hash_word(value.hash_algorithm));
+        let hash = Value::Algorithm(hash_word(value.hash_algorithm));
         sink.field(Label::Field("hashAlgorithm"), found.span, hash)?;
     }
     if let Some(found) = fields.next_if(0xa1) {

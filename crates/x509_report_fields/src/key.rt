@@ -8,6 +8,7 @@ use picky_asn1_x509::{
 use std::alloc::Allocator;
 use std::fmt::{self, Display, Write};
 use x509_report_parts::text_sink::Named;
+use x509_report_parts::values::Count;
 use x509_report_parts::{Element, Identifiers, Label, Shape, Sink, Value};
 
 /// A count, and the greatest that is told for a larger one.
@@ -372,10 +373,15 @@ impl Display for KeySize {
     fn fmt<W: Write>(&self, f: &mut fmt::Formatter<W>) -> fmt::Result {
         match *self {
             KeySize::Unknown => Ok(()),
-            KeySize::Bits(bits) => write!(f, ", {bits} bits"),
-            KeySize::Other { own, usual } => write!(f, ", {own} bits instead of {usual}"),
+            KeySize::Bits(bits) => write!(f, ", {}", Count(bits, "bit")),
+            KeySize::Other { own, usual } => write!(
+                f,
+                ", {} instead of {usual}",
+                Count(own, "bit")
+            ),
             KeySize::Odd { bits, part, own } => {
-                write!(f, ", {bits} bits, with a {part} of {own} bits")
+                let (bits, own) = (Count(bits, "bit"), Count(own, "bit"));
+                write!(f, ", {bits}, with a {part} of {own}")
             }
             KeySize::NoModulus => f.write_str(", with a modulus that isn't positive"),
         }

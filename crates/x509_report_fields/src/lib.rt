@@ -2,5 +2,7 @@
 #![tactic(auto)]
 
 pub mod algorithm;
+pub mod column;
 pub mod key;
 pub mod name;
+pub mod number;

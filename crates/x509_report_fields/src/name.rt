@@ -9,7 +9,7 @@ use std::fmt::{self, Display, Write};
 use x509_report_parts::shown::{Frame, Shown};
 use x509_report_parts::text_sink::Named;
 use x509_report_parts::values::{Address, Dotted, Hex, Utf16};
-use x509_report_parts::{Cursor, Element, Identifiers, Label, Shape, Sink, Value};
+use x509_report_parts::{Cursor, Element, Identifiers, Label, Shape, Sink, StringType, Value};
 
 /// Tells a name.
 pub fn name<A: Allocator, S: Sink>(
@@ -32,13 +32,23 @@ fn attributes<A: Allocator, S: Sink>(
     at: Element<'_>,
     set: &RelativeDistinguishedName<A>,
 ) -> Result<(), S::Error> {
-    let mut items = at.inside;
     let shape = if set.0.len() == 1 {
         Shape::Only
     } else {
         Shape::Items
     };
     sink.begin(Label::Field("RelativeDistinguishedName"), at.span, shape)?;
+    each_attribute(sink, at, set)?;
+    sink.end()
+}
+
+/// Tells the attributes of a set as the items of a node that has begun.
+fn each_attribute<A: Allocator, S: Sink>(
+    sink: &mut S,
+    at: Element<'_>,
+    set: &RelativeDistinguishedName<A>,
+) -> Result<(), S::Error> {
+    let mut items = at.inside;
     for item in &set.0 {
         let span = items.next().span;
         sink.field(
@@ -47,14 +57,28 @@ fn attributes<A: Allocator, S: Sink>(
             held(&item.value),
         )?;
     }
+    Ok(())
+}
+
+/// Tells a set of attributes that is a field by itself.
+pub fn relative_name<A: Allocator, S: Sink>(
+    sink: &mut S,
+    field: &'static str,
+    at: Element<'_>,
+    set: &RelativeDistinguishedName<A>,
+) -> Result<(), S::Error> {
+    sink.begin(Label::Field(field), at.span, Shape::Items)?;
+    each_attribute(sink, at, set)?;
     sink.end()
 }
 
 /// The value of a directory string.
 pub fn text<A: Allocator>(text: &DirectoryString<A>) -> Value<'_> {
     match text {
-        DirectoryString::PrintableString(text) => Value::Text(text.as_str()),
-        DirectoryString::Utf8String(text) => Value::Text(text.as_str()),
+        DirectoryString::PrintableString(text) => {
+            Value::Typed(StringType::Printable, text.as_str())
+        }
+        DirectoryString::Utf8String(text) => Value::Typed(StringType::Utf8, text.as_str()),
         DirectoryString::BmpString(text) => Value::Utf16(text.as_bytes()),
     }
 }
@@ -80,14 +104,14 @@ fn held<A: Allocator>(value: &AttributeTypeAndValueParameters<A>) -> Value<'_> {
 
 /// The value of an element that isn't looked into: its text, if it is a string of ASCII or UTF-8 (X.690, 8.23), and else
 /// its bytes.
-fn raw(bytes: &[u8]) -> Value<'_> {
+pub fn raw(bytes: &[u8]) -> Value<'_> {
     let mut cursor = Cursor::new(bytes);
     let element = cursor.next();
-    if !matches!(element.tag, 0x0c | 0x12 | 0x13 | 0x16 | 0x1a) {
+    let Some(kind) = StringType::from_tag(element.tag) else {
         return Value::Raw(bytes);
-    }
+    };
     match std::str::from_utf8(element.inside.rest) {
-        Ok(text) => Value::Text(text),
+        Ok(text) => Value::Typed(kind, text),
         Err(_) => Value::Raw(bytes),
     }
 }
@@ -228,7 +252,9 @@ pub struct InLine<'a>(pub Value<'a>);
 impl Display for InLine<'_> {
     fn fmt<W: Write>(&self, f: &mut fmt::Formatter<W>) -> fmt::Result {
         match self.0 {
-            Value::Text(text) => write!(f, "{}", Shown(&text, Frame::Name)),
+            Value::Text(text) | Value::Typed(_, text) => {
+                write!(f, "{}", Shown(&text, Frame::Name))
+            }
             Value::Utf16(bytes) => write!(f, "{}", Shown(&Utf16(bytes), Frame::Name)),
             Value::Raw(bytes) | Value::Octets(bytes) => write!(f, "#{}", Hex(bytes)),
             Value::Address(bytes) => write!(f, "{}", Address(bytes)),
@@ -341,5 +367,18 @@ impl<A: Allocator> Display for NamesLine<'_, A> {
             write_general_name(f, name)?;
         }
         Ok(())
+    }
+}
+
+/// A general name on one line: an address as it is, and what is none behind the word for its form.
+#[derive(Drop)]
+pub struct AddressLine<'a, A: Allocator>(pub &'a GeneralName<A>);
+
+impl<A: Allocator> Display for AddressLine<'_, A> {
+    fn fmt<W: Write>(&self, f: &mut fmt::Formatter<W>) -> fmt::Result {
+        match self.0 {
+            GeneralName::Uri(text) => write!(f, "{}", InLine(Value::Text(text.as_str()))),
+            name => write_general_name(f, name),
+        }
     }
 }

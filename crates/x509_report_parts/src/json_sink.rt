@@ -3,7 +3,8 @@
 use crate::cursor::Span;
 use crate::shown::is_plain;
 use crate::sink::{Label, Shape, Sink, Value};
-use crate::values::{Address, Dotted, Hex, Stamp, Utf16, name_in};
+use crate::types::StringType;
+use crate::values::{Address, Dotted, ElementHex, Hex, Stamp, Utf16, is_whole_utf16, name_in};
 use json::Writer;
 use std::alloc::{AllocError, Allocator, Global};
 use std::fmt::Display;
@@ -183,50 +184,137 @@ impl<A: Allocator + Copy> JsonSink<A> {
         self.writer.end_object()
     }
 
-    /// Writes a number of bits, and `value` with the bytes.
-    fn bits(&mut self, count: u64, bytes: &[u8]) -> Result<(), AllocError> {
-        self.count("bits", count)?;
-        self.writer.key("value")?;
-        self.ascii(&Hex(bytes))
+    /// Writes why bytes don't encode what should stand there.
+    fn malformed(&mut self, reason: &'static str, at: usize) -> Result<(), AllocError> {
+        self.writer.key("malformed")?;
+        self.writer.begin_object()?;
+        self.writer.key("reason")?;
+        self.writer.string(reason)?;
+        self.count("at", at as u64)?;
+        self.writer.end_object()
     }
 
     /// Writes a value.
     fn value(&mut self, value: Value<'_>) -> Result<(), AllocError> {
         match value {
-            Value::Text(text) => self.string(text),
+            Value::Text(text) | Value::Typed(_, text) => self.string(text),
             Value::Utf16(bytes) => self.printed(&Utf16(bytes)),
-            Value::Word(word) => self.writer.string(word),
-            Value::Words(words) => self.words(words),
+            Value::Word(word) | Value::Algorithm(word) => self.writer.string(word),
+            Value::Words(words) | Value::Usages(_, _, words) => self.words(words),
             Value::Identifier(content) => self.identified(content),
-            Value::Number(number) => self.writer.u64(number),
+            Value::Number(number) | Value::Count(number) => self.writer.u64(number),
             Value::Integer(bytes)
             | Value::Octets(bytes)
             | Value::Raw(bytes)
             | Value::Kept(bytes)
+            | Value::Opaque(bytes)
+            | Value::Malformed { octets: bytes, .. }
             | Value::Sized(_, bytes)
             | Value::Bits(_, bytes) => self.ascii(&Hex(bytes)),
             Value::Flag(flag) => self.writer.boolean(flag),
-            Value::Time(moment) => self.ascii(&Stamp(moment)),
+            Value::Time(moment) | Value::UtcTime(moment) => self.ascii(&Stamp(moment)),
             Value::Address(bytes) => self.ascii(&Address(bytes)),
             Value::Null | Value::Hidden(_) => self.writer.null(),
         }
     }
 
+    /// Writes how many bits or bytes a value has, where that is told.
+    fn size(&mut self, value: Value<'_>) -> Result<(), AllocError> {
+        match value {
+            Value::Sized(count, _) | Value::Bits(count, _) | Value::Usages(count, _, _) => {
+                self.count("bits", count)
+            }
+            Value::Kept(bytes) | Value::Malformed { octets: bytes, .. } => {
+                self.count("length", bytes.len() as u64)
+            }
+            Value::Address(bytes) if !matches!(bytes.len(), 4 | 16) => {
+                self.count("length", bytes.len() as u64)
+            }
+            _ => Ok(()),
+        }
+    }
+
+    /// Writes the element as a member, if the value and its type don't tell it.
+    fn element(&mut self, value: Value<'_>) -> Result<(), AllocError> {
+        match value {
+            Value::Raw(bytes) => self.der(&Hex(bytes)),
+            Value::Text(text) if !StringType::Ia5.allows(text) => {
+                self.der(&ElementHex(StringType::Ia5.tag(), None, text.as_bytes()))
+            }
+            Value::Typed(kind, text) if !kind.allows(text) => {
+                self.der(&ElementHex(kind.tag(), None, text.as_bytes()))
+            }
+            Value::Utf16(bytes) if !is_whole_utf16(bytes) => self.der(&ElementHex(
+                0x1e, None, bytes,
+            )),
+            Value::Usages(count, bytes, _) if !has_names(bytes) => {
+                self.der(&ElementHex(0x03, Some(unused_of(count)), bytes))
+            }
+            _ => Ok(()),
+        }
+    }
+
+    /// Writes an element as a member.
+    fn der<T: Display>(&mut self, element: &T) -> Result<(), AllocError> {
+        self.writer.key("der")?;
+        self.ascii(element)
+    }
+
     /// Writes the members that tell a value.
     fn told(&mut self, value: Value<'_>) -> Result<(), AllocError> {
-        match value {
-            Value::Sized(count, bytes) | Value::Bits(count, bytes) => self.bits(count, bytes),
-            Value::Hidden(count) => self.count("hidden", count),
-            Value::Kept(bytes) => {
-                self.count("length", bytes.len() as u64)?;
-                self.writer.key("value")?;
-                self.value(value)
-            }
-            _ => {
-                self.writer.key("value")?;
-                self.value(value)
-            }
+        if let Value::Hidden(count) = value {
+            return self.count("hidden", count);
         }
+        if let Value::Malformed { reason, at, .. } = value {
+            self.malformed(reason, at)?;
+        }
+        if let Some(name) = type_of(value) {
+            self.writer.key("asn1")?;
+            self.writer.string(name)?;
+        }
+        self.size(value)?;
+        self.writer.key("value")?;
+        self.value(value)?;
+        self.element(value)
+    }
+}
+
+/// Whether no bit of a key usage is set but the nine that have names (RFC 5280, 4.2.1.3).
+fn has_names(bytes: &[u8]) -> bool {
+    match bytes {
+        [_first, second, rest @ ..] => { second & 0x7f == 0 && rest.iter().all(|byte| *byte == 0) }
+        _ => true,
+    }
+}
+
+/// How many bits of the last byte aren't used where there are so many.
+fn unused_of(count: u64) -> u8 {
+    match (count % 8) as u8 {
+        0 => 0,
+        used => 8u8.saturating_sub(used),
+    }
+}
+
+/// The ASN.1 type of a value, if it has one.
+fn type_of(value: Value<'_>) -> Option<&'static str> {
+    match value {
+        Value::Text(_) => Some("IA5String"),
+        Value::Typed(kind, _) => Some(kind.name()),
+        Value::Utf16(_) => Some("BMPString"),
+        Value::Word(_) | Value::Number(_) | Value::Integer(_) | Value::Sized(_, _) => {
+            Some("INTEGER")
+        }
+        Value::Algorithm(_) => Some("AlgorithmIdentifier"),
+        Value::Words(_) | Value::Usages(_, _, _) | Value::Bits(_, _) => Some("BIT STRING"),
+        Value::Identifier(_) => Some("OBJECT IDENTIFIER"),
+        Value::Octets(_) | Value::Kept(_) | Value::Malformed { .. } | Value::Address(_) => {
+            Some("OCTET STRING")
+        }
+        Value::Flag(_) => Some("BOOLEAN"),
+        Value::Time(_) => Some("GeneralizedTime"),
+        Value::UtcTime(_) => Some("UTCTime"),
+        Value::Null => Some("NULL"),
+        Value::Raw(_) | Value::Opaque(_) | Value::Count(_) | Value::Hidden(_) => None,
     }
 }
 

@@ -12,6 +12,7 @@ mod secrets;
 pub mod shown;
 pub mod sink;
 pub mod text_sink;
+mod types;
 pub mod values;
 
 pub use crate::colour::{Colours, Mark};
@@ -23,3 +24,4 @@ pub use crate::layout::Layout;
 pub use crate::secrets::Secrets;
 pub use crate::sink::{Label, Moment, Shape, Sink, Value};
 pub use crate::text_sink::{Identifiers, TextSink};
+pub use crate::types::StringType;

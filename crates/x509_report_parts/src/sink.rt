@@ -1,6 +1,7 @@
 //! What a report is written to.
 
 use crate::cursor::Span;
+use crate::types::StringType;
 
 /// What a node is called.
 #[derive(Clone, Copy, Drop)]
@@ -43,14 +44,20 @@ pub struct Moment {
 /// What stands at a field without nodes in it.
 #[derive(Clone, Copy, Drop)]
 pub enum Value<'a> {
-    /// Text of the input.
+    /// Text of an IA5String.
     Text(&'a str),
-    /// Text of the input in UTF-16, high bytes first.
+    /// Text of a string of this type, where several may stand.
+    Typed(StringType, &'a str),
+    /// Text of a BMPString in UTF-16, high bytes first.
     Utf16(&'a [u8]),
-    /// A word of the standard.
+    /// A number, by the word that the standard has for it.
     Word(&'static str),
-    /// Words of the standard.
+    /// A hash algorithm, by its name.
+    Algorithm(&'static str),
+    /// Named bits, by the names of those that are set.
     Words(&'a [&'static str]),
+    /// Named bits, by the names of those that are set, behind the number of bits and these in bytes.
+    Usages(u64, &'a [u8], &'a [&'static str]),
     /// An object identifier: its content.
     Identifier(&'a [u8]),
     /// A small number.
@@ -63,14 +70,29 @@ pub enum Value<'a> {
     Octets(&'a [u8]),
     /// Bytes that stand for something that isn't known, told with their number.
     Kept(&'a [u8]),
+    /// The same of bytes that don't encode what should stand there.
+    Malformed {
+        /// The bytes.
+        octets: &'a [u8],
+        /// Why they don't.
+        reason: &'static str,
+        /// How many bytes of the input stand before the first that couldn't be read.
+        at: usize,
+    },
+    /// Bytes that aren't ASN.1.
+    Opaque(&'a [u8]),
+    /// A number that isn't ASN.1.
+    Count(u64),
     /// How many bits, and these in bytes.
     Bits(u64, &'a [u8]),
     /// An element that isn't looked into, with its header.
     Raw(&'a [u8]),
     /// Yes or no.
     Flag(bool),
-    /// A time.
+    /// A time, as a GeneralizedTime.
     Time(Moment),
+    /// A time, as a UTCTime.
+    UtcTime(Moment),
     /// An address of the internet protocol.
     Address(&'a [u8]),
     /// NULL.
@@ -95,6 +117,23 @@ pub trait Sink {
     /// # Errors
     /// Writing failed.
     fn field(&mut self, label: Label<'_>, span: Span, value: Value<'_>) -> Result<(), Self::Error>;
+
+    /// A field that isn't encoded, so that it has its default value. It stands nowhere, and only a text for people tells it.
+    ///
+    /// # Errors
+    /// Writing failed.
+    fn left_out(&mut self, _label: Label<'_>, _value: Value<'_>) -> Result<(), Self::Error> {
+        Ok(())
+    }
+
+    /// What was told last, or is told next, was read from octets that the encoding around them keeps as they are, with so
+    /// many deviations in them. Only what counts these takes note of it.
+    ///
+    /// # Errors
+    /// Writing failed.
+    fn deviating(&mut self, _count: usize) -> Result<(), Self::Error> {
+        Ok(())
+    }
 
     /// The node ends that began last and hasn't ended.
     ///

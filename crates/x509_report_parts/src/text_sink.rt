@@ -4,7 +4,7 @@ use crate::columns::{count_of, front_of};
 use crate::cursor::Span;
 use crate::shown::{Frame, Shown, is_harmless};
 use crate::sink::{Label, Shape, Sink, Value};
-use crate::values::{Address, Dotted, Hex, ShortHex, Stamp, Utf16, name_in};
+use crate::values::{Address, Count, Dotted, Hex, ShortHex, Stamp, Utf16, name_in};
 use std::fmt::{self, Display, Write};
 
 /// Whether object identifiers that have names stand with their dots too.
@@ -164,8 +164,7 @@ fn write_octets<W: Write>(out: &mut W, bytes: &[u8]) -> fmt::Result {
 fn write_kept<W: Write>(out: &mut W, bytes: &[u8]) -> fmt::Result {
     match bytes.len() {
         0 => out.write_str("0 bytes"),
-        1 => write!(out, "1 byte, {}", Hex(bytes)),
-        count => write!(out, "{count} bytes, {}", ShortHex(bytes)),
+        count => write!(out, "{}, {}", Count(count as u64, "byte"), ShortHex(bytes)),
     }
 }
 
@@ -198,7 +197,12 @@ fn write_natural<W: Write>(out: &mut W, count: u64, digits: &[u8]) -> fmt::Resul
 /// The same of a number below 0, whose bytes are in two's complement.
 fn write_negative<W: Write>(out: &mut W, count: u64, bytes: &[u8]) -> fmt::Result {
     if bytes.len() > 8 {
-        return write!(out, "negative, {count} bits, {}", ShortHex(bytes));
+        return write!(
+            out,
+            "negative, {}, {}",
+            Count(count, "bit"),
+            ShortHex(bytes)
+        );
     }
     let size = joined(u64::MAX, bytes).wrapping_neg();
     write!(out, "-{size}")
@@ -206,7 +210,7 @@ fn write_negative<W: Write>(out: &mut W, count: u64, bytes: &[u8]) -> fmt::Resul
 
 /// Writes a number of bits, and bytes.
 fn write_bits<W: Write>(out: &mut W, count: u64, bytes: &[u8]) -> fmt::Result {
-    write!(out, "{count} bits")?;
+    write!(out, "{}", Count(count, "bit"))?;
     if bytes.is_empty() {
         return Ok(());
     }
@@ -225,28 +229,35 @@ fn write_value<W: Write>(
     identifiers: Identifiers,
 ) -> fmt::Result {
     match value {
-        Value::Text(text) => out.quote(text),
+        Value::Text(text) | Value::Typed(_, text) => out.quote(text),
         Value::Utf16(bytes) => write_text(out, &Utf16(bytes)),
-        Value::Word(word) => out.put(word),
-        Value::Words(words) => write_words(out, words),
+        Value::Word(word) | Value::Algorithm(word) => out.put(word),
+        Value::Words(words) | Value::Usages(_, _, words) => write_words(out, words),
         Value::Identifier(content) => write_identifier(out, content, identifiers),
-        Value::Number(number) => write!(out, "{number}"),
+        Value::Number(number) | Value::Count(number) => write!(out, "{number}"),
         Value::Integer(bytes) => write!(out, "{}", Hex(bytes)),
         Value::Sized(count, bytes) => write_number(out, count, bytes),
         Value::Bits(count, bytes) => write_bits(out, count, bytes),
-        Value::Octets(bytes) | Value::Raw(bytes) => write_octets(out, bytes),
+        Value::Octets(bytes) | Value::Raw(bytes) | Value::Opaque(bytes) => write_octets(out, bytes),
         Value::Kept(bytes) => write_kept(out, bytes),
+        Value::Malformed { octets, reason, at } => {
+            write!(out, "malformed: {reason} at byte {at}, ")?;
+            write_kept(out, octets)
+        }
         Value::Flag(flag) => write!(out, "{flag}"),
-        Value::Time(moment) => write!(out, "{}", Stamp(moment)),
+        Value::Time(moment) | Value::UtcTime(moment) => write!(out, "{}", Stamp(moment)),
         Value::Address(bytes) => write!(out, "{}", Address(bytes)),
         Value::Null => out.put("NULL"),
-        Value::Hidden(count) => write!(out, "{count} bytes, not shown"),
+        Value::Hidden(count) => write!(out, "{}, not shown", Count(count, "byte")),
     }
 }
 
 /// Whether a value tells by itself what it is, in a line of several.
 fn is_plain(value: Value<'_>) -> bool {
-    matches!(value, Value::Identifier(_) | Value::Word(_))
+    matches!(
+        value,
+        Value::Identifier(_) | Value::Word(_) | Value::Algorithm(_)
+    )
 }
 
 impl<'w, W: Write> TextSink<'w, W> {
@@ -386,6 +397,16 @@ impl<W: Write> Sink for TextSink<'_, W> {
         self.separate(has_begun)?;
         write_value(&mut self.out, value, self.identifiers)?;
         self.finish(span)
+    }
+
+    fn left_out(&mut self, label: Label<'_>, value: Value<'_>) -> fmt::Result {
+        match self.line {
+            Some((around, has_begun)) => {
+                self.line = Some((around, true));
+                self.add(has_begun, label, value)
+            }
+            None => Ok(()),
+        }
     }
 
     fn end(&mut self) -> fmt::Result {

@@ -46,6 +46,43 @@ impl Display for Hex<'_> {
     }
 }
 
+/// The digits of a length in base 256, high digits first, and how many there are.
+fn length_digits(length: usize) -> ([u8; 8], usize) {
+    let digits = (length as u64).to_be_bytes();
+    let zeros = digits.iter().take_while(|digit| **digit == 0).count();
+    (digits, 8usize.saturating_sub(zeros))
+}
+
+/// Writes a length as DER has it (X.690, 8.1.3, 10.1).
+fn write_length<W: Write>(f: &mut fmt::Formatter<W>, length: usize) -> fmt::Result {
+    if length < 128 {
+        return write!(f, "{length:02x}");
+    }
+    let (digits, count) = length_digits(length);
+    let shown = digits.get(8usize.saturating_sub(count)..).unwrap_or(&[]);
+    let size = u8::try_from(count).unwrap_or(8);
+    write!(f, "{:02x}:{}", 0x80 | size, Hex(shown))
+}
+
+/// An element in hexadecimal, by its tag and its content: of a BIT STRING the number of unused bits and the bytes.
+#[derive(Clone, Copy, Drop)]
+pub struct ElementHex<'a>(pub u8, pub Option<u8>, pub &'a [u8]);
+
+impl Display for ElementHex<'_> {
+    fn fmt<W: Write>(&self, f: &mut fmt::Formatter<W>) -> fmt::Result {
+        let ElementHex(tag, unused, bytes) = *self;
+        write!(f, "{tag:02x}:")?;
+        write_length(f, bytes.len().saturating_add(usize::from(unused.is_some())))?;
+        if let Some(unused) = unused {
+            write!(f, ":{unused:02x}")?;
+        }
+        if bytes.is_empty() {
+            return Ok(());
+        }
+        write!(f, ":{}", Hex(bytes))
+    }
+}
+
 /// How many bytes are shown of those that are too many for a line.
 const SHOWN: usize = 16;
 
@@ -63,6 +100,18 @@ impl Display for ShortHex<'_> {
         }
         let front = self.0.get(..SHOWN).unwrap_or(&[]);
         write!(f, "{}:..", Hex(front))
+    }
+}
+
+/// So many of something, by its name in the singular, as in `1 bit` and `2 bits`.
+#[derive(Clone, Copy, Drop)]
+pub struct Count(pub u64, pub &'static str);
+
+impl Display for Count {
+    fn fmt<W: Write>(&self, f: &mut fmt::Formatter<W>) -> fmt::Result {
+        let Count(count, name) = *self;
+        let ending = if count == 1 { "" } else { "s" };
+        write!(f, "{count} {name}{ending}")
     }
 }
 
@@ -226,6 +275,19 @@ fn next_char(bytes: &[u8]) -> (char, &[u8])
         Some(character) if rest.len() >= 2 => (character, &rest[2..]),
         _ => (char::from_u32(high).unwrap_or('\u{fffd}'), rest),
     }
+}
+
+/// Whether text in UTF-16 is whole: pairs of bytes, and no surrogate without a partner.
+pub fn is_whole_utf16(bytes: &[u8]) -> bool {
+    let mut rest = bytes;
+    while rest.len() >= 2 {
+        let (character, behind) = next_char(rest);
+        if character == '\u{fffd}' && unit(rest) != 0xfffd {
+            return false;
+        }
+        rest = behind;
+    }
+    rest.is_empty()
 }
 
 impl Display for Utf16<'_> {

@@ -16,7 +16,7 @@ located_none s string v counts places c none e =
 pub returns-then-is_none : goal.returns-then-is_none
 returns-then-is_none g c =
     let h = c.in_ok-deviations.ensures in
-    record { ok = (h.0, located_none g.T.Field.shape c.args.bytes.now h.0 c.in_ok-deviations.deviations c.new.result.items h.1 (c.is_none.ensures.0 c.if-is_none.true) c.new.ensures.items) }
+    record { ok = (h.0, located_none g.T.Field.shape c.args.bytes.now h.0 c.in_ok-deviations.deviations c.new.result.items h.1 (c.is_none.ensures.0 c.if-is_none.true) c.new.ensures.items); err = tt }
 
 pub returns-in-Ok : goal.returns-in-Ok
-returns-in-Ok g c = record { ok = c.in-Ok.ensures.ok }
+returns-in-Ok g c = record { ok = c.in-Ok.ensures.ok; err = tt }

@@ -1,0 +1,71 @@
+//! The types of ASN.1 that a value can have where its field doesn't say which.
+
+/// The type of a string of characters (X.680, 41), but for BMPString.
+#[derive(Clone, Copy, Debug, PartialEq, Eq)]
+pub enum StringType {
+    /// UTF8String.
+    Utf8,
+    /// NumericString.
+    Numeric,
+    /// PrintableString.
+    Printable,
+    /// IA5String.
+    Ia5,
+    /// VisibleString.
+    Visible,
+}
+
+impl StringType {
+    /// The type that a universal tag says, if it is one of these (X.680, 8.4).
+    pub fn from_tag(tag: u8) -> Option<Self> {
+        match tag {
+            0x0c => Some(StringType::Utf8),
+            0x12 => Some(StringType::Numeric),
+            0x13 => Some(StringType::Printable),
+            0x16 => Some(StringType::Ia5),
+            0x1a => Some(StringType::Visible),
+            _ => None,
+        }
+    }
+
+    /// Its universal tag.
+    pub fn tag(self) -> u8 {
+        match self {
+            StringType::Utf8 => 0x0c,
+            StringType::Numeric => 0x12,
+            StringType::Printable => 0x13,
+            StringType::Ia5 => 0x16,
+            StringType::Visible => 0x1a,
+        }
+    }
+
+    /// Its name in ASN.1.
+    pub fn name(self) -> &'static str {
+        match self {
+            StringType::Utf8 => "UTF8String",
+            StringType::Numeric => "NumericString",
+            StringType::Printable => "PrintableString",
+            StringType::Ia5 => "IA5String",
+            StringType::Visible => "VisibleString",
+        }
+    }
+
+    /// Whether a string of the type may have this byte of UTF-8 in it.
+    fn has(self, byte: u8) -> bool {
+        match self {
+            StringType::Utf8 => true,
+            StringType::Numeric => matches!(byte, b' ' | b'0'..=b'9'),
+            StringType::Printable => {
+                byte.is_ascii_alphanumeric()
+                    || matches!(byte, b' ' | b'\'' | b'('..=b')' | b'+'..=b'/' | b':' | b'=' | b'?')
+            }
+            StringType::Ia5 => byte < 128,
+            StringType::Visible => matches!(byte, b' '..=b'~'),
+        }
+    }
+
+    /// Whether the type has all characters of a text.
+    pub fn allows(self, text: &str) -> bool {
+        text.as_bytes().iter().all(|byte| self.has(*byte))
+    }
+}
