@@ -1,11 +1,14 @@
 //! The command line.
 
+use crate::asked::{
+    check_settings, der_settings, match_settings, show_settings, telling_of, tree_settings,
+};
 use crate::files;
 use crate::progress::{Progress, Telling};
 use crate::terminal::Terminal;
 use crate::words::with_command;
 use anyhow::Error;
-use cimaroly_work::{Action, Format, Session, Settings, Status, Stop, Tally};
+use cimaroly_work::{Format, Session, Settings, Status, Stop, Tally};
 use clap::error::ErrorKind;
 use clap::{Arg, ArgAction, ArgMatches, Command};
 use std::alloc::{AllocError, Global};
@@ -13,9 +16,7 @@ use std::fs::{self, File};
 use std::io::{self, BufWriter, Write};
 use std::rt::Files;
 use std::time::Clock;
-use x509_inspect::{Identifiers, Kind, Options, Secrets};
 use x509_report_parts::shown::{Frame, Shown, ShownBytes};
-use x509_report_parts::{Colours, Layout};
 
 /// The names of the types, as `--type` takes them.
 const KINDS: [&'static str; 11] = [
@@ -33,7 +34,7 @@ const KINDS: [&'static str; 11] = [
 ];
 
 /// What is said of files and folders.
-const FOLDERS: &str = "Files, and folders with all that is in them; - is standard input";
+const FOLDERS: &str = "Files, or folders with everything in them; - is standard input";
 
 /// What `--color` takes.
 const WHEN: [&'static str; 3] = ["auto", "always", "never"];
@@ -46,13 +47,16 @@ const AFTER: &str = "\
 Input is PEM with text around it, DER, or hexadecimal with white space; - or no FILE is standard input.
 cimaroly FILE is short for cimaroly show FILE.
 
-Exit status: 0 all is in DER; 1 something was refused; 2 wrong usage; 3 something has deviations;
+Exit status: 0 everything is in DER; 1 something was refused; 2 wrong usage; 3 something has deviations;
 4 input or output failed; 5 out of memory.
 
 Examples:
   cimaroly show cert.pem
   cimaroly check --progress /etc/ssl/certs
   cimaroly check --json certs.pem | jq -c 'select(.result != \"ok\")'
+  cimaroly show --fields subject,notAfter,sha256 certs.pem
+  cimaroly check --at 2026-12-31T23:59:59Z certs.pem
+  cimaroly match cert.pem key.pem
   cimaroly der --pem cert.pem > strict.pem";
 
 /// What stands below the words on what is wrong with a command line.
@@ -100,11 +104,21 @@ fn paths<'a>(alloc: Global, value_name: &'static str, help: &'static str) -> Arg
 
 /// `cimaroly show`.
 fn show_command<'a>(alloc: Global) -> Result<Command<'a>, AllocError> {
+    let brief = flag(alloc, "brief", "Print one line for each structure")
+        .conflicts_with("json")?
+        .conflicts_with("fields")?;
+    let fields = Arg::new(alloc, "fields")
+        .long("fields")
+        .value_name("NAMES")
+        .help("Print only these, with tabs between them, as in subject,notAfter,sha256")
+        .conflicts_with("json")?;
     Command::new(alloc, "show")
-        .about("Shows what stands in each structure, and where")
+        .about("Shows what each structure contains, and where")
         .arg(flag(alloc, "json", "Print one JSON object for each structure"))?
+        .arg(brief)?
+        .arg(fields)?
         .arg(flag(alloc, "secrets", "Show the secret numbers of private keys"))?
-        .arg(flag(alloc, "oids", "Show object identifiers with dots too"))?
+        .arg(flag(alloc, "oids", "Show object identifiers in dotted form too"))?
         .arg(full_option(alloc))?
         .arg(color_option(alloc))?
         .arg(kind_option(alloc))?
@@ -117,9 +131,19 @@ fn check_command<'a>(alloc: Global) -> Result<Command<'a>, AllocError> {
         .short('q')
         .conflicts_with("json")?;
     Command::new(alloc, "check")
-        .about("Tells whether each structure is in DER, how it deviates, or why it is refused")
+        .about("Says whether each structure is in DER, how it deviates, or why it is refused")
         .arg(flag(alloc, "json", "Print one JSON object for each structure"))?
         .arg(quiet)?
+        .arg(
+            Arg::new(alloc, "at").long("at").value_name("TIME").help(
+                "Tell what is expired or not yet valid then, as in 2026-12-31T23:59:59Z",
+            ),
+        )?
+        .arg(flag(
+            alloc,
+            "deep",
+            "Read extensions that the encoding keeps as octets too",
+        ))?
         .arg(flag(
             alloc,
             "progress",
@@ -128,9 +152,18 @@ fn check_command<'a>(alloc: Global) -> Result<Command<'a>, AllocError> {
         .arg(flag(
             alloc,
             "strict-files",
-            "Refuse files in folders that hold no structure",
+            "Refuse files without a structure in folders too",
         ))?
         .arg(color_option(alloc))?
+        .arg(kind_option(alloc))?
+        .arg(paths(alloc, "FILE|FOLDER", FOLDERS))
+}
+
+/// `cimaroly match`.
+fn match_command<'a>(alloc: Global) -> Result<Command<'a>, AllocError> {
+    Command::new(alloc, "match")
+        .about("Says whether keys, certificates and requests have the same public key")
+        .arg(flag(alloc, "quiet", "Print nothing; only set the exit status").short('q'))?
         .arg(kind_option(alloc))?
         .arg(paths(alloc, "FILE|FOLDER", FOLDERS))
 }
@@ -158,7 +191,9 @@ fn der_command<'a>(alloc: Global) -> Result<Command<'a>, AllocError> {
 /// `cimaroly tree`.
 fn tree_command<'a>(alloc: Global) -> Result<Command<'a>, AllocError> {
     Command::new(alloc, "tree")
-        .about("Shows the elements of anything, with places, tags and first bytes, secret or not")
+        .about(
+            "Shows the elements of any input, with places, tags and first bytes, even of secrets",
+        )
         .arg(full_option(alloc))?
         .arg(color_option(alloc))?
         .arg(paths(alloc, "FILE", "Files; - is standard input"))
@@ -175,140 +210,8 @@ fn command<'a>(alloc: Global) -> Result<Command<'a>, AllocError> {
         .subcommand(show_command(alloc)?)?
         .subcommand(check_command(alloc)?)?
         .subcommand(der_command(alloc)?)?
-        .subcommand(tree_command(alloc)?)
-}
-
-/// The type that is asked for.
-fn kind_of(matches: &ArgMatches<'_>) -> Option<Kind> {
-    match matches.get_str("type") {
-        Some(name) => Kind::from_name(name),
-        None => None,
-    }
-}
-
-/// The colours that are asked for.
-fn colours_of(matches: &ArgMatches<'_>, terminal: Terminal) -> Colours {
-    let has_colours = match matches.get_str("color") {
-        Some("always") => true,
-        Some("never") => false,
-        _ => terminal.has_output && !terminal.is_plain,
-    };
-    if has_colours {
-        Colours::On
-    } else {
-        Colours::Off
-    }
-}
-
-/// Settings that ask for nothing but an action, as text.
-fn plain(action: Action) -> Settings {
-    Settings {
-        action,
-        format: Format::Text,
-        kind: None,
-        options: Options {
-            secrets: Secrets::Hidden,
-            identifiers: Identifiers::Named,
-        },
-        layout: Layout::PLAIN,
-        has_progress: false,
-        has_strict_files: false,
-    }
-}
-
-/// How text with long values is laid out.
-fn layout_of(matches: &ArgMatches<'_>, terminal: Terminal) -> Layout {
-    Layout {
-        width: if matches.get_flag("full") {
-            None
-        } else {
-            terminal.width
-        },
-        colours: colours_of(matches, terminal),
-    }
-}
-
-/// What `cimaroly show` is asked for.
-fn show_settings(matches: &ArgMatches<'_>, terminal: Terminal) -> Settings {
-    let secrets = if matches.get_flag("secrets") {
-        Secrets::Shown
-    } else {
-        Secrets::Hidden
-    };
-    let identifiers = if matches.get_flag("oids") {
-        Identifiers::Dotted
-    } else {
-        Identifiers::Named
-    };
-    let format = if matches.get_flag("json") {
-        Format::Json
-    } else {
-        Format::Text
-    };
-    Settings {
-        format,
-        kind: kind_of(matches),
-        options: Options {
-            secrets,
-            identifiers,
-        },
-        layout: layout_of(matches, terminal),
-        ..plain(Action::Show)
-    }
-}
-
-/// What `cimaroly check` is asked for.
-fn check_settings(matches: &ArgMatches<'_>, terminal: Terminal) -> Settings {
-    let format = if matches.get_flag("quiet") {
-        Format::Quiet
-    } else if matches.get_flag("json") {
-        Format::Json
-    } else {
-        Format::Text
-    };
-    Settings {
-        format,
-        kind: kind_of(matches),
-        layout: Layout {
-            width: None,
-            colours: colours_of(matches, terminal),
-        },
-        has_progress: matches.get_flag("progress"),
-        has_strict_files: matches.get_flag("strict-files"),
-        ..plain(Action::Check)
-    }
-}
-
-/// What `cimaroly der` is asked for.
-fn der_settings(matches: &ArgMatches<'_>) -> Settings {
-    let format = if matches.get_flag("pem") {
-        Format::Pem
-    } else {
-        Format::Quiet
-    };
-    Settings {
-        format,
-        kind: kind_of(matches),
-        ..plain(Action::Encode)
-    }
-}
-
-/// What `cimaroly tree` is asked for.
-fn tree_settings(matches: &ArgMatches<'_>, terminal: Terminal) -> Settings {
-    Settings {
-        layout: layout_of(matches, terminal),
-        ..plain(Action::Tree)
-    }
-}
-
-/// How progress is told: a bar only where no text comes between.
-fn telling_of(settings: Settings, terminal: Terminal) -> Telling {
-    let is_alone = !terminal.has_output || settings.format == Format::Quiet;
-    match settings.has_progress {
-        false => Telling::Never,
-        true if terminal.has_errors && is_alone => Telling::Bar,
-        true => Telling::Lines,
-    }
+        .subcommand(tree_command(alloc)?)?
+        .subcommand(match_command(alloc)?)
 }
 
 /// Works on all paths, or on standard input where there are none, and writes to a writer.
@@ -389,7 +292,7 @@ fn check<R>(rt: &R, matches: &ArgMatches<'_>, terminal: Terminal) -> Result<Stat
 where
     R: Files<File = File> + Input + Print + Eprint + AllocGlobal + Clock + Clone + Drop,
 {
-    let settings = check_settings(matches, terminal);
+    let settings = check_settings(matches, terminal)?;
     let tally = work(rt, matches, settings, telling_of(settings, terminal))?;
     if settings.format != Format::Quiet {
         eprintln!(rt; "{tally}")?;
@@ -405,7 +308,8 @@ where
     let (inner, settings) = match matches.subcommand() {
         Some(("check", inner)) => return check(rt, inner, terminal),
         Some(("der", inner)) => return encode(rt, inner, terminal),
-        Some(("show", inner)) => (inner, show_settings(inner, terminal)),
+        Some(("show", inner)) => (inner, show_settings(inner, terminal)?),
+        Some(("match", inner)) => (inner, match_settings(inner)),
         Some(("tree", inner)) => (inner, tree_settings(inner, terminal)),
         _ => return Ok(Status::Usage),
     };

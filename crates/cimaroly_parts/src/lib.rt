@@ -1,6 +1,7 @@
 //! What the program `cimaroly` does: its command line, its files and folders, its statuses.
 #![tactic(auto)]
 
+mod asked;
 pub mod cli;
 mod files;
 mod progress;

@@ -3,6 +3,7 @@
 use cimaroly_work::Tally;
 use std::io;
 use std::time::{Clock, Duration, Instant};
+use x509_report_parts::values::Count;
 
 /// How progress is told.
 #[derive(Clone, Copy, Debug, PartialEq, Eq)]
@@ -110,7 +111,8 @@ impl Progress {
         }
         let count = tally.structures();
         let rate = count.saturating_mul(1000) / millis;
-        eprint!(rt; "] {done} of {known} files, {count} structures, {rate}/s")?;
+        let (files, structures) = (Count(known, "file"), Count(count, "structure"));
+        eprint!(rt; "] {done} of {files}, {structures}, {rate}/s")?;
         self.is_drawn = true;
         if done == 0 {
             return Ok(());

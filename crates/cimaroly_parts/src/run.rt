@@ -1,14 +1,13 @@
 //! The work on one input.
 
 use crate::progress::Progress;
-use cimaroly_work::input::{
-    FRONT, Form, LONGEST, decoded, form_of, is_hexadecimal, read_front, read_rest,
-};
+use cimaroly_work::form::{Form, form_of, is_hexadecimal};
+use cimaroly_work::input::{FRONT, LONGEST, decoded, read_front, read_rest};
 use cimaroly_work::{Action, Session, Stop};
 use std::io::{self, BufRead, Read, Write};
 use std::time::Clock;
 use x509_inspect::Source;
-use x509_pem::{Block, Fault, PemError, PemReader};
+use x509_pem::{Block, Fault, PemError, PemReader, decode_in, room_for};
 
 /// What is said of hexadecimal that stands for no bytes.
 const ODD: &str = "an odd number of hexadecimal digits";
@@ -128,6 +127,22 @@ fn hexadecimal<W: Write>(
     }
 }
 
+/// Works on the bytes that base64 text stands for.
+fn base64<W: Write>(
+    session: &mut Session<'_, W>,
+    source: Source<'_>,
+    text: &[u8],
+) -> Result<(), Stop> {
+    let mut bytes = vec![in session.alloc; 0u8; room_for(text)]?;
+    match decode_in(text, bytes.as_mut_slice()) {
+        Some(len) => {
+            bytes.truncate(len);
+            session.bare(source, bytes.as_slice())
+        }
+        None => session.unread(source, text),
+    }
+}
+
 /// Whether bytes that begin otherwise than any type may be read all the same.
 fn may_be_read<W: Write>(session: &Session<'_, W>, front: &[u8]) -> bool {
     let settings = session.settings;
@@ -162,6 +177,7 @@ pub(crate) fn input<R: BufRead + Drop, W: Write, T: Clock + Eprint>(
     match form {
         _ if !is_all => session.refuse(source, TOO_LONG)?,
         Form::Hexadecimal => hexadecimal(session, source, front.as_slice())?,
+        Form::Base64 => base64(session, source, front.as_slice())?,
         _ => session.bare(source, front.as_slice())?,
     }
     progress.tick(rt, &session.tally)?;

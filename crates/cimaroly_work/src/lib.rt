@@ -1,14 +1,19 @@
 //! What the program `cimaroly` does with one structure, and in which form an input is.
 #![tactic(auto)]
 
+mod columns;
+pub mod form;
 pub mod input;
+mod keys;
 mod lines;
 mod session;
 mod settings;
 mod status;
 mod stop;
 mod structure;
+pub mod time;
 
+pub use crate::columns::ColumnList;
 pub use crate::session::{NOTHING, Session};
 pub use crate::settings::{Action, Format, Settings};
 pub use crate::status::{Status, Tally};

@@ -1,10 +1,11 @@
 //! The lines that say what a structure comes to.
 
-use std::alloc::AllocError;
+use std::alloc::{AllocError, Global};
 use std::fmt::{self, Display, Write};
 use x509_der::Place;
-use x509_inspect::{Kind, RefusalLine, Source};
+use x509_inspect::{Fault, Kind, RefusalLine, Searched, Source, Standing};
 use x509_report_parts::shown::ShownBytes;
+use x509_report_parts::values::Count;
 use x509_report_parts::{Colours, Mark};
 
 /// What is made of something that isn't read as a type.
@@ -59,7 +60,11 @@ pub(crate) fn write_note(
 }
 
 /// Writes where a structure comes from and as what it is read, up to the colon behind it.
-fn write_structure(out: &mut String, source: Source<'_>, kind: Kind) -> Result<(), AllocError> {
+pub(crate) fn write_structure(
+    out: &mut String,
+    source: Source<'_>,
+    kind: Kind,
+) -> Result<(), AllocError> {
     write!(out, "{}", ShownBytes(source.file.as_bytes()))?;
     if let Some((line, _)) = source.block {
         write!(out, ":{line}")?;
@@ -113,6 +118,96 @@ pub(crate) fn write_read(
     }
     let begin = colours.begin(Mark::Deviation);
     writeln!(out, "{begin}{deviations}{}", colours.end())
+}
+
+/// Writes the same, and whether the structure is valid at the time that was asked for.
+pub(crate) fn write_dated(
+    out: &mut String,
+    source: Source<'_>,
+    kind: Kind,
+    (places, standing): (&[Place], Standing),
+    colours: Colours,
+) -> Result<(), AllocError> {
+    if standing == Standing::Valid {
+        return write_read(out, source, kind, places, colours);
+    }
+    write_structure(out, source, kind)?;
+    let begin = colours.begin(Mark::Deviation);
+    let (end, deviations) = (colours.end(), Deviations(places));
+    writeln!(out, "{begin}{}; {deviations}{end}", standing.name())
+}
+
+/// What is wrong in extensions that the encoding keeps as octets, each behind a semicolon; nothing where nothing is wrong.
+#[derive(Clone, Copy, Drop)]
+struct FaultsLine<'a>(&'a [Fault], usize);
+
+/// Writes which octets don't encode what they should, and why.
+fn write_faults<W: Write>(f: &mut fmt::Formatter<W>, faults: &[Fault]) -> fmt::Result {
+    for fault in faults.iter().take(TOLD) {
+        let Fault { name, reason, at } = *fault;
+        write!(f, "; {name}, malformed: {reason} at byte {at}")?;
+    }
+    let others = faults.len().saturating_sub(TOLD);
+    if others > 0 {
+        write!(f, "; {others} more malformed")?;
+    }
+    Ok(())
+}
+
+impl Display for FaultsLine<'_> {
+    fn fmt<W: Write>(&self, f: &mut fmt::Formatter<W>) -> fmt::Result {
+        let FaultsLine(faults, deviations) = *self;
+        write_faults(f, faults)?;
+        match deviations {
+            0 => Ok(()),
+            count => write!(
+                f,
+                "; {} in extensions kept as octets",
+                Count(count as u64, "deviation")
+            ),
+        }
+    }
+}
+
+/// In which colour a line stands of what was searched.
+fn mark_of(searched: &Searched<Global>, standing: Standing) -> Option<Mark> {
+    if !searched.faults.malformed.is_empty() {
+        return Some(Mark::Refusal);
+    }
+    let is_well = searched.places.is_empty() && searched.faults.deviations == 0;
+    if is_well && standing == Standing::Valid {
+        return None;
+    }
+    Some(Mark::Deviation)
+}
+
+/// Writes the line of a structure that was read, with what is wrong in extensions that the encoding keeps as octets, and
+/// whether it is valid at the time that was asked for.
+pub(crate) fn write_searched(
+    out: &mut String,
+    source: Source<'_>,
+    kind: Kind,
+    (searched, standing): (&Searched<Global>, Standing),
+    colours: Colours,
+) -> Result<(), AllocError> {
+    write_structure(out, source, kind)?;
+    let (begin, end) = match mark_of(searched, standing) {
+        Some(mark) => (colours.begin(mark), colours.end()),
+        None => ("", ""),
+    };
+    write!(out, "{begin}")?;
+    if standing != Standing::Valid {
+        write!(out, "{}; ", standing.name())?;
+    }
+    let faults = FaultsLine(
+        searched.faults.malformed.as_slice(),
+        searched.faults.deviations,
+    );
+    writeln!(
+        out,
+        "{}{faults}{end}",
+        Deviations(searched.places.as_slice())
+    )
 }
 
 /// Writes the line of a structure that was refused.

@@ -1,5 +1,6 @@
 //! The work on structures, one after another, and what is printed of it.
 
+use crate::keys::{Keys, Verdict};
 use crate::lines::{Outcome, write_note};
 use crate::settings::{Action, Format, Settings};
 use crate::status::{Status, Tally};
@@ -30,6 +31,8 @@ pub struct Session<'w, W: Write> {
     pub(crate) line: Vec<u8>,
     /// What standard error is to be told, where standard output is for encodings alone.
     pub notes: String,
+    /// The public keys that were found.
+    pub(crate) keys: Keys,
     /// The DER encoding that is to be written at the end.
     pub(crate) encoding: Option<Vec<u8>>,
     /// Whether a report tells where its structure comes from.
@@ -49,6 +52,7 @@ impl<'w, W: Write> Session<'w, W> {
             text: String::new(alloc),
             line: Vec::new(alloc),
             notes: String::new(alloc),
+            keys: Keys::new(),
             encoding: None,
             is_one_of_many: false,
             is_named: true,
@@ -93,16 +97,15 @@ impl<'w, W: Write> Session<'w, W> {
                 let line = push_note(self.alloc, line, source, outcome.name(), reason)?;
                 self.put_line(line)
             }
-            Format::Text => {
+            Format::Text | Format::Brief => {
                 let colours = self.settings.layout.colours;
                 write_note(&mut self.text, source, outcome, reason, colours)?;
                 self.put_text()
             }
-            Format::Quiet | Format::Pem => {
-                if self.settings.action == Action::Encode {
-                    write!(self.notes, "cimaroly: ")?;
-                    write_note(&mut self.notes, source, outcome, reason, Colours::Off)?;
-                }
+            Format::Quiet if self.settings.action != Action::Encode => Ok(()),
+            Format::Quiet | Format::Pem | Format::Table(_) => {
+                write!(self.notes, "cimaroly: ")?;
+                write_note(&mut self.notes, source, outcome, reason, Colours::Off)?;
                 Ok(())
             }
         }
@@ -184,6 +187,25 @@ impl<'w, W: Write> Session<'w, W> {
             return Ok(());
         }
         self.note(source, Outcome::PassedOver, reason)
+    }
+
+    /// Says what the public keys come to, where they are compared.
+    ///
+    /// # Errors
+    /// Output failed, or memory is refused.
+    pub(crate) fn compare(&mut self) -> Result<(), Stop> {
+        if self.settings.action != Action::Match {
+            return Ok(());
+        }
+        let verdict = self.keys.verdict();
+        if verdict != Verdict::Same {
+            self.tally.note(Status::Refused);
+        }
+        if self.settings.format == Format::Quiet {
+            return Ok(());
+        }
+        writeln!(self.text, "{}", verdict.text())?;
+        self.put_text()
     }
 
     /// The type that everything is read as, or the one of a label.

@@ -1,6 +1,7 @@
 //! What the command line asks for.
 
-use x509_inspect::{Kind, Options};
+use crate::columns::ColumnList;
+use x509_inspect::{Kind, Moment, Options};
 use x509_report_parts::Layout;
 
 /// What is done with each structure.
@@ -14,6 +15,8 @@ pub enum Action {
     Encode,
     /// Its elements are shown.
     Tree,
+    /// Its public key is compared with those of the others.
+    Match,
 }
 
 /// In which form something is printed.
@@ -27,6 +30,10 @@ pub enum Format {
     Quiet,
     /// As PEM.
     Pem,
+    /// One line for each structure, with the most important.
+    Brief,
+    /// One line for each structure, with columns.
+    Table(ColumnList),
 }
 
 /// What the command line asks for.
@@ -42,6 +49,10 @@ pub struct Settings {
     pub options: Options,
     /// How text is laid out.
     pub layout: Layout,
+    /// For which time it is told whether structures are valid.
+    pub at: Option<Moment>,
+    /// Whether extensions that the encoding keeps as octets are read too, where it is said what a structure comes to.
+    pub is_deep: bool,
     /// Whether progress is told.
     pub has_progress: bool,
     /// Whether files that hold nothing which is read are refused in folders too.

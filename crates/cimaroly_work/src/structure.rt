@@ -1,19 +1,23 @@
 //! What is done with one structure.
 
-use crate::lines::{write_read, write_refused};
+use crate::columns::ColumnList;
+use crate::lines::{write_dated, write_read, write_refused, write_searched, write_structure};
 use crate::session::Session;
 use crate::settings::{Action, Format, Settings};
 use crate::status::Status;
 use crate::stop::Stop;
 use anyhow::Error;
 use base64::engine::general_purpose::STANDARD;
+use std::alloc::Global;
 use std::io::Write;
 use x509_der::{ReadError, WriteError};
 use x509_inspect::{
-    Determined, Extent, Form, Head, Kind, Kinds, RefusalLine, Refused, Source, TreeError, Unread,
-    check, determine, encoded, push_json, write_text, write_tree,
+    Determined, Extent, Form, Head, Kind, Moment, Outcomes, RefusalLine, Refused, Row, Searched,
+    Source, Standing, Told, TreeError, Unread, check, dated, determine, encoded, pinned, push_json,
+    searched, write_row, write_text, write_tree,
 };
 use x509_report_parts::shown::ShownBytes;
+use x509_report_parts::values::Count;
 use x509_report_parts::{Colours, Columns, Mark};
 
 /// What a refusal says of bytes.
@@ -22,6 +26,15 @@ fn line_of(refused: Refused, kind: Kind, bytes: &[u8]) -> RefusalLine<'_> {
         refused,
         kind,
         bytes,
+    }
+}
+
+/// How a time that was asked for stands to that for which a structure is valid; `Valid` where none was, or where the
+/// structure doesn't say.
+fn standing_of(at: Option<Moment>, validity: Option<(Moment, Moment)>) -> Standing {
+    match (at, validity) {
+        (Some(at), Some((first, last))) => Standing::of(at, first, last),
+        _ => Standing::Valid,
     }
 }
 
@@ -63,12 +76,15 @@ impl<W: Write> Session<'_, W> {
     }
 
     /// Asks as which type bytes are to be read, which could be several, or something else too.
-    fn ask(&mut self, source: Source<'_>, kinds: Kinds) -> Result<(), Stop> {
+    fn ask(&mut self, source: Source<'_>, kinds: Outcomes) -> Result<(), Stop> {
         self.tally.note(Status::Usage);
         let first = kinds.first().map_or("algorithm", |kind| kind.name());
-        let text = format!(in self.alloc;
-            "could be {kinds}: choose with --type, as in --type {first}"
-        )?;
+        let choice = if kinds.count() == 1 {
+            "to read it as that, use"
+        } else {
+            "choose with --type, as in"
+        };
+        let text = format!(in self.alloc; "could be {kinds}: {choice} --type {first}")?;
         self.refuse(source, text.as_str())
     }
 
@@ -82,8 +98,11 @@ impl<W: Write> Session<'_, W> {
             (Action::Show, Format::Json) => {
                 self.json(source, kind, bytes, Extent::Fields(self.settings.options))
             }
-            (_, Format::Json) => self.json(source, kind, bytes, Extent::Outcome),
+            (_, Format::Json) => self.json_at(source, kind, bytes),
             (Action::Show, Format::Text) => self.show(source, kind, bytes),
+            (Action::Show, Format::Brief) => self.brief(source, kind, bytes),
+            (Action::Show, Format::Table(columns)) => self.row(source, kind, bytes, columns),
+            (Action::Match, _) => self.pin(source, kind, bytes),
             _ => self.check(source, kind, bytes),
         }
     }
@@ -101,8 +120,14 @@ impl<W: Write> Session<'_, W> {
         self.put_text()
     }
 
-    /// Says what a structure comes to.
+    /// Says what a structure comes to, and whether it is valid at a time that was asked for.
     fn check(&mut self, source: Source<'_>, kind: Kind, bytes: &[u8]) -> Result<(), Stop> {
+        if self.settings.is_deep {
+            return self.check_deep(source, kind, bytes);
+        }
+        if let Some(at) = self.settings.at {
+            return self.check_at(source, kind, bytes, at);
+        }
         match check(self.alloc, kind, bytes) {
             Ok(places) => {
                 self.tally.add(places.len());
@@ -111,6 +136,127 @@ impl<W: Write> Session<'_, W> {
                 }
                 let colours = self.settings.layout.colours;
                 write_read(&mut self.text, source, kind, places.as_slice(), colours)?;
+                self.put_text()
+            }
+            Err(refused) => self.refuse_as(source, line_of(refused, kind, bytes)),
+        }
+    }
+
+    /// The same, where a time was asked for.
+    fn check_at(
+        &mut self,
+        source: Source<'_>,
+        kind: Kind,
+        bytes: &[u8],
+        at: Moment,
+    ) -> Result<(), Stop> {
+        match dated(self.alloc, kind, bytes) {
+            Ok((places, validity)) => {
+                let standing = standing_of(Some(at), validity);
+                self.tally.add(places.len());
+                self.tally.date(standing);
+                if self.settings.format == Format::Quiet {
+                    return Ok(());
+                }
+                let colours = self.settings.layout.colours;
+                let come = (places.as_slice(), standing);
+                write_dated(&mut self.text, source, kind, come, colours)?;
+                self.put_text()
+            }
+            Err(refused) => self.refuse_as(source, line_of(refused, kind, bytes)),
+        }
+    }
+
+    /// The same, and what is wrong in extensions that the encoding keeps as octets.
+    fn check_deep(&mut self, source: Source<'_>, kind: Kind, bytes: &[u8]) -> Result<(), Stop> {
+        match searched(self.alloc, kind, bytes) {
+            Ok(searched) => {
+                let standing = self.tally_searched(&searched);
+                self.tally.add(searched.places.len());
+                if self.settings.format == Format::Quiet {
+                    return Ok(());
+                }
+                let colours = self.settings.layout.colours;
+                let come = (&searched, standing);
+                write_searched(&mut self.text, source, kind, come, colours)?;
+                self.put_text()
+            }
+            Err(refused) => self.refuse_as(source, line_of(refused, kind, bytes)),
+        }
+    }
+
+    /// Counts what was found besides deviations, and answers how the time that was asked for stands to the structure's own.
+    fn tally_searched(&mut self, searched: &Searched<Global>) -> Standing {
+        let standing = standing_of(self.settings.at, searched.validity);
+        self.tally.date(standing);
+        let faults = &searched.faults;
+        self.tally.search(faults.malformed.len(), faults.deviations);
+        standing
+    }
+
+    /// Writes the most important of a structure on one line.
+    fn brief(&mut self, source: Source<'_>, kind: Kind, bytes: &[u8]) -> Result<(), Stop> {
+        let row = Row {
+            source,
+            kind,
+            bytes,
+        };
+        write_structure(&mut self.text, source, kind)?;
+        match write_row(self.alloc, row, Told::Brief, &mut self.text) {
+            Ok(Ok(deviations)) => {
+                self.tally.add(deviations);
+                if deviations > 0 {
+                    write!(self.text, "; {}", Count(deviations as u64, "deviation"))?;
+                }
+                writeln!(self.text)?;
+                self.put_text()
+            }
+            Ok(Err(_)) => Err(Stop::memory()),
+            Err(refused) => {
+                self.text.clear();
+                self.refuse_as(source, line_of(refused, kind, bytes))
+            }
+        }
+    }
+
+    /// Writes the line of a structure in a table.
+    fn row(
+        &mut self,
+        source: Source<'_>,
+        kind: Kind,
+        bytes: &[u8],
+        columns: ColumnList,
+    ) -> Result<(), Stop> {
+        let row = Row {
+            source,
+            kind,
+            bytes,
+        };
+        let told = Told::Columns(columns.as_slice());
+        match write_row(self.alloc, row, told, &mut self.text) {
+            Ok(Ok(deviations)) => {
+                self.tally.add(deviations);
+                self.put_text()
+            }
+            Ok(Err(_)) => Err(Stop::memory()),
+            Err(refused) => self.refuse_aside(source, line_of(refused, kind, bytes)),
+        }
+    }
+
+    /// Writes the pin of a structure's public key, and keeps it.
+    fn pin(&mut self, source: Source<'_>, kind: Kind, bytes: &[u8]) -> Result<(), Stop> {
+        match pinned(self.alloc, kind, bytes) {
+            Ok((deviations, pin)) => {
+                self.tally.add(deviations);
+                self.keys.add(pin);
+                if self.settings.format == Format::Quiet {
+                    return Ok(());
+                }
+                write_structure(&mut self.text, source, kind)?;
+                match pin {
+                    Some(pin) => writeln!(self.text, "{pin}")?,
+                    None => writeln!(self.text, "no public key")?,
+                }
                 self.put_text()
             }
             Err(refused) => self.refuse_as(source, line_of(refused, kind, bytes)),
@@ -135,6 +281,34 @@ impl<W: Write> Session<'_, W> {
         let (line, outcome) = push_json(self.alloc, line, head)?;
         self.count(outcome)?;
         self.put_line(line)
+    }
+
+    /// Writes the object of a structure without its fields, and whether it is valid at a time that was asked for.
+    fn json_at(&mut self, source: Source<'_>, kind: Kind, bytes: &[u8]) -> Result<(), Stop> {
+        if self.settings.is_deep {
+            return self.json_deep(source, kind, bytes);
+        }
+        let Some(at) = self.settings.at else {
+            return self.json(source, kind, bytes, Extent::Outcome);
+        };
+        match dated(self.alloc, kind, bytes) {
+            Ok((_places, validity)) => self.tally.date(standing_of(Some(at), validity)),
+            Err(refused) if refused.error == ReadError::OutOfMemory => return Err(Stop::memory()),
+            Err(_refused) => {}
+        }
+        self.json(source, kind, bytes, Extent::OutcomeAt(at))
+    }
+
+    /// The same, and what is wrong in extensions that the encoding keeps as octets.
+    fn json_deep(&mut self, source: Source<'_>, kind: Kind, bytes: &[u8]) -> Result<(), Stop> {
+        match searched(self.alloc, kind, bytes) {
+            Ok(searched) => {
+                let _standing = self.tally_searched(&searched);
+            }
+            Err(refused) if refused.error == ReadError::OutOfMemory => return Err(Stop::memory()),
+            Err(_refused) => {}
+        }
+        self.json(source, kind, bytes, Extent::Deep(self.settings.at))
     }
 
     /// Counts what a structure came to.
@@ -204,12 +378,12 @@ impl<W: Write> Session<'_, W> {
             }
             Ok(Err(WriteError::OutOfMemory)) => Err(Stop::memory()),
             Ok(Err(WriteError::TooLong)) => self.refuse(source, "the DER encoding is too long"),
-            Err(refused) => self.refuse_encoding(source, line_of(refused, kind, bytes)),
+            Err(refused) => self.refuse_aside(source, line_of(refused, kind, bytes)),
         }
     }
 
-    /// Counts the refusal of what was to be encoded, and notes it for standard error.
-    fn refuse_encoding(&mut self, source: Source<'_>, line: RefusalLine<'_>) -> Result<(), Stop> {
+    /// Counts a refusal, and notes it for standard error, where standard output is for other things.
+    fn refuse_aside(&mut self, source: Source<'_>, line: RefusalLine<'_>) -> Result<(), Stop> {
         if line.refused.error == ReadError::OutOfMemory {
             return Err(Stop::memory());
         }
@@ -265,8 +439,9 @@ impl<W: Write> Session<'_, W> {
     /// Writes what was kept for the end.
     ///
     /// # Errors
-    /// Output failed.
+    /// Output failed, or memory is refused.
     pub fn finish(&mut self) -> Result<(), Stop> {
+        self.compare()?;
         if let Some(encoding) = self.encoding.take() {
             self.out.write_all(encoding.as_slice())?;
         }

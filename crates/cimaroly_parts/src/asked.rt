@@ -1,0 +1,212 @@
+//! What the command line asks for.
+
+use crate::progress::Telling;
+use crate::terminal::Terminal;
+use anyhow::Error;
+use cimaroly_work::time::moment_of;
+use cimaroly_work::{Action, ColumnList, Format, Settings, Stop};
+use clap::ArgMatches;
+use x509_inspect::{Column, Identifiers, Kind, Moment, Options, Secrets};
+use x509_report_parts::shown::ShownBytes;
+use x509_report_parts::{Colours, Layout};
+
+/// What `--fields` takes.
+const COLUMNS: &str =
+    "file, line, type, length, deviations, subject, issuer, serialNumber, notBefore, notAfter, names, key, signatureAlgorithm, sha256, sha1 and pin";
+
+/// The type that is asked for.
+fn kind_of(matches: &ArgMatches<'_>) -> Option<Kind> {
+    match matches.get_str("type") {
+        Some(name) => Kind::from_name(name),
+        None => None,
+    }
+}
+
+/// The colours that are asked for.
+fn colours_of(matches: &ArgMatches<'_>, terminal: Terminal) -> Colours {
+    let has_colours = match matches.get_str("color") {
+        Some("always") => true,
+        Some("never") => false,
+        _ => terminal.has_output && !terminal.is_plain,
+    };
+    if has_colours {
+        Colours::On
+    } else {
+        Colours::Off
+    }
+}
+
+/// Settings that ask for nothing but an action, as text.
+fn plain(action: Action) -> Settings {
+    Settings {
+        action,
+        format: Format::Text,
+        kind: None,
+        options: Options {
+            secrets: Secrets::Hidden,
+            identifiers: Identifiers::Named,
+        },
+        layout: Layout::PLAIN,
+        at: None,
+        is_deep: false,
+        has_progress: false,
+        has_strict_files: false,
+    }
+}
+
+/// How text with long values is laid out.
+fn layout_of(matches: &ArgMatches<'_>, terminal: Terminal) -> Layout {
+    Layout {
+        width: if matches.get_flag("full") {
+            None
+        } else {
+            terminal.width
+        },
+        colours: colours_of(matches, terminal),
+    }
+}
+
+/// The columns that are asked for, by their names with commas between them.
+fn columns_of(names: &str) -> Result<ColumnList, Stop> {
+    let mut columns = ColumnList::new();
+    for name in names.split(',') {
+        let Some(column) = Column::from_name(name) else {
+            return Err(Stop::usage(Error::msg(format_args!(
+                "no field is named '{}'; there are {COLUMNS}",
+                ShownBytes(name.as_bytes())
+            ))));
+        };
+        if !columns.push(column) {
+            return Err(Stop::usage(Error::msg("at most 32 fields can be printed")));
+        }
+    }
+    Ok(columns)
+}
+
+/// In which form `cimaroly show` prints.
+fn show_format(matches: &ArgMatches<'_>) -> Result<Format, Stop> {
+    if let Some(names) = matches.get_str("fields") {
+        return Ok(Format::Table(columns_of(names)?));
+    }
+    if matches.get_flag("json") {
+        Ok(Format::Json)
+    } else if matches.get_flag("brief") {
+        Ok(Format::Brief)
+    } else {
+        Ok(Format::Text)
+    }
+}
+
+/// What `cimaroly show` is asked for.
+pub(crate) fn show_settings(
+    matches: &ArgMatches<'_>,
+    terminal: Terminal,
+) -> Result<Settings, Stop> {
+    let secrets = if matches.get_flag("secrets") {
+        Secrets::Shown
+    } else {
+        Secrets::Hidden
+    };
+    let identifiers = if matches.get_flag("oids") {
+        Identifiers::Dotted
+    } else {
+        Identifiers::Named
+    };
+    Ok(Settings {
+        format: show_format(matches)?,
+        kind: kind_of(matches),
+        options: Options {
+            secrets,
+            identifiers,
+        },
+        layout: layout_of(matches, terminal),
+        ..plain(Action::Show)
+    })
+}
+
+/// The time that `--at` says.
+fn time_of(matches: &ArgMatches<'_>) -> Result<Option<Moment>, Stop> {
+    let Some(text) = matches.get_str("at") else {
+        return Ok(None);
+    };
+    match moment_of(text) {
+        Some(at) => Ok(Some(at)),
+        None => Err(Stop::usage(Error::msg(format_args!(
+            "'{}' isn't a time such as 2026-12-31T23:59:59Z",
+            ShownBytes(text.as_bytes())
+        )))),
+    }
+}
+
+/// What `cimaroly check` is asked for.
+pub(crate) fn check_settings(
+    matches: &ArgMatches<'_>,
+    terminal: Terminal,
+) -> Result<Settings, Stop> {
+    let format = if matches.get_flag("quiet") {
+        Format::Quiet
+    } else if matches.get_flag("json") {
+        Format::Json
+    } else {
+        Format::Text
+    };
+    Ok(Settings {
+        format,
+        kind: kind_of(matches),
+        layout: Layout {
+            width: None,
+            colours: colours_of(matches, terminal),
+        },
+        at: time_of(matches)?,
+        is_deep: matches.get_flag("deep"),
+        has_progress: matches.get_flag("progress"),
+        has_strict_files: matches.get_flag("strict-files"),
+        ..plain(Action::Check)
+    })
+}
+
+/// What `cimaroly der` is asked for.
+pub(crate) fn der_settings(matches: &ArgMatches<'_>) -> Settings {
+    let format = if matches.get_flag("pem") {
+        Format::Pem
+    } else {
+        Format::Quiet
+    };
+    Settings {
+        format,
+        kind: kind_of(matches),
+        ..plain(Action::Encode)
+    }
+}
+
+/// What `cimaroly tree` is asked for.
+pub(crate) fn tree_settings(matches: &ArgMatches<'_>, terminal: Terminal) -> Settings {
+    Settings {
+        layout: layout_of(matches, terminal),
+        ..plain(Action::Tree)
+    }
+}
+
+/// What `cimaroly match` is asked for.
+pub(crate) fn match_settings(matches: &ArgMatches<'_>) -> Settings {
+    let format = if matches.get_flag("quiet") {
+        Format::Quiet
+    } else {
+        Format::Text
+    };
+    Settings {
+        format,
+        kind: kind_of(matches),
+        ..plain(Action::Match)
+    }
+}
+
+/// How progress is told: a bar only where no text comes between.
+pub(crate) fn telling_of(settings: Settings, terminal: Terminal) -> Telling {
+    let is_alone = !terminal.has_output || settings.format == Format::Quiet;
+    match settings.has_progress {
+        false => Telling::Never,
+        true if terminal.has_errors && is_alone => Telling::Bar,
+        true => Telling::Lines,
+    }
+}
