@@ -1,2 +1,4 @@
 -- What the exports answer.
 pub mod Exports
+pub mod Oids
+pub mod Pem

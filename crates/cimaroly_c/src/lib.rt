@@ -12,10 +12,14 @@ ghost use Rattle.x509_flat.specs.Extensions.{CarriedTold, ListTold};
 ghost use Rattle.x509_flat.specs.Fields.{CertificateTold, PrivateKeyTold, RequestTold};
 ghost use Rattle.x509_flat.specs.Places.{PlacesOf};
 ghost use Rattle.x509_flat.specs.SignedParts.{SignedTold, no_signed};
+ghost use Rattle.x509_flat.specs.Validities.{ValidityTold};
 ghost use Rattle.x509_flat_report.specs.Reports.{Reported};
 ghost use Rattle.cimaroly_c.specs.Exports.{Answers, AnswersFor, Arena, IsKind};
 
+mod oids;
 mod over;
+mod pem;
+mod values;
 mod version;
 
 use lent_memory::{Lent, OneBlock};
@@ -28,6 +32,7 @@ use x509_flat::private_key_fields::FlatPrivateKey;
 use x509_flat::request_fields::FlatRequest;
 use x509_flat::signed_part::FlatSigned;
 use x509_flat::status::Status;
+use x509_flat::validity::FlatTime;
 use x509_flat_report::{Lines, Reporter};
 
 /// Whether the input encodes a value of the kind, and how it deviates from the value's DER encoding.
@@ -200,6 +205,21 @@ pub extern "C" fn cimaroly_extensions(
     block.give_back(memory);
     *count = sized.size;
     sized.status.number()
+}
+
+/// Between which times a certificate is valid.
+#[unsafe(no_mangle)]
+pub extern "C" fn cimaroly_validity(
+    der: &[u8],
+    not_before: &mut FlatTime,
+    not_after: &mut FlatTime,
+) -> u32
+    ensures { Answers result (λ status. ValidityTold Arena der.now status not_before.new not_after.new) }
+{
+    let answer = over::validity(der);
+    *not_before = answer.fields.not_before;
+    *not_after = answer.fields.not_after;
+    answer.status.number()
 }
 
 /// Writes what stands in the input to the front of a buffer, as one JSON object.

@@ -10,11 +10,15 @@ ghost use Rattle.x509_flat.specs.Extensions.{CarriedTold, ListTold};
 ghost use Rattle.x509_flat.specs.Fields.{CertificateTold, PrivateKeyTold, RequestTold};
 ghost use Rattle.x509_flat.specs.Places.{PlacesOf};
 ghost use Rattle.x509_flat.specs.SignedParts.{SignedTold};
+ghost use Rattle.x509_flat.specs.Spans.{flat_span, flat_span_if};
+ghost use Rattle.x509_flat.specs.Validities.{ValidityTold};
+ghost use Rattle.x509_flat.specs.Values.{GeneralNamesTold, NameFills, SpanTold};
+ghost use Rattle.x509_values.specs.Certificates.{ExtensionCarried, SerialCarried};
 ghost use Rattle.x509_flat_report.specs.Reports.{Reported};
 ghost use Rattle.cimaroly_c.specs.Exports.{Arena};
 
 use bumpalo::Bump;
-use lent_memory::OneBlock;
+use lent_memory::{Lent, OneBlock};
 use x509_flat::certificate_fields::{
     FlatCertificate, certificate_fields as flat_certificate_fields,
 };
@@ -28,8 +32,12 @@ use x509_flat::private_key_fields::{
 };
 use x509_flat::request_fields::{FlatRequest, request_fields as flat_request_fields};
 use x509_flat::signed_part::{self, SignedAnswer};
+use x509_flat::span::FlatSpan;
 use x509_flat::status::{Answer, Sized};
+use x509_flat::validity::{FlatValidity, validity as flat_validity};
+use x509_flat::values;
 use x509_flat_report::{Reporter, report as flat_report};
+use x509_values::{AttributePlace, GeneralNamePlace};
 
 /// How many bytes an arena keeps of a chunk for itself, and how many it takes its parent to keep.
 const KEPT: usize = 48;
@@ -147,6 +155,66 @@ pub(crate) fn list_extensions(block: &OneBlock, bytes: &[u8], out: &mut [FlatExt
 {
     let arena = Bump::new(block);
     of_extensions(&arena, bytes, out)
+}
+
+/// When a certificate is valid. It asks for no memory, and so is given none.
+pub(crate) fn validity(bytes: &[u8]) -> Answer<FlatValidity>
+    ensures { ValidityTold Arena bytes.now result.status result.fields.not_before result.fields.not_after }
+{
+    let mut nothing = Lent::nothing();
+    let block = OneBlock::from_mut(&mut nothing);
+    let arena = Bump::new(&block);
+    flat_validity(&arena, bytes)
+}
+
+/// The attributes of a certificate's subject. It asks for no memory, as all of these.
+pub(crate) fn subject_attributes(bytes: &[u8], out: &mut [AttributePlace]) -> Sized
+    ensures { NameFills {A = Arena} (λ v. v.tbs_certificate.subject) bytes.now out.old out.new result.status result.size }
+{
+    let mut nothing = Lent::nothing();
+    let block = OneBlock::from_mut(&mut nothing);
+    let arena = Bump::new(&block);
+    values::subject_attributes(&arena, bytes, out)
+}
+
+/// Those of its issuer.
+pub(crate) fn issuer_attributes(bytes: &[u8], out: &mut [AttributePlace]) -> Sized
+    ensures { NameFills {A = Arena} (λ v. v.tbs_certificate.issuer) bytes.now out.old out.new result.status result.size }
+{
+    let mut nothing = Lent::nothing();
+    let block = OneBlock::from_mut(&mut nothing);
+    let arena = Bump::new(&block);
+    values::issuer_attributes(&arena, bytes, out)
+}
+
+/// The general names of a list.
+pub(crate) fn general_names(bytes: &[u8], out: &mut [GeneralNamePlace]) -> Sized
+    ensures { GeneralNamesTold Arena bytes.now out.old out.new result.status result.size }
+{
+    let mut nothing = Lent::nothing();
+    let block = OneBlock::from_mut(&mut nothing);
+    let arena = Bump::new(&block);
+    values::general_names(&arena, bytes, out)
+}
+
+/// The value of the first extension with an identifier.
+pub(crate) fn find_extension(bytes: &[u8], identifier: &[u8]) -> Answer<FlatSpan>
+    ensures { SpanTold (certificate {A = Arena}) bytes.now flat_span_if (ExtensionCarried Arena identifier.now bytes.now) result.status result.fields }
+{
+    let mut nothing = Lent::nothing();
+    let block = OneBlock::from_mut(&mut nothing);
+    let arena = Bump::new(&block);
+    values::find_extension(&arena, bytes, identifier)
+}
+
+/// The content of a certificate's serial number.
+pub(crate) fn serial_number(bytes: &[u8]) -> Answer<FlatSpan>
+    ensures { SpanTold (certificate {A = Arena}) bytes.now flat_span (SerialCarried Arena bytes.now) result.status result.fields }
+{
+    let mut nothing = Lent::nothing();
+    let block = OneBlock::from_mut(&mut nothing);
+    let arena = Bump::new(&block);
+    values::serial_number(&arena, bytes)
 }
 
 /// `report` of `x509_flat_report`.

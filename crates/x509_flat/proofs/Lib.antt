@@ -3,3 +3,4 @@ pub mod Counts
 pub mod ExtensionPlaces
 pub mod SignedParts
 pub mod Told
+pub mod Fills

@@ -8,3 +8,5 @@ pub mod Places
 pub mod SignedParts
 pub mod Spans
 pub mod Statuses
+pub mod Validities
+pub mod Values

@@ -13,3 +13,5 @@ pub mod request_fields;
 pub mod signed_part;
 pub mod span;
 pub mod status;
+pub mod validity;
+pub mod values;

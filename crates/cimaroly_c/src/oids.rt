@@ -1,0 +1,52 @@
+//! Object identifiers: their text and their names.
+
+ghost use Rattle.std.specs.Prelude.{List, ℕ};
+ghost use Rattle.cimaroly_c.specs.Oids.{NameWritten, TextWritten};
+
+use x509_flat::status::Status;
+use x509_oid_text::{NoText, name_in, oid_text};
+
+/// Writes the text of an object identifier to the front of a buffer, as in `2.5.4.3`.
+#[unsafe(no_mangle)]
+pub extern "C" fn cimaroly_oid_text(content: &[u8], out: &mut [u8], size: &mut usize) -> u32
+    ensures { TextWritten content.now out.old out.new result size.new }
+{
+    match oid_text(content, out) {
+        Ok(len) => {
+            *size = len;
+            Status::Done.number()
+        }
+        Err(NoText::Bad) => {
+            *size = 0;
+            Status::Refused.number()
+        }
+        Err(NoText::TooShort(len)) => {
+            *size = len;
+            Status::TooShort.number()
+        }
+        Err(NoText::TooLong) => {
+            *size = 0;
+            Status::TooLong.number()
+        }
+    }
+}
+
+/// Writes a text to the front of a buffer, if there is room for it.
+fn write_name(text: &[u8], out: &mut [u8], size: &mut usize) -> u32
+    ensures { NameWritten text.now out.old out.new result size.new }
+{
+    *size = text.len();
+    if out.len() < text.len() {
+        return Status::TooShort.number();
+    }
+    out[..text.len()].copy_from_slice(text);
+    Status::Done.number()
+}
+
+/// Writes the name of an object identifier to the front of a buffer, as in `commonName`: nothing where it has none.
+#[unsafe(no_mangle)]
+pub extern "C" fn cimaroly_oid_name(content: &[u8], out: &mut [u8], size: &mut usize) -> u32
+    ensures { (text : List ℕ) × NameWritten text out.old out.new result size.new }
+{
+    write_name(name_in(content).unwrap_or("").as_bytes(), out, size)
+}
