@@ -257,6 +257,56 @@ static void is_as_stated(const struct row *row, enum call_number which, const st
     }
 }
 
+/* The two digits at a place. */
+static unsigned two_digits(const uint8_t *text)
+{
+    return (unsigned)(text[0] - '0') * 10 + (unsigned)(text[1] - '0');
+}
+
+/* Seconds since 1970, by going through the days. */
+static int64_t counted_seconds(const struct cimaroly_time *time)
+{
+    static const int lengths[] = {31, 28, 31, 30, 31, 30, 31, 31, 30, 31, 30, 31};
+    int64_t days = time->day - 1;
+    for (int year = 0, month = 1; year != time->year || month != time->month;) {
+        bool is_leap = year % 4 == 0 && (year % 100 != 0 || year % 400 == 0);
+        days += lengths[month - 1] + (month == 2 && is_leap);
+        year += month == 12;
+        month = month % 12 + 1;
+    }
+    return ((days - 719528) * 24 + time->hour) * 3600 + time->minute * 60 + time->second;
+}
+
+/* The time of an element, which is a UTCTime or a GeneralizedTime. */
+static bool is_time_of(const struct cimaroly_time *time, const uint8_t *element)
+{
+    bool is_utc = element[0] == 0x17;
+    const uint8_t *text = element + 2 + (is_utc ? 0 : 2);
+    unsigned century = is_utc ? (two_digits(text) < 50 ? 20 : 19) : two_digits(text - 2);
+    return time->year == century * 100 + two_digits(text) && time->month == two_digits(text + 2) &&
+           time->day == two_digits(text + 4) && time->hour == two_digits(text + 6) &&
+           time->minute == two_digits(text + 8) && time->second == two_digits(text + 10) &&
+           time->unix_time == counted_seconds(time);
+}
+
+/* The times of a certificate are those that stand in it, and all zeros are told of what is none. */
+static void validity_is_right(const struct row *row)
+{
+    struct cimaroly_certificate fields;
+    struct cimaroly_time times[2];
+    memset(times, GUARD_FILL, sizeof times);
+    uint32_t status = cimaroly_validity(row->der, row->der_size, &times[0], &times[1]);
+    expect(status == cimaroly_certificate_fields_malloc(row->der, row->der_size, &fields), row, "validity", "the status");
+    if (status == CIMAROLY_OK) {
+        const uint8_t *first = row->der + fields.validity.start + 2;
+        expect(is_time_of(&times[0], first), row, "validity", "the first second");
+        expect(is_time_of(&times[1], first + 2 + first[1]), row, "validity", "the last second");
+    } else {
+        expect(times[0].unix_time == 0 && times[0].year == 0 && times[0].month == 0, row, "validity", "no time");
+        expect(times[1].unix_time == 0 && times[1].year == 0 && times[1].month == 0, row, "validity", "no time");
+    }
+}
+
 static struct given given_of(const struct row *row, uint8_t *out, size_t out_size)
 {
     struct given given = {row->kind, row->der, row->der_size, out, out_size};
@@ -429,6 +479,7 @@ int main(int argc, char **argv)
         for (size_t which = 0; which < CALLS; which++)
             test_call(&row, (enum call_number)which);
         secrets_are_hidden(&row);
+        validity_is_right(&row);
         free(row.der);
     }
     test_unknown_kinds((const uint8_t *)text);
