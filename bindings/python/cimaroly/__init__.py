@@ -3,11 +3,14 @@
 
     >>> import cimaroly
     >>> certificate = cimaroly.read(open("cert.pem", "rb").read())  # doctest: +SKIP
+    >>> certificate.subject.common_name, certificate.matches_host("www.example.org")  # doctest: +SKIP
+    ('example.org', True)
     >>> certificate.deviations  # doctest: +SKIP
     (Place(deviation=<Deviation.RSA_PARAMETERS_ABSENT: 1>, start=13, end=26),)
 
 `check` tells whether bytes encode a structure of a kind, and how they deviate from its DER encoding. `read` gives a
-`Structure`, and `read_all` a list of them, with fields, deviations, signed part, DER encoding and report. What is refused
+`Certificate`, a `Request`, a `PublicKey` or a `PrivateKey`, with their values, and of other kinds a `Structure`, which they
+all are: it has fields, deviations, signed part, DER encoding and report. `read_all` gives a list of them. What is refused
 raises `Refused`, which says why, at which byte and in which field. `read_each` gives what came of each PEM block, and goes on
 behind those that are refused.
 
@@ -15,28 +18,46 @@ Each thread has memory of its own, and other threads run during a call. What a c
 overwritten, and no `repr` shows the bytes of a field.
 """
 
+from ._certificates import Certificate, Request
+from ._keys import Algorithm, PrivateKey, PublicKey
 from ._kinds import KINDS, Deviation, Kind, Reason, Refused
+from ._names import AlternativeNames, Attribute, EdiPartyName, GeneralName, Name, OtherName
 from ._pem import Block, Data, PemError, pem_blocks
 from ._reading import Outcome, check, read, read_all, read_each
-from ._structure import Extension, Field, Place, SignedPart, Structure, Verdict
+from ._services import Policy, Timestamp
+from ._structure import Extension, Extensions, Field, Place, SignedPart, Structure, Verdict
 
 __version__ = "0.1.0"
 
 __all__ = [
     "KINDS",
+    "Algorithm",
+    "AlternativeNames",
+    "Attribute",
     "Block",
+    "Certificate",
     "Data",
     "Deviation",
+    "EdiPartyName",
     "Extension",
+    "Extensions",
     "Field",
+    "GeneralName",
     "Kind",
+    "Name",
+    "OtherName",
     "Outcome",
     "PemError",
     "Place",
+    "Policy",
+    "PrivateKey",
+    "PublicKey",
     "Reason",
     "Refused",
+    "Request",
     "SignedPart",
     "Structure",
+    "Timestamp",
     "Verdict",
     "check",
     "pem_blocks",

@@ -94,7 +94,7 @@ _REASONS = (
     "wrong tag",
     "malformed length",
     "malformed number",
-    "malformed truth value",
+    "malformed boolean",
     "malformed bit string",
     "malformed object identifier",
     "character not allowed",

@@ -8,8 +8,8 @@ import mmap
 import os
 import platform
 import threading
-from collections.abc import Callable
-from ctypes import POINTER, byref, c_bool, c_size_t, c_uint32, c_void_p
+from collections.abc import Callable, Iterator
+from ctypes import POINTER, byref, c_bool, c_size_t, c_uint32, c_uint64, c_void_p
 from typing import Any, Optional
 
 from ._kinds import KINDS, Kind, Refused
@@ -17,6 +17,9 @@ from ._secret import PRIVATE, Held, Secret
 
 # What a call answers.
 OK, REFUSED, OUT_OF_MEMORY, BUFFER_TOO_SHORT, UNKNOWN_KIND, TOO_LONG = range(6)
+
+# What the search for a PEM block answers.
+PEM_BLOCK, PEM_NO_MORE, PEM_LABEL_MISMATCH, PEM_NO_END, PEM_HAS_HEADERS = range(5)
 
 _HERE = os.path.dirname(os.path.abspath(__file__))
 _NAME = "libcimaroly.so"
@@ -107,6 +110,20 @@ class PrivateKey(ctypes.Structure):
     ]
 
 
+class PemBlock(ctypes.Structure):
+    """`struct cimaroly_pem_block`."""
+
+    _fields_ = [
+        ("label", Span),
+        ("text", Span),
+        ("room", c_size_t),
+        ("first_line", c_uint64),
+        ("last_line", c_uint64),
+        ("next", c_size_t),
+        ("next_line", c_uint64),
+    ]
+
+
 class Memory(ctypes.Structure):
     """`struct cimaroly_memory`."""
 
@@ -151,6 +168,8 @@ def _load() -> dict[str, Callable[..., int]]:
         "cimaroly_signed_part": (*given, POINTER(Signed)),
         "cimaroly_extensions": (*given, *buffer),
         "cimaroly_report": (*given, c_bool, *buffer),
+        "cimaroly_pem_next": (c_void_p, c_size_t, c_size_t, c_uint64, POINTER(PemBlock)),
+        "cimaroly_pem_decode": (c_void_p, c_size_t, *buffer),
     }
     for call, fields in _FIELDS.values():
         calls[call] = (POINTER(Memory), c_void_p, c_size_t, POINTER(fields))
@@ -222,6 +241,26 @@ def _asked(name: str, kind: Kind, der: Held, *arguments: Any) -> int:
         if status != OUT_OF_MEMORY:
             return status
         size = 4 * lent.size
+
+
+def pem_blocks(text: Held) -> Iterator[tuple[int, PemBlock]]:
+    """What the search for PEM blocks answers, one behind the other, and where each block stands."""
+    at = line = 0
+    while True:
+        block = PemBlock()
+        answer = _CALLS["cimaroly_pem_next"](_input(text), len(text), at, line, byref(block))
+        if answer == PEM_NO_MORE:
+            return
+        yield answer, block
+        at, line = block.next, block.next_line
+
+
+def pem_decoded(symbols: Held, room: int) -> Optional[Secret]:
+    """What base64 text stands for, or None if it is none."""
+    out, size = Secret(room), c_size_t()
+    if _CALLS["cimaroly_pem_decode"](_input(symbols), len(symbols), _input(out), room, byref(size)) != OK:
+        return None
+    return out if size.value == room else Secret(memoryview(out)[: size.value])
 
 
 def check(kind: Kind, der: Held) -> Verdict:

@@ -2,15 +2,14 @@
 
 from __future__ import annotations
 
-import base64
-import binascii
 import os
-import re
 from collections.abc import Iterator
 from typing import NamedTuple, Optional, Union
 
 from ._kinds import Kind
-from ._secret import PRIVATE, Held, from_base64, measured
+from ._library import PEM_HAS_HEADERS, PEM_LABEL_MISMATCH, PEM_NO_END, pem_decoded
+from ._library import pem_blocks as pem_blocks_in
+from ._secret import PRIVATE, Held, Secret, measured
 
 Data = Union[bytes, bytearray, memoryview, str]
 """DER or PEM. A `str` is PEM."""
@@ -26,17 +25,12 @@ _LABELS: dict[str, Kind] = {
     "RSA PUBLIC KEY": "rsa-public-key",
     "EC PRIVATE KEY": "ec-private-key",
 }
-# A line that begins or ends a block has nothing else but white space, and a byte order mark before it (RFC 7468, 3; CR, LF
-# or both end a line). These are looked for one behind the other, so that no text takes long.
-_BEGIN = re.compile(rb"-----BEGIN ")
-# What a block may end at: its last line, the first one of another, or a header.
-_STOP = re.compile(rb"-----BEGIN |-----END |:")
-_LABEL = re.compile(rb"([^\r\n]*)-----[ \t\v\f]*(?=[\r\n]|\Z)")
-_BLANK = b" \t\v\f"
-_MARK = b"\xef\xbb\xbf"
-_LINE_END = re.compile(rb"\r\n|\r|\n")
-_WHITE_SPACE = b" \t\n\r\v\f"
 _UTF_16 = (b"\xff\xfe", b"\xfe\xff")
+_FAULTS = {
+    PEM_LABEL_MISMATCH: "the end of another block than {}",
+    PEM_NO_END: "the block {} has no end",
+    PEM_HAS_HEADERS: "the block {} has headers, and may be encrypted",
+}
 
 
 class PemError(ValueError):
@@ -66,7 +60,9 @@ class RawBlock(NamedTuple):
     number: int
     line: int
     label: str
-    text: memoryview
+    symbols: Held
+    room: int
+    last_line: int
     fault: str
 
     @property
@@ -75,32 +71,19 @@ class RawBlock(NamedTuple):
 
     def decoded(self) -> bytes:
         """Its bytes. Raises `PemError`."""
-        self._whole()
-        symbols = bytes(self.text).translate(None, _WHITE_SPACE)
-        try:
-            found = base64.b64decode(symbols, validate=True)
-        except binascii.Error as error:
-            raise self._no_base64(error) from None
-        if base64.b64encode(found) != symbols:
-            raise self._no_base64(ValueError("bits behind the last byte"))
-        return found
+        return bytes(self._secret())
 
     def held(self) -> Held:
         """Its bytes, which are overwritten later if they are a private key's. Raises `PemError`."""
-        if self.kind not in PRIVATE:
-            return self.decoded()
-        self._whole()
-        try:
-            return from_base64(self.text)
-        except ValueError as error:
-            raise self._no_base64(error) from None
+        return self._secret() if self.kind in PRIVATE else self.decoded()
 
-    def _whole(self) -> None:
+    def _secret(self) -> Secret:
         if self.fault:
             raise PemError(self.fault)
-
-    def _no_base64(self, error: ValueError) -> PemError:
-        return PemError(f"line {self.line}: invalid base64: {error}")
+        found = pem_decoded(self.symbols, self.room)
+        if found is None:
+            raise PemError(f"line {self.last_line}: invalid base64 in the block {escaped(self.label)}")
+        return found
 
 
 def viewed(data: Data) -> memoryview:
@@ -123,38 +106,6 @@ def _hint(data: object) -> str:
     return ": pass what its read() gives" if hasattr(data, "read") else ""
 
 
-class _Boundary(NamedTuple):
-    """What begins or ends a block, or the colon of a header, which has no label."""
-
-    word: bytes
-    start: int
-    end: int
-    label: Optional[bytes]
-
-
-def _is_first(view: Union[bytes, memoryview], at: int) -> bool:
-    """Whether nothing stands in the line before a place but white space, and a byte order mark before that."""
-    while at > 0 and view[at - 1] in _BLANK:
-        at -= 1
-    if view[max(at - 3, 0) : at] == _MARK:
-        at -= 3
-        while at > 0 and view[at - 1] in _BLANK:
-            at -= 1
-    return at == 0 or view[at - 1] in b"\r\n"
-
-
-def _next(view: Union[bytes, memoryview], words: re.Pattern[bytes], start: int) -> Optional[_Boundary]:
-    """The next boundary that begins with one of some words, or colon."""
-    for it in words.finditer(view, start):
-        word = it[0]
-        if word == b":":
-            return _Boundary(word, it.start(), it.end(), None)
-        rest = _LABEL.match(view, it.end()) if _is_first(view, it.start()) else None
-        if rest is not None:
-            return _Boundary(word, it.start(), rest.end(), rest[1])
-    return None
-
-
 def escaped(label: str) -> str:
     """A label for a message: it may have any characters."""
     return label.encode("unicode_escape").decode("ascii")
@@ -167,34 +118,34 @@ def is_pem(data: Union[bytes, memoryview]) -> bool:
     """
     if bytes(data[:2]) in _UTF_16:
         raise PemError("UTF-16 text: PEM is read as UTF-8 or ASCII")
-    return not _is_one_element(data) and _next(data, _BEGIN, 0) is not None
+    return not _is_one_element(data) and next(pem_blocks_in(_text(data)), None) is not None
+
+
+def _text(data: Union[bytes, memoryview]) -> Held:
+    """A text as the library takes it: as it is, if it is bytes, else a copy that is overwritten later."""
+    if isinstance(data, bytes):
+        return data
+    whole = data.obj
+    return whole if isinstance(whole, bytes) and len(whole) == len(data) else Secret(data)
+
+
+def bare_base64(data: Union[bytes, memoryview]) -> Optional[Secret]:
+    """What base64 without a BEGIN line stands for, if that begins as a SEQUENCE does; else None."""
+    # (which is M and one of A to P)
+    if bytes(data[:64]).lstrip()[:1] != b"M":
+        return None
+    found = pem_decoded(_text(data), len(data) * 3 // 4)
+    return found if found and found[0] == 0x30 else None
 
 
 def raw_blocks(view: memoryview) -> Iterator[RawBlock]:
     """The PEM blocks of a text, and among them, with their fault, those that aren't whole."""
-    number, line, counted = 0, 1, 0
-    begin = _next(view, _BEGIN, 0)
-    while begin is not None:
-        number += 1
-        line += len(_LINE_END.findall(view, counted, begin.start))
-        counted = begin.start
-        end = _next(view, _STOP, begin.end)
-        stop = len(view) if end is None else end.start
-        at = line + len(_LINE_END.findall(view, counted, stop))
-        label = (begin.label or b"").decode(errors="backslashreplace")
-        yield RawBlock(number, line, label, view[begin.end : stop], _fault(begin, end, escaped(label), line, at))
-        if end is None:
-            return
-        begin = end if end.word == b"-----BEGIN " else _next(view, _BEGIN, end.end)
-
-
-def _fault(begin: _Boundary, end: Optional[_Boundary], label: str, first: int, last: int) -> str:
-    """What is wrong with a block that begins and ends at these lines, or nothing."""
-    if end is None or end.word == b"-----BEGIN ":
-        return f"line {first}: the block {label} has no end"
-    if end.word == b":":
-        return f"line {last}: the block {label} has headers, and may be encrypted"
-    return "" if end.label == begin.label else f"line {last}: the end of another block than {label}"
+    text = _text(view)
+    for number, (answer, it) in enumerate(pem_blocks_in(text), 1):
+        label = bytes(text[it.label.start : it.label.end]).decode(errors="backslashreplace")
+        fault = f"line {it.last_line}: {_FAULTS[answer].format(escaped(label))}" if answer else ""
+        symbols = Secret(memoryview(text)[it.text.start : it.text.end])
+        yield RawBlock(number, it.first_line, label, symbols, it.room, it.last_line, fault)
 
 
 def pem_blocks(data: Data) -> Iterator[Block]:

@@ -4,12 +4,29 @@ from __future__ import annotations
 
 from collections.abc import Iterator
 from dataclasses import dataclass
-from typing import Optional, Union
+from typing import Any, Literal, Optional, Union, overload
 
+from ._certificates import Certificate, Request
+from ._keys import PrivateKey, PrivateKind, PublicKey, PublicKind
 from ._kinds import KINDS, Kind, Refused
-from ._pem import Data, PemError, RawBlock, escaped, is_pem, raw_blocks, viewed
-from ._secret import Held, Secret
+from ._pem import Data, PemError, RawBlock, bare_base64, escaped, is_pem, raw_blocks, viewed
+from ._secret import PRIVATE, Held, Secret
 from ._structure import Structure, Verdict, checked
+
+OtherKind = Literal["name", "extensions", "algorithm", "raw-algorithm"]
+
+
+def _structure(der: Union[bytes, bytearray, memoryview], kind: Kind) -> Structure:
+    """Reads bytes as a kind, by the class for it. Raises `Refused`."""
+    if kind == "certificate":
+        return Certificate(der)
+    if kind == "request":
+        return Request(der)
+    if kind == "public-key" or kind == "rsa-public-key":
+        return PublicKey(der, kind)
+    if kind == "private-key" or kind == "rsa-private-key" or kind == "ec-private-key":
+        return PrivateKey(der, kind)
+    return Structure(der, kind)
 
 
 @dataclass(frozen=True)
@@ -43,35 +60,54 @@ def _no_block(view: memoryview, kind: Optional[Kind]) -> PemError:
     return PemError(f"no PEM block of {'a known kind' if kind is None else 'kind ' + kind} (blocks: {labels})")
 
 
+def _bare(view: memoryview, kind: Kind) -> Optional[Held]:
+    """What bare base64 stands for, or None."""
+    found = bare_base64(view)
+    return found if found is None or kind in PRIVATE else bytes(found)
+
+
 def _der(data: Data, kind: Kind) -> Held:
-    """DER as it is, or what is in the first block that the kind fits."""
+    """DER as it is, or what is in the first block that the kind fits, or in bare base64."""
     _known(kind)
-    if isinstance(data, bytes) and not is_pem(data):
-        return data
     view = viewed(data)
     if not (isinstance(data, str) or is_pem(view)):
-        return Secret(view)
-    for it in raw_blocks(view):
+        return _bare(view, kind) or (data if isinstance(data, bytes) else Secret(view))
+    blocks = list(raw_blocks(view))
+    for it in blocks:
         if it.kind == kind:
             return it.held()
-    raise _no_block(view, kind)
+    found = None if blocks else _bare(view, kind)
+    if found is None:
+        raise _no_block(view, kind)
+    return found
 
 
 def check(data: Data, kind: Kind = "certificate") -> Verdict:
     """Whether bytes encode a structure of a kind, and how they deviate from its DER encoding.
 
-    Of PEM the first block of the kind is taken. Raises `Refused`, `PemError` if there is no such block or it can't be
+    Of PEM the first block of the kind is taken; a text without blocks may be bare base64. Raises `Refused`, `PemError` if there is no such block or it can't be
     decoded, `TypeError` for what isn't data, and `MemoryError`.
     """
     return checked(_der(data, kind), kind)
 
 
+@overload
+def read(data: Data, kind: Literal["certificate"] = ...) -> Certificate: ...
+@overload
+def read(data: Data, kind: Literal["request"]) -> Request: ...
+@overload
+def read(data: Data, kind: PublicKind) -> PublicKey: ...
+@overload
+def read(data: Data, kind: PrivateKind) -> PrivateKey: ...
+@overload
+def read(data: Data, kind: Kind) -> Structure: ...
 def read(data: Data, kind: Kind = "certificate") -> Structure:
-    """Reads one structure. Of PEM the first block of the kind is taken.
+    """Reads one structure: a `Certificate`, a `Request`, a `PublicKey` or a `PrivateKey`, and of the other kinds a `Structure`.
+    Of PEM the first block of the kind is taken.
 
     Raises what `check` does.
     """
-    return Structure(_der(data, kind), kind)
+    return _structure(_der(data, kind), kind)
 
 
 def read_each(data: Data, kind: Optional[Kind] = None) -> Iterator[Outcome]:
@@ -86,9 +122,12 @@ def read_each(data: Data, kind: Optional[Kind] = None) -> Iterator[Outcome]:
     if kind is not None:
         _known(kind)
     view = viewed(data)
-    if isinstance(data, str) or is_pem(view):
+    if is_pem(view) or (isinstance(data, str) and next(raw_blocks(view), None) is not None):
         return (_outcome(it) for it in raw_blocks(view) if kind is None or it.kind == kind)
-    return iter((_outcome_of_der(data, kind or "certificate"),))
+    bare = _bare(view, kind or "certificate")
+    if bare is None and isinstance(data, str):
+        return iter(())
+    return iter((_outcome_of_der(data if bare is None else bare, kind or "certificate"),))
 
 
 def _outcome(block: RawBlock) -> Outcome:
@@ -96,7 +135,7 @@ def _outcome(block: RawBlock) -> Outcome:
     if kind is None:
         return Outcome(number, line, label, kind)
     try:
-        return Outcome(number, line, label, kind, Structure(block.held(), kind))
+        return Outcome(number, line, label, kind, _structure(block.held(), kind))
     except (Refused, PemError) as error:
         # (without the frames, which keep what they read)
         return Outcome(number, line, label, kind, refused=error.with_traceback(None))
@@ -104,12 +143,22 @@ def _outcome(block: RawBlock) -> Outcome:
 
 def _outcome_of_der(data: Union[bytes, bytearray, memoryview], kind: Kind) -> Outcome:
     try:
-        return Outcome(1, None, None, kind, Structure(data, kind))
+        return Outcome(1, None, None, kind, _structure(data, kind))
     except Refused as error:
         return Outcome(1, None, None, kind, refused=error.with_traceback(None))
 
 
-def read_all(data: Data, kind: Optional[Kind] = None) -> list[Structure]:
+@overload
+def read_all(data: Data, kind: Literal["certificate"]) -> list[Certificate]: ...
+@overload
+def read_all(data: Data, kind: Literal["request"]) -> list[Request]: ...
+@overload
+def read_all(data: Data, kind: PublicKind) -> list[PublicKey]: ...
+@overload
+def read_all(data: Data, kind: PrivateKind) -> list[PrivateKey]: ...
+@overload
+def read_all(data: Data, kind: Optional[OtherKind] = None) -> list[Structure]: ...
+def read_all(data: Data, kind: Optional[Kind] = None) -> list[Any]:
     """The structures of `read_each`, if none is refused.
 
     Raises `Refused` or `PemError` at the first that is, `PemError` if there is no block of a known kind or of this one, and

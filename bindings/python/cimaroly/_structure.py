@@ -2,9 +2,9 @@
 
 from __future__ import annotations
 
-from collections.abc import Mapping
+from collections.abc import Iterable, Mapping
 from functools import cached_property
-from typing import Any, NamedTuple, Union
+from typing import Any, NamedTuple, Optional, SupportsIndex, Union, overload
 
 from . import _library
 from ._kinds import Deviation, Kind
@@ -46,9 +46,7 @@ class Field(NamedTuple):
         return f"Field(start={self.start}, end={self.end}, data=<{measured(self.data)}>)"
 
 
-class Extension(NamedTuple):
-    """An extension (RFC 5280, 4.1)."""
-
+class _Extension(NamedTuple):
     identifier: str
     """`extnID`, with dots."""
     critical: bool
@@ -56,6 +54,57 @@ class Extension(NamedTuple):
     """What `extnValue` holds."""
     start: int
     end: int
+
+
+class Extension(_Extension):
+    """An extension (RFC 5280, 4.1)."""
+
+    name: Optional[str] = None
+    """The name that the library has for the identifier, such as `id-ce-keyUsage`."""
+
+    def is_called(self, key: str) -> bool:
+        """Whether a key is the identifier, as `2.5.29.15`, or the name, as `id-ce-keyUsage` or `keyUsage`."""
+        if self.name is None:
+            return key == self.identifier
+        return key in (self.identifier, self.name, self.name.removeprefix("id-ce-").removeprefix("id-pe-"))
+
+
+class Extensions(tuple[Extension, ...]):
+    """Extensions (RFC 5280, 4.1.2.9), in the order of the encoding, which iteration keeps. They are found by identifier or name:
+
+    >>> certificate.extensions["2.5.29.15"] == certificate.extensions["keyUsage"]  # doctest: +SKIP
+    True
+    >>> "nameConstraints" in certificate.extensions  # doctest: +SKIP
+    False
+    """
+
+    @overload
+    def __getitem__(self, key: Union[str, SupportsIndex]) -> Extension: ...
+    @overload
+    def __getitem__(self, key: slice) -> tuple[Extension, ...]: ...
+    def __getitem__(self, key: Union[str, SupportsIndex, slice]) -> Union[Extension, tuple[Extension, ...]]:
+        """The extension of an identifier or a name, or at a place. Raises `KeyError` if there is none, and `ValueError` if there
+        are several, of which RFC 5280, 4.2 says not which counts."""
+        if not isinstance(key, str):
+            return super().__getitem__(key)
+        found = self.get(key)
+        if found is None:
+            raise KeyError(key)
+        return found
+
+    def get(self, key: str) -> Optional[Extension]:
+        """The extension of an identifier or a name, or None. Raises `ValueError` if there are several."""
+        found = [it for it in self if it.is_called(key)]
+        if len(found) > 1:
+            raise ValueError(f"{len(found)} extensions {key}: RFC 5280, 4.2 allows for one")
+        return found[0] if found else None
+
+    def __contains__(self, key: object) -> bool:
+        """Whether there is an extension of an identifier or a name."""
+        return any(it.is_called(key) for it in self) if isinstance(key, str) else super().__contains__(key)
+
+    def __repr__(self) -> str:
+        return f"Extensions({', '.join(it.name or it.identifier for it in self)})"
 
 
 class SignedPart(NamedTuple):
@@ -95,6 +144,24 @@ def _content(der: Held, span: Any) -> bytes:
     return bytes(memoryview(der)[span.start + header : span.end])
 
 
+def listed(der: Held, spans: Iterable[_library.Extension], names: Iterable[Optional[str]], offset: int = 0) -> Extensions:
+    """The extensions that stand at these places of bytes, which stand at an offset of the structure."""
+
+    def extension(it: _library.Extension, name: Optional[str]) -> Extension:
+        critical = it.critical.end > 0 and der[it.critical.end - 1] != 0
+        identifier, value = _identifier(_content(der, it.extn_id)), _content(der, it.extn_value)
+        found = Extension(identifier, critical, value, it.whole.start + offset, it.whole.end + offset)
+        found.name = name
+        return found
+
+    return Extensions(map(extension, spans, names))
+
+
+def names_of(told: Any) -> list[Optional[str]]:
+    """The names of the items of a report's node."""
+    return [it.get("name") for it in told["items"]]
+
+
 def checked(der: Held, kind: Kind) -> Verdict:
     """What a check finds. Raises `Refused`, and keeps no secret then."""
     try:
@@ -112,6 +179,8 @@ class Structure:
 
     What it keeps of a private key that came as PEM or in a `bytearray` is overwritten when the structure is freed.
     """
+
+    _KEPT = ("_kind", "_verdict", "_der")
 
     def __init__(self, der: Union[bytes, bytearray, memoryview], kind: Kind = "certificate") -> None:
         """Reads bytes in DER. Raises `Refused`."""
@@ -170,15 +239,20 @@ class Structure:
         return bytes(memoryview(self._der)[start:end])
 
     @cached_property
-    def extensions(self) -> tuple[Extension, ...]:
-        """The extensions of a certificate or a list of extensions. Raises `ValueError` for another kind."""
-        return tuple(map(self._extension, _library.extensions(self._kind, self._der)))
+    def extensions(self) -> Extensions:
+        """The extensions of a certificate, a request or a list of extensions. Raises `ValueError` for another kind."""
+        return self._found_extensions()
 
-    def _extension(self, it: _library.Extension) -> Extension:
-        der = self._der
-        critical = it.critical.end > 0 and der[it.critical.end - 1] != 0
-        value = _content(der, it.extn_value)
-        return Extension(_identifier(_content(der, it.extn_id)), critical, value, it.whole.start, it.whole.end)
+    def _found_extensions(self) -> Extensions:
+        spans = _library.extensions(self._kind, self._der)
+        return listed(self._der, spans, self._extension_names() if spans else ())
+
+    def _extension_names(self) -> Iterable[Optional[str]]:
+        """The library's name for each extension."""
+        told = self.report()
+        if self._kind == "certificate":
+            told = told["Certificate"]["tbsCertificate"]
+        return names_of(told.get("extensions") or told.get("Extensions"))
 
     @cached_property
     def signed_part(self) -> SignedPart:
@@ -195,10 +269,18 @@ class Structure:
         """The contents, as docs/JSON.md describes them. The secret numbers of private keys are left out unless asked for."""
         return _library.report(self._kind, self._der, secrets)
 
+    def _summary(self) -> str:
+        """What `repr` says first of the contents; nothing secret."""
+        return ""
+
     def __repr__(self) -> str:
         total = sum(self._verdict.counts.values())
         how = "in DER" if total == 0 else f"{total} deviation{'s' if total > 1 else ''}"
-        return f"<{self._kind}, {measured(self._der)}, {how}>"
+        return f"<{self._kind}{self._summary()}, {measured(self._der)}, {how}>"
+
+    def __getstate__(self) -> dict[str, Any]:
+        # (what was asked for once is asked for again)
+        return {name: self.__dict__[name] for name in self._KEPT}
 
     def __eq__(self, other: object) -> bool:
         return isinstance(other, Structure) and (self._kind, self._der) == (other._kind, other._der)

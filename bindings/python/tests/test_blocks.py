@@ -49,8 +49,8 @@ class Each(unittest.TestCase):
         self.assertEqual([it.label for it in found], [label for _, label, _ in PARTS])
 
     def test_what_came_of_each(self) -> None:
-        # (the second line of the encrypted key has the header, the third line of the other block is its end)
-        later = {"has headers": 1, "the end of another": 2}
+        # (the second line of the encrypted key has the header, the third line of the others is where they are refused)
+        later = {"has headers": 1, "the end of another": 2, "invalid base64": 2, "has no end": 2}
         for it, (_, label, why) in zip(cimaroly.read_each(TEXT), PARTS):
             with self.subTest(number=it.number):
                 line = (it.line or 0) + sum(more for words, more in later.items() if words in why)

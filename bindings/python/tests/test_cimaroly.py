@@ -75,7 +75,8 @@ def places(row: dict[str, str]) -> list[tuple[int, int, int]]:
 
 
 def read(row: dict[str, str]) -> cimaroly.Structure:
-    return cimaroly.read(input_of(row["input"]), row["kind"])  # type: ignore[arg-type]
+    kind: cimaroly.Kind = row["kind"]  # type: ignore[assignment]
+    return cimaroly.read(input_of(row["input"]), kind)
 
 
 def counts(found: list[tuple[int, int, int]]) -> dict[int, int]:
@@ -155,6 +156,9 @@ class Table(unittest.TestCase):
         for row in READ:
             with self.subTest(row["name"]):
                 structure = read(row)
+                if row["kind"] == "request":
+                    # (tests.test_values has those)
+                    continue
                 if row["extensions"] == "-":
                     with self.assertRaises(ValueError):
                         structure.extensions  # noqa: B018
@@ -284,10 +288,10 @@ class Input(unittest.TestCase):
     def test_no_block(self) -> None:
         for data, kind in (("", "certificate"), ("abc", "name"), (file("certificate_ec.pem"), "request")):
             with self.assertRaises(cimaroly.PemError):
-                cimaroly.read(data, kind)  # type: ignore[arg-type]
+                cimaroly.read(data, kind)  # type: ignore[call-overload]
         with self.assertRaisesRegex(cimaroly.PemError, "may be encrypted"):
             cimaroly.read(file("rsa_private_key_encrypted.pem"), "rsa-private-key")
-        with self.assertRaisesRegex(cimaroly.PemError, "line 1: .* has no end"):
+        with self.assertRaisesRegex(cimaroly.PemError, "line [0-9]+: .* has no end"):
             cimaroly.read(file("certificate_ec.pem").replace(b"-----END", b"-----"))
         with self.assertRaisesRegex(cimaroly.PemError, "invalid base64"):
             cimaroly.read("-----BEGIN CERTIFICATE-----\nMII*\n-----END CERTIFICATE-----\n")
@@ -319,11 +323,11 @@ class Input(unittest.TestCase):
     def test_any_buffer(self) -> None:
         whole = memoryview(bytes.fromhex("0030ff00"))
         for data in (whole[1::2], array.array("H", [0x30]), mmap_of(b"0\0")):
-            self.assertEqual(cimaroly.read(data, "name").der, b"0\0")  # type: ignore[arg-type]
+            self.assertEqual(cimaroly.read(data, "name").der, b"0\0")  # type: ignore[call-overload]
 
     def test_unknown_kind(self) -> None:
         with self.assertRaisesRegex(ValueError, "no kind 'cert'"):
-            cimaroly.read(b"0\0", "cert")  # type: ignore[arg-type]
+            cimaroly.read(b"0\0", "cert")  # type: ignore[call-overload]
 
     def test_secrets(self) -> None:
         structure = cimaroly.read(file("private_key_ed25519.pem"), "private-key")

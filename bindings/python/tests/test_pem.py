@@ -50,6 +50,15 @@ class Table(unittest.TestCase):
 
 
 class Inputs(unittest.TestCase):
+    def test_bare_base64(self) -> None:
+        text = b"".join((TABLE.parents[2] / "tools/tests/data/certificate_ec.pem").read_bytes().splitlines(True)[1:-1])
+        for data in (text, text.decode(), bytearray(b"\n  " + text.replace(b"\n", b"\r\n"))):
+            self.assertTrue(cimaroly.check(data).is_der)
+            (found,) = cimaroly.read_each(data)
+            self.assertEqual((found.line, found.kind), (None, "certificate"))
+        for other in (text[:-2], text + b"A", b"AQID"):
+            self.assertRaises((cimaroly.PemError, cimaroly.Refused), cimaroly.read, other)
+
     def test_no_data(self) -> None:
         for value in (pathlib.Path("cert.pem"), 7, None):
             self.assertRaises(TypeError, cimaroly.read, value)

@@ -64,9 +64,9 @@ def kept() -> bytes:
 
 class Overwritten(unittest.TestCase):
     def test_what_calls_work_in(self) -> None:
-        for kind, name in (("private-key", "private_key_rsa"), ("rsa-private-key", "rsa_private_key")):
-            der = input_of(f"{name}.pem")
-            structure = cimaroly.read(der, kind)  # type: ignore[arg-type]
+        kinds: dict[cimaroly.Kind, str] = {"private-key": "private_key_rsa", "rsa-private-key": "rsa_private_key"}
+        for kind, name in kinds.items():
+            structure = cimaroly.read(input_of(f"{name}.pem"), kind)
             structure.encode()
             self.assertEqual(kept().count(0), len(kept()))
             structure.report(secrets=True)
@@ -114,7 +114,7 @@ sys.stdin.read()
 """
 READS = """
 key = cimaroly.read(view, "private-key")
-key.report(), key.verdict, key.encode
+key.report(), key.verdict, key.encode, repr(key), key.algorithm, key.curve, key.bits, key.public_key
 for it in cimaroly.read_each(view, "private-key"):
     assert it.structure == key, it
 del key, it
