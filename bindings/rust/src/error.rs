@@ -141,7 +141,7 @@ impl Reason {
             Reason::WrongTag => "wrong tag",
             Reason::BadLength => "malformed length",
             Reason::BadNumber => "malformed number",
-            Reason::BadBoolean => "malformed truth value",
+            Reason::BadBoolean => "malformed boolean",
             Reason::BadBits => "malformed bit string",
             Reason::BadOid => "malformed object identifier",
             Reason::BadText => "character not allowed",

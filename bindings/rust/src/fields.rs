@@ -80,6 +80,7 @@ pub struct Certificate<'a> {
     pub signature_algorithm: Field<'a>,
     /// `signatureValue`.
     pub signature_value: Field<'a>,
+    pub(crate) whole: Field<'a>,
 }
 
 /// The fields of a request (RFC 2986, 4).

@@ -69,6 +69,21 @@ impl Kind {
     pub fn from_name(name: &str) -> Option<Kind> {
         Kind::ALL.into_iter().find(|kind| kind.name() == name)
     }
+
+    /// What the label of a PEM block says to read its bytes as (RFC 7468).
+    #[must_use]
+    pub fn from_label(label: &[u8]) -> Option<Kind> {
+        match label {
+            b"CERTIFICATE" | b"X509 CERTIFICATE" => Some(Kind::Certificate),
+            b"CERTIFICATE REQUEST" | b"NEW CERTIFICATE REQUEST" => Some(Kind::Request),
+            b"PRIVATE KEY" => Some(Kind::PrivateKey),
+            b"PUBLIC KEY" => Some(Kind::PublicKey),
+            b"RSA PRIVATE KEY" => Some(Kind::RsaPrivateKey),
+            b"RSA PUBLIC KEY" => Some(Kind::RsaPublicKey),
+            b"EC PRIVATE KEY" => Some(Kind::EcPrivateKey),
+            _ => None,
+        }
+    }
 }
 
 impl fmt::Display for Kind {

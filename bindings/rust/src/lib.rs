@@ -38,13 +38,20 @@ extern crate alloc;
 
 #[cfg(feature = "alloc")]
 mod allocated;
+mod elements;
 mod error;
 mod field_path;
 mod fields;
 mod kind;
 mod library;
+mod names;
+mod oid;
+mod pem;
 mod reader;
+mod times;
 mod told;
+mod usages;
+mod values;
 
 #[cfg(feature = "alloc")]
 pub use crate::allocated::{
@@ -55,5 +62,10 @@ pub use crate::field_path::FieldPath;
 pub use crate::fields::{Certificate, Extension, Field, PrivateKey, Request};
 pub use crate::kind::{Deviation, Kind};
 pub use crate::library::{Block, ExtensionPlaces};
+pub use crate::names::{Attribute, Attributes, GeneralName, GeneralNames, Name};
+pub use crate::oid::Oid;
+pub use crate::pem::{decode_base64, pem_blocks, PemBlock, PemBlocks, PemError, PemFault};
 pub use crate::reader::{Extensions, Reader};
+pub use crate::times::Time;
 pub use crate::told::{Counts, Place, SignedPart, Verdict};
+pub use crate::usages::KeyUsage;

@@ -8,6 +8,7 @@
 
 use core::mem::{size_of_val, MaybeUninit};
 
+use crate::times::Time;
 use crate::told::{Counts, Place};
 
 /// 16 bytes of the memory that a [`crate::Reader`] works in. What they hold before a call doesn't
@@ -125,6 +126,27 @@ impl ExtensionPlaces {
     };
 }
 
+/// `struct cimaroly_pem_block`.
+#[derive(Default)]
+#[repr(C)]
+pub(crate) struct FlatPemBlock {
+    pub(crate) label: Span,
+    pub(crate) text: Span,
+    pub(crate) room: usize,
+    pub(crate) first_line: u64,
+    pub(crate) last_line: u64,
+    pub(crate) next: usize,
+    pub(crate) next_line: u64,
+}
+
+/// `enum cimaroly_pem`, but for a block that has no fault.
+pub(crate) mod pem {
+    pub(crate) const NO_MORE: u32 = 1;
+    pub(crate) const LABEL_MISMATCH: u32 = 2;
+    pub(crate) const NO_END: u32 = 3;
+    pub(crate) const HAS_HEADERS: u32 = 4;
+}
+
 /// `enum cimaroly_status`.
 pub(crate) mod status {
     pub(crate) const OK: u32 = 0;
@@ -136,7 +158,8 @@ pub(crate) mod status {
 
 mod c {
     use super::{
-        Certificate, ExtensionPlaces, Memory, Place, PrivateKey, Request, Signed, Verdict,
+        Certificate, ExtensionPlaces, FlatPemBlock, Memory, Place, PrivateKey, Request, Signed,
+        Time, Verdict,
     };
 
     extern "C" {
@@ -205,6 +228,26 @@ mod c {
             der: *const u8,
             der_size: usize,
             secrets: bool,
+            out: *mut u8,
+            out_size: usize,
+            size: *mut usize,
+        ) -> u32;
+        pub(super) fn cimaroly_validity(
+            der: *const u8,
+            der_size: usize,
+            not_before: *mut Time,
+            not_after: *mut Time,
+        ) -> u32;
+        pub(super) fn cimaroly_pem_next(
+            text: *const u8,
+            text_size: usize,
+            at: usize,
+            line: u64,
+            block: *mut FlatPemBlock,
+        ) -> u32;
+        pub(super) fn cimaroly_pem_decode(
+            text: *const u8,
+            text_size: usize,
             out: *mut u8,
             out_size: usize,
             size: *mut usize,
@@ -296,6 +339,22 @@ pub(crate) fn report(
     unsafe {
         c::cimaroly_report(&mut memory, kind, der.as_ptr(), der_size, secrets, at, room, size)
     }
+}
+
+pub(crate) fn validity(der: &[u8], not_before: &mut Time, not_after: &mut Time) -> u32 {
+    // SAFETY: as above; any numbers are a time.
+    unsafe { c::cimaroly_validity(der.as_ptr(), der.len(), not_before, not_after) }
+}
+
+pub(crate) fn pem_next(text: &[u8], at: usize, line: u64, block: &mut FlatPemBlock) -> u32 {
+    // SAFETY: as above.
+    unsafe { c::cimaroly_pem_next(text.as_ptr(), text.len(), at, line, block) }
+}
+
+pub(crate) fn pem_decode(text: &[u8], out: &mut [u8], size: &mut usize) -> u32 {
+    let (at, room) = (out.as_mut_ptr(), out.len());
+    // SAFETY: as above; `out` has room for `room` bytes.
+    unsafe { c::cimaroly_pem_decode(text.as_ptr(), text.len(), at, room, size) }
 }
 
 /// So many blocks of the global allocator, or none where it refuses them.

@@ -122,6 +122,7 @@ impl<'m> Reader<'m> {
             extensions: optional(der, told.extensions),
             signature_algorithm: field(der, told.signature_algorithm),
             signature_value: field(der, told.signature_value),
+            whole: field(der, Span { start: 0, end: der.len() }),
         })
     }
 

@@ -1,4 +1,5 @@
 //! The rows of `bindings/tests/table.tsv`.
+#![allow(dead_code)] // (no test needs all of it)
 
 use std::collections::HashMap;
 use std::fs;

@@ -1,0 +1,127 @@
+//! Values of certificates and requests, which borrow from the input. They take no memory.
+
+use crate::elements::{first_in, Element, Elements};
+use crate::fields::{Certificate, Extension, Request};
+use crate::library;
+use crate::names::{GeneralNames, Name};
+use crate::oid::Oid;
+use crate::times::Time;
+use crate::usages::KeyUsage;
+
+const BOOLEAN: u8 = 1;
+
+const INTEGER: u8 = 2;
+
+/// The tag of `keyIdentifier` in an `authorityKeyIdentifier`.
+const KEY_IDENTIFIER: u8 = 0x80;
+
+impl<'a> Certificate<'a> {
+    /// The name of the subject (RFC 5280, 4.1.2.6).
+    #[must_use]
+    pub fn subject(&self) -> Name<'a> {
+        Name::of(self.subject.content())
+    }
+
+    /// The name of the issuer (RFC 5280, 4.1.2.4).
+    #[must_use]
+    pub fn issuer(&self) -> Name<'a> {
+        Name::of(self.issuer.content())
+    }
+
+    /// The first second at which it is valid (RFC 5280, 4.1.2.5).
+    #[must_use]
+    pub fn not_before(&self) -> Time {
+        self.times().0
+    }
+
+    /// The last second at which it is valid (RFC 5280, 4.1.2.5).
+    #[must_use]
+    pub fn not_after(&self) -> Time {
+        self.times().1
+    }
+
+    /// What the first extension of a type holds: the content of its `extnValue`.
+    #[must_use]
+    pub fn extension(&self, oid: Oid<'_>) -> Option<&'a [u8]> {
+        let mut list = Elements(first_in(self.extensions?.content())).map(Element::inside);
+        list.find_map(|mut fields| {
+            let is_sought = fields.next()?.content == oid.content();
+            // (`critical` may stand between)
+            fields.last().filter(|_| is_sought).map(|value| value.content)
+        })
+    }
+
+    /// The names of the first `subjectAltName` (RFC 5280, 4.2.1.6), of which there are none without that extension.
+    #[must_use]
+    pub fn alternative_names(&self) -> GeneralNames<'a> {
+        self.extension(Oid::SUBJECT_ALT_NAME).map(GeneralNames::of).unwrap_or_default()
+    }
+
+    /// What its key may be used for; `None` without a `keyUsage` (RFC 5280, 4.2.1.3).
+    #[must_use]
+    pub fn key_usage(&self) -> Option<KeyUsage> {
+        self.extension(Oid::KEY_USAGE).map(|value| KeyUsage::of(first_in(value)))
+    }
+
+    /// Purposes of its key, of which there are none without an `extKeyUsage` (RFC 5280, 4.2.1.12).
+    pub fn extended_key_usage(&self) -> impl Iterator<Item = Oid<'a>> + 'a {
+        let list = self.extension(Oid::EXT_KEY_USAGE).map(first_in).unwrap_or_default();
+        Elements(list).map(|it| Oid::read(it.content))
+    }
+
+    /// Whether it is that of an authority: `cA` of `basicConstraints` (RFC 5280, 4.2.1.9).
+    #[must_use]
+    pub fn is_ca(&self) -> bool {
+        self.constraint(BOOLEAN).is_some_and(|content| content == [0xFF])
+    }
+
+    /// `pathLenConstraint` of `basicConstraints` (RFC 5280, 4.2.1.9).
+    #[must_use]
+    pub fn path_length(&self) -> Option<u8> {
+        // (the library reads none above 255)
+        self.constraint(INTEGER)?.last().copied()
+    }
+
+    /// The field of `basicConstraints` with a tag.
+    fn constraint(&self, tag: u8) -> Option<&'a [u8]> {
+        let mut fields = Elements(first_in(self.extension(Oid::BASIC_CONSTRAINTS)?));
+        fields.find(|it| it.tag == tag).map(|it| it.content)
+    }
+
+    /// What `subjectKeyIdentifier` holds (RFC 5280, 4.2.1.2).
+    #[must_use]
+    pub fn subject_key_identifier(&self) -> Option<&'a [u8]> {
+        self.extension(Oid::SUBJECT_KEY_IDENTIFIER).map(first_in)
+    }
+
+    /// `keyIdentifier` of `authorityKeyIdentifier` (RFC 5280, 4.2.1.1).
+    #[must_use]
+    pub fn authority_key_identifier(&self) -> Option<&'a [u8]> {
+        let fields = Elements(first_in(self.extension(Oid::AUTHORITY_KEY_IDENTIFIER)?));
+        // (of fields that are repeated, which is a deviation, the last counts)
+        fields.filter(|it| it.tag == KEY_IDENTIFIER).last().map(|it| it.content)
+    }
+
+    /// Between which times it is valid. (The library tells them of every certificate that it reads.)
+    fn times(&self) -> (Time, Time) {
+        let mut times = <(Time, Time)>::default();
+        library::validity(self.whole.bytes(), &mut times.0, &mut times.1);
+        times
+    }
+}
+
+impl<'a> Extension<'a> {
+    /// Its type, `extnID` (RFC 5280, 4.2).
+    #[must_use]
+    pub fn oid(&self) -> Oid<'a> {
+        Oid::read(self.extn_id.content())
+    }
+}
+
+impl<'a> Request<'a> {
+    /// The name of the subject (RFC 2986, 4).
+    #[must_use]
+    pub fn subject(&self) -> Name<'a> {
+        Name::of(self.subject.content())
+    }
+}
