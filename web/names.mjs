@@ -10,7 +10,7 @@ export const ERRORS = Object.freeze([
   "wrong tag",
   "malformed length",
   "malformed number",
-  "malformed truth value",
+  "malformed boolean",
   "malformed bit string",
   "malformed object identifier",
   "character not allowed",

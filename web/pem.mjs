@@ -44,12 +44,17 @@ export function isSequence(bytes) {
   return bytes[0] === 0x30 && ((length >= 0x80 && length <= 0x88) || length === bytes.length - 2);
 }
 
-/** The bytes of base64 text (RFC 4648, 4) without white space, or null where it is none. */
+// The calls of the module that stands behind what follows.
+let calls;
+
+/** Takes the calls by which text is gone through: `blocks` and `decoded` of core.mjs. */
+export function use(given) {
+  calls = given;
+}
+
+/** The bytes of base64 text (RFC 4648, 4), white space among its symbols, or null where it is none. */
 export function fromBase64(symbols) {
-  if (symbols.length % 4 !== 0 || !/^[A-Za-z0-9+/]*={0,2}$/.test(symbols)) return null;
-  const characters = atob(symbols);
-  const isCanonical = btoa(characters) === symbols;
-  return isCanonical ? Uint8Array.from(characters, (it) => it.charCodeAt(0)) : null;
+  return calls.decoded(new TextEncoder().encode(symbols));
 }
 
 /** The base64 text of bytes, on one line. */
@@ -61,68 +66,24 @@ export function toBase64(bytes) {
   return btoa(characters);
 }
 
-// The white space of RFC 7468, 3, in a line: space, tab, vertical tab, form feed.
-const BLANK = /[ \t\v\f]+/g;
-const MARK = "\uFEFF";
-
-// What stands in a line between white space, and behind a byte order mark, since files are put one behind the other.
-// (by places: an expression for the white space at an end takes long where there is much)
-function alone(line) {
-  const isBlank = (at) => " \t\v\f".includes(line[at]);
-  let [start, end] = [0, line.length];
-  while (end > 0 && isBlank(end - 1)) end -= 1;
-  while (start < end && isBlank(start)) start += 1;
-  if (line[start] === MARK) start += 1;
-  while (start < end && isBlank(start)) start += 1;
-  return line.slice(start, end);
-}
-
-function boundary(line, word) {
-  const front = `-----${word} `;
-  if (!line.includes(front)) return null;
-  const words = alone(line);
-  if (!words.startsWith(front) || !words.endsWith("-----") || words.length < front.length + 5) return null;
-  return words.slice(front.length, -5);
-}
-
-// The block that an END line closes: its bytes, or why there are none.
-function closed(open, label) {
-  const block = { label: open.label, line: open.line };
-  if (label !== open.label) return { ...block, reason: "the labels of the BEGIN and END lines differ" };
-  const bytes = fromBase64(open.text.join("").replace(BLANK, ""));
-  return bytes ? { ...block, bytes } : { ...block, reason: "invalid base64" };
-}
-
-// CR, LF or both end a line. What stands behind the last end is a line if there is something.
-function linesOf(text) {
-  const lines = text.split(/\r\n|\r|\n/);
-  if (lines.at(-1) === "") lines.pop();
-  return lines;
-}
+// What is wrong with a block, by the numbers of cimaroly.h.
+const FAULTS = {
+  2: "the labels of the BEGIN and END lines differ",
+  3: "the block has no END line",
+  4: "the block has headers, as encrypted keys do",
+};
 
 /**
- * The blocks of a text, in its order: the label, the number of the BEGIN line, and the bytes, or under `reason` why
- * there are none. Text around the blocks is passed over.
+ * The blocks of a text, in its order: the label, the number of the BEGIN line, and the bytes; or under `reason` why there
+ * are none, with the number of the line where that was met. Text around the blocks is passed over.
  */
 export function* pemBlocks(text) {
-  let open = null;
-  let number = 0;
-  for (const line of linesOf(text)) {
-    number += 1;
-    const label = boundary(line, "BEGIN");
-    const end = open === null ? null : boundary(line, "END");
-    if (end !== null) {
-      yield closed(open, end);
-      open = null;
-    } else if (label !== null) {
-      if (open !== null) yield { label: open.label, line: number, reason: "the block has no END line" };
-      open = { label, line: number, text: [] };
-    } else if (open !== null && line.includes(":")) {
-      yield { label: open.label, line: number, reason: "the block has headers, as encrypted keys do" };
-      open = null;
-    } else {
-      open?.text.push(line);
-    }
+  const bytes = new TextEncoder().encode(text);
+  const decoder = new TextDecoder();
+  for (const { answer, label, first, last, decoded } of calls.blocks(bytes)) {
+    const name = decoder.decode(bytes.subarray(label.start, label.end));
+    const reason = FAULTS[answer] ?? (decoded === null ? "invalid base64" : undefined);
+    if (reason === undefined) yield { label: name, line: first, bytes: decoded };
+    else yield { label: name, line: last, reason };
   }
-  if (open !== null) yield { label: open.label, line: number, reason: "the block has no END line" };
 }

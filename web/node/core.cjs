@@ -7,7 +7,8 @@
 // or cimaroly32.wasm where there are no 64-bit memories, with the calls of bindings/c/cimaroly.h.
 
 const { DEVIATIONS, ERRORS } = require("./names.cjs");
-const { KINDS, isSequence, isUtf16, kindOfLabel, pemBlocks } = require("./pem.cjs");
+const { KINDS, fromBase64, isSequence, isUtf16, kindOfLabel, pemBlocks, use } = require("./pem.cjs");
+const { Values } = require("./values.cjs");
 
 // What a call answers.
 const STATUS = { ok: 0, refused: 1, outOfMemory: 2, bufferTooShort: 3, unknownKind: 4, tooLong: 5 };
@@ -48,6 +49,9 @@ const FIELDS = {
     names: ["version", "privateKeyAlgorithm", "privateKey", "skipped", "publicKey"],
   },
 };
+
+// What the search for a PEM block answers where there is no more.
+const NO_MORE = 1;
 
 const PAGE = 65536;
 // Where the module's memory goes on being used for inputs, it is given back above this size.
@@ -112,10 +116,15 @@ class Room {
     this.view.setBigUint64(this.lent + 8, BigInt(workSize), true);
   }
 
-  /** Calls an export; numbers that stand for places and sizes go in as BigInt. */
+  /** Calls an export that is lent memory; numbers that stand for places and sizes go in as BigInt. */
   call(name, ...words) {
+    return this.callAlone(name, BigInt(this.lent), ...words);
+  }
+
+  /** Calls one that is lent none. */
+  callAlone(name, ...words) {
     try {
-      return instance.exports[name](BigInt(this.lent), ...words) >>> 0;
+      return instance.exports[name](...words) >>> 0;
     } catch (error) {
       // (what stands in the module after a trap isn't to be relied on)
       instance = new WebAssembly.Instance(compiled, {});
@@ -193,6 +202,41 @@ function numberOf(kind) {
   return index + 1;
 }
 
+// The bytes of base64 text that stands so many bytes behind the front of a room's input, or null.
+function decodedIn(room, start, end) {
+  const symbols = [BigInt(room.der + start), BigInt(end - start)];
+  const status = room.callAlone("cimaroly_pem_decode", ...symbols, ...room.output);
+  return status === STATUS.ok ? room.bytes.slice(room.out, room.out + room.word(0)) : null;
+}
+
+// The PEM blocks of a text: what the search for each answers, its places and lines, and its bytes, or null.
+function* blocksIn(room) {
+  let [at, line] = [0, 0];
+  for (;;) {
+    const answer = room.callAlone("cimaroly_pem_next", ...room.input, BigInt(at), BigInt(line), BigInt(room.result));
+    if (answer === NO_MORE) return;
+    const [label, text] = [room.span(0), room.span(1)];
+    const [, first, last, next, nextLine] = room.words(4, 5);
+    yield { answer, label, first, last, decoded: answer === STATUS.ok ? decodedIn(room, text.start, text.end) : null };
+    [at, line] = [next, nextLine];
+  }
+}
+
+// Does something with a text in the module's memory, where there is room for all that it can stand for.
+function withText(text, act) {
+  const room = new Room(text, aligned(text.length), 0);
+  try {
+    return act(room);
+  } finally {
+    room.leave();
+  }
+}
+
+use({
+  blocks: (text) => withText(text, (room) => [...blocksIn(room)]),
+  decoded: (text) => withText(text, (room) => decodedIn(room, 0, text.length)),
+});
+
 // The error to throw for what is refused.
 function refusal(kind, der) {
   try {
@@ -225,7 +269,13 @@ function derOf(data, kind) {
   const bytes = bytesIn(data);
   if (isUtf16(bytes)) throw new SyntaxError("UTF-16 text: decode it, and pass the string");
   const text = isSequence(bytes) ? "" : new TextDecoder().decode(bytes);
-  return text.includes("-----BEGIN ") ? derOfText(text, kind) : bytes;
+  return text.includes("-----BEGIN ") ? derOfText(text, kind) : (bareBase64(text) ?? bytes);
+}
+
+// What base64 without a BEGIN line stands for, where that begins as a SEQUENCE does (which is M and one of A to P).
+function bareBase64(text) {
+  const found = /^\s*M/.test(text) ? fromBase64(text) : null;
+  return found?.[0] === 0x30 ? found : null;
 }
 
 function derOfText(text, kind) {
@@ -234,6 +284,8 @@ function derOfText(text, kind) {
     if (block.bytes === undefined) throw new SyntaxError(`line ${block.line}: ${block.reason}`);
     return block.bytes;
   }
+  const bare = text.includes("-----BEGIN ") ? null : bareBase64(text);
+  if (bare !== null) return bare;
   throw new SyntaxError(`no PEM block of type ${kind} in the text`);
 }
 
@@ -330,18 +382,18 @@ function extensionsOf(der, kind) {
   );
 }
 
-// A salt length, and one that JSON.parse wouldn't tell exactly.
-const SALT_LENGTHS = /"saltLength":\{"at":\[\d+,\d+\],"value":(\d+)\}/g;
-const LARGE_SALT_LENGTH = /"saltLength":\{"at":\[\d+,\d+\],"value":\d{16,}\}/;
+// A number, and one that JSON.parse may not tell exactly. (In a string the quotation marks would stand behind backslashes.)
+const NUMBERS = /"value":(\d+)/g;
+const LARGE_NUMBER = /"value":\d{16}/;
 
-/** Parses a report's JSON. A salt length too large for an exact JavaScript number becomes a BigInt. */
+/** Parses a report's JSON. A value too large for an exact JavaScript number, such as a salt length, becomes a BigInt. */
 function parseReport(text) {
-  if (!LARGE_SALT_LENGTH.test(text)) return JSON.parse(text);
-  const lengths = text.matchAll(SALT_LENGTHS);
+  if (!LARGE_NUMBER.test(text)) return JSON.parse(text);
+  const numbers = text.matchAll(NUMBERS);
   return JSON.parse(text, (key, value) => {
-    if (key !== "saltLength") return value;
-    const [, digits] = lengths.next().value;
-    return Number.isSafeInteger(value.value) ? value : { ...value, value: BigInt(digits) };
+    if (key !== "value" || typeof value !== "number") return value;
+    const [, digits] = numbers.next().value;
+    return Number.isSafeInteger(value) ? value : BigInt(digits);
   });
 }
 
@@ -372,13 +424,13 @@ function report(data, kind = "certificate", options = {}) {
 }
 
 /** A structure that was read. Logging it or turning it into JSON doesn't show its bytes, which may be a private key. */
-class Structure {
+class Structure extends Values {
   #der;
   #signedPart;
   #fields;
-  #extensions;
 
   constructor(der, kind) {
+    super({ encoded, extensionsOf });
     this.#der = der;
     Object.assign(this, { kind }, checked(der, kind));
   }
@@ -398,12 +450,6 @@ class Structure {
   get fields() {
     this.#fields ??= fieldsOf(this.der, this.kind);
     return this.#fields;
-  }
-
-  /** Where each extension of a certificate or of a list of extensions is, in the order of the input. */
-  get extensions() {
-    this.#extensions ??= extensionsOf(this.der, this.kind);
-    return this.#extensions;
   }
 
   /** Returns the bytes of a span. */

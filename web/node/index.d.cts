@@ -15,7 +15,7 @@ export type Kind =
   | "algorithm"
   | "raw-algorithm";
 
-/** DER, or PEM as text or bytes, of which the first block of the type is read. */
+/** DER, or PEM or bare base64 as text or bytes; of PEM the first block of the type is read. */
 export type Input = Uint8Array | ArrayBuffer | string;
 
 /** Bytes of the input, from `start` up to but not including `end`. */
@@ -127,6 +127,9 @@ export interface Report {
   result: "ok" | "deviations" | "refused";
   deviations?: { name: string; at: [number, number]; field?: string }[];
   signed?: [number, number];
+  sha256?: string;
+  sha1?: string;
+  pin?: string;
   reason?: string;
   at?: number;
   field?: string;
@@ -146,6 +149,187 @@ export interface ReportOptions {
   /** Whether to include the secret numbers of private keys. */
   secrets?: boolean;
 }
+
+/** An object identifier. */
+export interface Identifier {
+  /** With dots. */
+  readonly id: string;
+  /** `null` if the library has no name for it. */
+  readonly name: string | null;
+  /** The name, or else the dots. */
+  toString(): string;
+}
+
+/** An attribute of a distinguished name. */
+export interface Attribute extends Identifier {
+  /** The text; `null` if the value is none, or its type isn't known and its string isn't looked into. */
+  readonly value: string | null;
+  /** In which of the name's sets it stands, from 0. */
+  readonly set: number;
+  /** The element of the value. */
+  readonly der: Uint8Array;
+  /** As RFC 4514 writes it. */
+  rfc4514(): string;
+  /** The same. */
+  toString(): string;
+}
+
+/** A distinguished name. */
+export interface Name extends Iterable<Attribute> {
+  /** In the order of the input. */
+  readonly attributes: readonly Attribute[];
+  /** The text of the last common name; `null` if there is none. */
+  readonly commonName: string | null;
+  /** The texts of the attributes of a type, by its identifier with dots or its name, as `organizationName`. */
+  values(type: string): string[];
+  /** As RFC 4514 writes it: the last set first. Attributes without a short name there have dots, and their values in hexadecimal. */
+  rfc4514(): string;
+  /** The same. */
+  toString(): string;
+}
+
+/** An alternative name, by its form (RFC 5280, 4.2.1.6). */
+export type AlternativeName =
+  | { type: "dNSName" | "rfc822Name" | "uniformResourceIdentifier"; value: string }
+  | { type: "iPAddress"; value: string; bytes: Uint8Array }
+  | { type: "directoryName"; value: Name }
+  | { type: "registeredID"; value: Identifier }
+  | { type: "otherName"; id: Identifier; value: string }
+  | { type: "ediPartyName"; nameAssigner: string | null; partyName: string };
+
+/** The bits of a key usage (RFC 5280, 4.2.1.3). */
+export type KeyUsage =
+  | "digitalSignature"
+  | "nonRepudiation"
+  | "keyEncipherment"
+  | "dataEncipherment"
+  | "keyAgreement"
+  | "keyCertSign"
+  | "cRLSign"
+  | "encipherOnly"
+  | "decipherOnly";
+
+/** An extension: what it is, where it stands, and its node in the report. */
+export interface Extension extends ExtensionPlaces {
+  /** Its identifier with dots. */
+  id: string;
+  /** Its name; `null` if the library has none for it. */
+  name: string | null;
+  isCritical: boolean;
+  node: ReportNode;
+}
+
+/** Extensions in the order of the input. */
+export interface Extensions extends Array<Extension> {
+  /** The first of a type, by its identifier with dots or its name, as `id-ce-keyUsage`. */
+  get(type: string): Extension | undefined;
+}
+
+/** A public key. */
+export interface PublicKey {
+  /** `RSA`, `EC`, `Ed25519` and the like. */
+  readonly algorithm: string;
+  /** The name of its curve, or else the curve's identifier with dots; `null` if it names none. */
+  readonly curve: string | null;
+  /** Its size; `null` if the curve isn't known. */
+  readonly bits: number | null;
+  /** The DER encoding of its SubjectPublicKeyInfo. */
+  readonly der: Uint8Array;
+  /** The SHA-256 of that in base64 (RFC 7469, 2.4), by WebCrypto. */
+  pin(): Promise<string>;
+}
+
+/** A policy under which a certificate was issued (RFC 5280, 4.2.1.4). */
+export interface Policy {
+  /** With dots. */
+  readonly id: string;
+  /** Its name, as `domain-validated`; `null` if the library has none for it. */
+  readonly name: string | null;
+  /** Where statements of practices are found. */
+  readonly statements: readonly string[];
+  /** What is to be shown to whoever relies on the certificate. */
+  readonly notices: readonly string[];
+  /** Its name, or else its dots. */
+  toString(): string;
+}
+
+/** A log's promise to have a certificate among its own (RFC 6962, 3.2). */
+export interface Timestamp {
+  /** Which log it is: the SHA-256 of its public key. */
+  logId: Uint8Array;
+  /** When it was issued. */
+  time: Date;
+  /** The log's signature. */
+  signature: Uint8Array;
+}
+
+/** What extensions say; `null` if the extension isn't there. */
+export interface ExtensionValues {
+  alternativeNames: AlternativeName[] | null;
+  keyUsage: KeyUsage[] | null;
+  extendedKeyUsage: Identifier[] | null;
+  /** Whether the basic constraints say that it is that of an authority. */
+  isCa: boolean;
+  /** How many authorities may stand below it. */
+  pathLength: number | null;
+  /** Where the status is asked for by OCSP. It throws if the extension is malformed, and so do the following. */
+  ocspAddresses: string[] | null;
+  /** Where the issuer's certificates are found. */
+  issuerAddresses: string[] | null;
+  /** Where revocation lists are found. */
+  crlAddresses: string[] | null;
+  policies: Policy[] | null;
+  /** The timestamps of logs of certificates, in version 1. */
+  certificateTimestamps: Timestamp[] | null;
+}
+
+/** What a certificate and a request have. */
+export interface SignedValues extends ExtensionValues {
+  subject: Name;
+  /** As people count: 3 of a certificate that says `v3`. */
+  version: number;
+  publicKey: PublicKey;
+  signatureAlgorithm: Identifier;
+  signature: Uint8Array;
+  /** The bytes that the signature covers. */
+  signedBytes: Uint8Array;
+}
+
+export interface CertificateValues extends SignedValues {
+  issuer: Name;
+  serialNumber: bigint;
+  /** The first second in which it is valid. */
+  notBefore: Date;
+  /** The last second in which it is. */
+  notAfter: Date;
+}
+
+/** What each type has; what it hasn't is `undefined`. Of a request it is what is asked for. */
+export interface ValuesByKind {
+  certificate: CertificateValues;
+  request: SignedValues;
+  "private-key": {
+    /** `null` if it has no public key in it. */
+    publicKey: PublicKey | null;
+  };
+  "public-key": { publicKey: PublicKey };
+  "rsa-private-key": { publicKey: PublicKey };
+  "rsa-public-key": { publicKey: PublicKey };
+  "ec-private-key": { publicKey: PublicKey | null };
+  name: { subject: Name };
+  extensions: ExtensionValues;
+  algorithm: {};
+  "raw-algorithm": {};
+}
+
+/** A value of a type; of one that isn't known before the program runs, of any. */
+export type ValueOf<K extends Kind, V extends keyof CertificateValues> = K extends Kind
+  ? ValuesByKind[K] extends { [Name in V]: infer Value }
+    ? Value
+    : V extends "publicKey"
+      ? null
+      : undefined
+  : never;
 
 /** Input that isn't a valid encoding of the type it was read as. */
 export class Refused extends Error {
@@ -175,8 +359,49 @@ export class Structure<K extends Kind = Kind> implements Verdict {
   get signedPart(): SignedPart | null;
   /** Where each field of a certificate, request or private key is, by its name in the RFCs. */
   get fields(): FieldsOf<K>;
-  /** Where each extension of a certificate or of a list of extensions is, in the order of the input. */
-  get extensions(): ExtensionPlaces[];
+  /** The extensions of a certificate or of a list of extensions, and those that a request asks for. */
+  get extensions(): Extensions;
+  /** Whose it is; of a name the name itself. */
+  get subject(): ValueOf<K, "subject">;
+  get issuer(): ValueOf<K, "issuer">;
+  get serialNumber(): ValueOf<K, "serialNumber">;
+  /** The first second in which a certificate is valid. */
+  get notBefore(): ValueOf<K, "notBefore">;
+  /** The last second in which it is. */
+  get notAfter(): ValueOf<K, "notAfter">;
+  /** Whether a certificate is valid at a time, which is now if none is given, by its own dates alone. */
+  validity(time?: Date): K extends "certificate" ? "valid" | "not yet valid" | "expired" : undefined;
+  /** As people count: 3 of a certificate that says `v3`. */
+  get version(): ValueOf<K, "version">;
+  get alternativeNames(): ValueOf<K, "alternativeNames">;
+  get keyUsage(): ValueOf<K, "keyUsage">;
+  get extendedKeyUsage(): ValueOf<K, "extendedKeyUsage">;
+  /** Whether the basic constraints say that it is that of an authority. */
+  get isCa(): ValueOf<K, "isCa">;
+  /** How many authorities may stand below it. */
+  get pathLength(): ValueOf<K, "pathLength">;
+  /** Where the status is asked for by OCSP. It throws if the extension is malformed, and so do the following. */
+  get ocspAddresses(): ValueOf<K, "ocspAddresses">;
+  /** Where the issuer's certificates are found. */
+  get issuerAddresses(): ValueOf<K, "issuerAddresses">;
+  /** Where revocation lists are found. */
+  get crlAddresses(): ValueOf<K, "crlAddresses">;
+  get policies(): ValueOf<K, "policies">;
+  /** The timestamps of logs of certificates, in version 1. */
+  get certificateTimestamps(): ValueOf<K, "certificateTimestamps">;
+  /** The public key; of a private key that which it has in it. */
+  get publicKey(): ValueOf<K, "publicKey">;
+  get signatureAlgorithm(): ValueOf<K, "signatureAlgorithm">;
+  get signature(): ValueOf<K, "signature">;
+  /** The bytes that the signature covers. */
+  get signedBytes(): ValueOf<K, "signedBytes">;
+  /** The digest of its bytes in hexadecimal, by an algorithm of WebCrypto: `SHA-256` by default. */
+  fingerprint(algorithm?: string): Promise<string>;
+  /**
+   * Whether one of its alternative names is that of a host, a domain name or an IP address (RFC 9525, 6). A wildcard stands
+   * for one whole label, the left-most; the common name doesn't count.
+   */
+  matchesHost(host: string): boolean;
   /** Returns the bytes of a span. */
   bytes(span: Span): Uint8Array;
   /** Returns the DER encoding. */
@@ -220,5 +445,5 @@ export function report(data: Input, kind?: Kind, options?: ReportOptions): Repor
 /** Returns the same report as JSON text on one line. */
 export function reportText(data: Input, kind?: Kind, options?: ReportOptions): string;
 
-/** Parses a report's JSON. A salt length too large for an exact JavaScript number becomes a BigInt. */
+/** Parses a report's JSON. A value too large for an exact JavaScript number, such as a salt length, becomes a BigInt. */
 export function parseReport(text: string): Report;

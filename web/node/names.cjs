@@ -14,7 +14,7 @@ const ERRORS = Object.freeze([
   "wrong tag",
   "malformed length",
   "malformed number",
-  "malformed truth value",
+  "malformed boolean",
   "malformed bit string",
   "malformed object identifier",
   "character not allowed",

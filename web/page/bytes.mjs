@@ -42,7 +42,9 @@ export class Bytes {
     this.selected = null;
     this.cursor = 0;
     this.owner = new Int32Array(bytes.length).fill(-1);
-    fields.forEach((field, index) => this.owner.fill(index, field.start, field.end));
+    fields.forEach((field, index) => {
+      if (!field.parent?.isWhole) this.owner.fill(index, field.start, field.end);
+    });
     this.deviant = new Uint8Array(bytes.length);
     for (const { at } of deviations) this.deviant.fill(1, at[0], at[1]);
     this.place = null;

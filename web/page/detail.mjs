@@ -2,7 +2,7 @@
 
 import { make, withTimes } from "./dom.mjs";
 import { headerLength, wholeTagName } from "./elements.mjs";
-import { lineOf } from "./fields.mjs";
+import { lineOf, wholeLinesOf } from "./fields.mjs";
 import { previewOf } from "./summary.mjs";
 import { counted, shown } from "./text.mjs";
 import { valueOf } from "./values.mjs";
@@ -23,7 +23,8 @@ export class Detail {
   /** Tells of a field by its node. */
   show(field, node, bytes) {
     const value = valueOf(field.label, node, bytes);
-    const whole = value?.whole ?? (lineOf(field, bytes) || previewOf(field, bytes));
+    const told = field.isWhole ? wholeLinesOf(field, bytes) : lineOf(field, bytes);
+    const whole = value?.whole ?? (told || previewOf(field, bytes));
     this.container.replaceChildren(
       this.crumbs(field),
       make("p", { class: "facts" }, factsOf(field, bytes)),
@@ -42,7 +43,14 @@ export class Detail {
   }
 }
 
-function factsOf({ start, end, node }, bytes) {
+// Whether a field is in a form that isn't that of elements, as TLS's is (RFC 6962, 3.3).
+function isInTls({ label, parent }) {
+  return label === "SignedCertificateTimestamp" || parent?.label === "SignedCertificateTimestamp";
+}
+
+function factsOf(field, bytes) {
+  const { start, end, node } = field;
+  if (isInTls(field)) return `TLS structure · bytes ${start}..${end}`;
   const header = headerLength(bytes, start, end);
   const id = node.id === undefined ? "" : ` · ${node.id}`;
   const critical = node.critical === undefined ? "" : node.critical ? " · critical" : " · not critical";

@@ -2,6 +2,12 @@
 
 import { isNode, valueOf } from "./values.mjs";
 
+// The extensions whose fields stand on one line if each has a value of its own: basicConstraints, authorityKeyIdentifier,
+// privateKeyUsagePeriod, policyConstraints, and Microsoft's template; and the fields, also of other extensions, of which that holds.
+const LINES = new Set(["2.5.29.19", "2.5.29.35", "2.5.29.16", "2.5.29.36", "1.3.6.1.4.1.311.21.7"]);
+const LINE_FIELDS = new Set(["GeneralSubtree", "PolicyMapping", "SignedCertificateTimestamp"]);
+const BASIC_CONSTRAINTS = "2.5.29.19";
+
 /** A field of the report. */
 export class Field {
   constructor(node, label, parent, ordinal) {
@@ -29,11 +35,28 @@ export class Field {
 
   /** Whether its fields are told on its own line too. */
   get isLine() {
-    if (this.inner.some((it) => it.inner.length > 0 || it.label === "RelativeDistinguishedName")) return false;
-    const { id } = this.node;
+    if (this.inner.some((it) => it.inner.length > 0 || !hasValue(it.node))) return false;
+    const { id, field } = this.node;
     const first = this.inner[0]?.label;
-    return first === "algorithm" || first === "aes-nonce" || id === "2.5.29.19" || id === "2.5.29.35";
+    return first === "algorithm" || first === "aes-nonce" || LINES.has(id) || LINE_FIELDS.has(field) || this.isAccess;
   }
+
+  /** Whether the fields in it have no places of their own, as in a timestamp, which isn't in DER (RFC 6962, 3.3). */
+  get isWhole() {
+    const { start, end, inner } = this;
+    return inner.length > 1 && inner.every((it) => it.start === start && it.end === end);
+  }
+
+  /** Whether it says where a service is: it has an identifier, as an item of an extension, and one name (RFC 5280, 4.2.2). */
+  get isAccess() {
+    const { id, critical, items, value } = this.node;
+    return id !== undefined && critical === undefined && items === undefined && value === undefined && this.inner.length === 1;
+  }
+}
+
+// Whether a node has a value of its own, which may be NULL, or hides one.
+function hasValue({ value, hidden }) {
+  return hidden !== undefined || (value !== undefined && !isNode(value));
 }
 
 // What a node is called: its name as an item, the member that it is, or which attribute or extension it is.
@@ -85,7 +108,8 @@ export function lineOf(field, bytes) {
 }
 
 function joined(field, bytes) {
-  const parts = [];
+  const isLeftOut = field.node.id === BASIC_CONSTRAINTS && field.node.cA === undefined;
+  const parts = isLeftOut ? ["cA false"] : [];
   for (const it of field.inner) {
     const value = valueOf(it.label, it.node, bytes);
     if (it.node.value === null) continue;
@@ -93,6 +117,11 @@ function joined(field, bytes) {
     parts.push(isPlain ? value.text : `${it.label} ${value.text}`);
   }
   return parts.length > 0 ? parts.join(", ") : "empty";
+}
+
+/** What stands on the line of several fields, each on a line of its own and whole. */
+export function wholeLinesOf(field, bytes) {
+  return field.inner.map((it) => `${it.label} ${valueOf(it.label, it.node, bytes)?.whole ?? ""}`).join("\n");
 }
 
 // Whether a mask generation function's parameters are told, which are a hash function's name.
@@ -118,7 +147,7 @@ export function fieldOver(fields, start, end) {
   let found = fields[0];
   if (found === undefined || start < found.start || end > found.end) return null;
   for (;;) {
-    const inner = innerOver(found, start, end);
+    const inner = found.isWhole ? undefined : innerOver(found, start, end);
     if (inner === undefined) return found;
     found = inner;
   }

@@ -3,13 +3,14 @@
 import { Bytes } from "./bytes.mjs";
 import { sentenceOn } from "./deviations.mjs";
 import { Detail } from "./detail.mjs";
+import { digestsOf, digestsToCome } from "./digests.mjs";
 import { at, make, save, withTimes } from "./dom.mjs";
 import { headerLength } from "./elements.mjs";
 import { fieldOver, fieldsOf } from "./fields.mjs";
 import { Identifiers } from "./identifiers.mjs";
 import { KINDS, toBase64 } from "../pem.mjs";
 import { Sheet } from "./sheet.mjs";
-import { summaryOf, titleOf } from "./summary.mjs";
+import { standingOf, summaryOf, titleOf } from "./summary.mjs";
 import { clipped, counted, grouped, hexOf, shown } from "./text.mjs";
 import { Tree } from "./tree.mjs";
 import { elementsOf } from "./unread.mjs";
@@ -77,7 +78,8 @@ export class Result {
     if (!this.isRead && !structure.isPrivate) this.fields = this.elements();
     this.deviations = report.deviations ?? [];
     this.drawHead(report);
-    this.drawSummary(report);
+    this.drawSummary(report, digestsToCome(report));
+    this.takeDigests(report);
     this.listDeviations(FIRST);
     this.drawRefusal(report);
     this.drawPanes(report);
@@ -95,6 +97,7 @@ export class Result {
     verdict.className = `verdict ${report.result.replace(" ", "-")}`;
     verdict.textContent = verdictOf(report);
     at("result").dataset.result = report.result;
+    this.drawStanding(report);
     at("save-der").disabled = !this.isRead;
     at("save-report").disabled = structure.kind === null;
     at("copy-link").disabled = this.whyNoLink() !== "";
@@ -102,6 +105,13 @@ export class Result {
     at("kind").value = structure.kind ?? "";
     at("kind").parentElement.hidden = structure.bytes === undefined;
     this.drawOthers();
+  }
+
+  // Whether it is valid by the reader's clock.
+  drawStanding(report) {
+    const standing = standingOf(report, Date.now());
+    at("standing").hidden = standing === null || standing === "valid";
+    at("standing").textContent = standing === null ? "" : sentenceCase(standing);
   }
 
   // What else the bytes may be, if no label says what is meant.
@@ -118,14 +128,23 @@ export class Result {
     this.note(parts.join(" "));
   }
 
-  drawSummary(report) {
-    const rows = summaryOf(report, this.raw);
+  drawSummary(report, digests) {
+    const rows = summaryOf(report, this.raw, digests);
     at("origin").textContent = this.origin();
     at("summary").replaceChildren(
       ...rows.flatMap(({ label, text, at: place }) => {
-        return [make("dt", {}, label), make("dd", {}, this.linkTo(label, clipped(text, 2000), place))];
+        const told = place === null ? make("code", {}, text) : this.linkTo(label, clipped(text, 2000), place);
+        return [make("dt", {}, label), make("dd", {}, told)];
       }),
     );
+  }
+
+  // Tells the digests once they are taken, if the structure is still the one that is shown.
+  async takeDigests(report) {
+    const { structure, raw } = this;
+    const digests = await digestsOf(this.cimaroly, raw, report).catch(() => ({}));
+    const isShown = this.structure === structure && structure.report === report;
+    if (isShown && digests !== null) this.drawSummary(report, digests);
   }
 
   origin() {

@@ -11,6 +11,15 @@ const TIME_TAGS = new Set([0x17, 0x18]);
 const MOST_BYTES = 4000;
 const LONGEST_IDENTIFIER = 200;
 const TEXT_FIELDS = new Set(["dNSName", "rfc822Name", "uniformResourceIdentifier"]);
+// What qualifies a policy (RFC 5280, 4.2.1.4), whose text may stand in front of others, and extensions that are text.
+const TEXTS = new Set(["id-qt-cps", "id-qt-unotice", "netscape-comment", "ENROLL_CERTTYPE_EXTENSION"]);
+// What isn't ASN.1: in a timestamp (RFC 6962, 3.2).
+const OPAQUE = new Set(["logID", "signature"]);
+// Features of TLS that servers are bound to (RFC 7633, 4; IANA, TLS ExtensionType Values).
+const FEATURES = new Map([
+  [5, "status_request"],
+  [17, "status_request_v2"],
+]);
 
 // Whether a text is the bytes in hexadecimal with colons.
 function isHexOf(text, bytes, start, end) {
@@ -46,10 +55,13 @@ function octets(text) {
   return { kind: "octets", text: front + shortHex(text), whole: text };
 }
 
-// What an extension holds that isn't known: always with its length.
-function kept({ length, value }) {
+// What an extension holds that isn't known: always with its length; and where it is malformed, why and where.
+function kept({ length, value, malformed }) {
   const size = counted(length, "byte");
-  return { kind: "octets", text: length === 0 ? size : `${size}, ${shortHex(value)}`, whole: value || size };
+  const text = length === 0 ? size : `${size}, ${shortHex(value)}`;
+  if (malformed === undefined) return { kind: "octets", text, whole: value || size };
+  const why = `malformed: ${malformed.reason} at byte ${malformed.at}`;
+  return { kind: "octets", text: `${why}, ${text}`, whole: `${why}\n${value || size}` };
 }
 
 // The tag of the element whose content a string of the report has in hexadecimal, 0 where it has a whole element, and
@@ -63,9 +75,11 @@ function heldTag(text, bytes, elements) {
 }
 
 function stringValue(label, text, bytes, { start, end }) {
+  if (OPAQUE.has(label)) return octets(text);
   const elements = lastElements(bytes, start, end);
   if (isText(label, text, bytes, elements)) return textValue(text);
   const tag = heldTag(text, bytes, elements);
+  if (tag === null && TEXTS.has(label)) return textValue(text);
   if (tag === null || label === "iPAddress") return word(text);
   return tag === 2 || label === "authorityCertSerialNumber" ? { kind: "integer", text, whole: text } : octets(text);
 }
@@ -146,6 +160,15 @@ function elementValue({ at: [start, end], identify }, bytes) {
   return content.length > WHOLE ? { ...value, text: `${content.length} bytes, ${shortHex(value.whole)}` } : value;
 }
 
+// A number, whole with what it stands for: a time in milliseconds since 1970 (RFC 6962, 3.2), or a feature of TLS.
+function number(label, value) {
+  const feature = label === "feature" ? FEATURES.get(value) : undefined;
+  const isTime = label === "timestamp" && Math.abs(value) <= 8.64e15;
+  const meaning = isTime ? new Date(value).toISOString() : feature;
+  const text = String(value);
+  return { kind: "word", text, whole: meaning === undefined ? text : `${text} (${meaning})` };
+}
+
 /** The value of a node under a label, or null where it has none of its own. */
 export function valueOf(label, node, bytes) {
   const { value } = node;
@@ -155,13 +178,14 @@ export function valueOf(label, node, bytes) {
     return { kind: "secret", text, whole: text };
   }
   if (value === undefined || isNode(value)) return null;
+  if (Array.isArray(value)) return word(value.join(", "));
   if (node.bits !== undefined) {
     return bytes[node.at[0]] === 2 ? sizedNumber(node.bits, value) : bitsValue(node.bits, value);
   }
-  if (node.length !== undefined) return kept(node);
+  if (node.length !== undefined && node.field !== "iPAddress" && label !== "iPAddress") return kept(node);
   if (value === null) return word("NULL");
-  if (Array.isArray(value)) return word(value.join(", "));
   if (typeof value === "object") return identifier(value);
+  if (typeof value === "number") return number(label, value);
   if (typeof value !== "string") return word(String(value));
   return stringValue(label, value, bytes, { start: node.at[0], end: node.at[1] });
 }

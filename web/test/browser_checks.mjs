@@ -341,7 +341,7 @@ async function looks(context) {
 }
 
 async function wholeScreenshot(context) {
-  return withPage(context, { width: 1180, height: 1260 }, async (page) => {
+  return withPage(context, { width: 1180, height: 1400 }, async (page) => {
     await page.drop("certificate_deviations.pem", sample("certificate_deviations.pem"));
     await page.run(`document.querySelectorAll(".deviation")[0].click(); document.activeElement.blur(); scrollTo(0, 0)`);
     await new Promise((resolve) => setTimeout(resolve, 200));

@@ -2,6 +2,7 @@
 
 import assert from "node:assert/strict";
 import { spawnSync } from "node:child_process";
+import { X509Certificate } from "node:crypto";
 import { readFileSync } from "node:fs";
 import { createRequire } from "node:module";
 import { test } from "node:test";
@@ -42,6 +43,32 @@ test("a script that requires it has its answers at once", () => {
     const { deviations } = read(require("node:fs").readFileSync(${file}));
     for (const { name, start, end } of deviations) console.log(name, start, end);`;
   assert.equal(printed(program), "RSA parameters absent 13 26\nRSA parameters absent 106 119\n");
+});
+
+test("digests are taken where WebCrypto is in a module alone, as in Node 18", () => {
+  const file = JSON.stringify(`${DATA}/certificate_ed25519.pem`);
+  const program = (front) => `
+    Object.defineProperty(globalThis, "crypto", { value: undefined });
+    const bytes = require("node:fs").readFileSync(${file});
+    const { read } = require("cimaroly");
+    ${front}
+    read(bytes).fingerprint("SHA-1").then(console.log, (error) => console.log(error.message));`;
+  const { fingerprint } = new X509Certificate(sample("certificate_ed25519.pem"));
+  assert.equal(printed(program("")).trim(), fingerprint.replaceAll(":", "").toLowerCase());
+  const without = `Object.defineProperty(globalThis, "process", { value: undefined });`;
+  assert.match(printed(program(without)), /^there is no WebCrypto here/);
+});
+
+test("an algorithm that WebCrypto doesn't have is refused", async () => {
+  await assert.rejects(required.read(sample("certificate_rsa.pem")).fingerprint("MD5"), { name: "NotSupportedError" });
+});
+
+test("what is required has the values that are imported", async () => {
+  const [one, two] = [imported, required].map(({ read }) => read(sample("certificate_rsa.pem")));
+  for (const it of ["serialNumber", "notAfter", "version", "keyUsage", "isCa", "pathLength"]) assert.deepEqual(one[it], two[it], it);
+  assert.equal(String(one.subject), String(two.subject));
+  assert.equal(await one.publicKey.pin(), await two.publicKey.pin());
+  assert.equal(two.matchesHost("www.example.org"), true);
 });
 
 test("a refusal that is thrown by one is caught by the other", () => {

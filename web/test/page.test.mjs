@@ -1,4 +1,4 @@
-// The parts of the page that need neither the module nor a browser.
+// The parts of the page that need no browser.
 
 import assert from "node:assert/strict";
 import { test } from "node:test";
@@ -8,6 +8,7 @@ import { elementAt, headerLength, lastElements, tagName, wholeTagName } from "..
 import { lineOf } from "../page/fields.mjs";
 import { shown } from "../page/text.mjs";
 import { elementsOf } from "../page/unread.mjs";
+import "../cimaroly.mjs";
 import { fromBase64, pemBlocks, toBase64 } from "../pem.mjs";
 import { SAMPLES, sample } from "./data.mjs";
 import { NESTED } from "./hostile.mjs";
@@ -26,13 +27,13 @@ test("blocks are found between other text, with their lines", () => {
 
 test("faults of blocks are told, with the line where they are met", () => {
   const faults = (text) => [...pemBlocks(text)].map(({ line, reason }) => [line, reason]);
-  assert.deepEqual(faults(block("A", "M=A=")), [[1, "invalid base64"]]);
+  assert.deepEqual(faults(block("A", "M=A=")), [[3, "invalid base64"]]);
   assert.deepEqual(faults("-----BEGIN A-----\nMAA=\n"), [[2, "the block has no END line"]]);
   assert.deepEqual(faults("-----BEGIN A-----\nProc-Type: 4,ENCRYPTED\n\nMAA=\n"), [
     [2, "the block has headers, as encrypted keys do"],
   ]);
   assert.deepEqual(faults("-----BEGIN A-----\n-----END B-----"), [
-    [1, "the labels of the BEGIN and END lines differ"],
+    [2, "the labels of the BEGIN and END lines differ"],
   ]);
 });
 

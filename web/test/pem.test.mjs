@@ -46,6 +46,13 @@ test("what is no data is a TypeError, and UTF-16 is named", () => {
   assert.throws(() => read(Buffer.from(text, "utf16le")), /UTF-16/);
 });
 
+test("bare base64 is taken where nothing else fits", () => {
+  const lines = readFileSync(pathOf("tools/tests/data/certificate_ec.pem"), "ascii").split("\n");
+  const text = lines.slice(1, -2).join("\r\n");
+  for (const data of [text, ` \n${text}\n`, Buffer.from(text)]) assert.ok(read(data).isDer);
+  for (const data of [text.slice(0, -2), `${text}A`, "AQID"]) assert.throws(() => read(data));
+});
+
 test("no text takes long", () => {
   const texts = [
     "-----BEGIN ".repeat(100000),

@@ -2,6 +2,13 @@
 
 import { fieldsOf, lineOf } from "../page/fields.mjs";
 
+// (a program that was built earlier doesn't tell that cA is left out, and so false)
+function withDefaults(label, value) {
+  if (label !== "id-ce-basicConstraints" || value.includes("cA")) return value;
+  const [, critical, rest] = /^(critical, )?(.*)$/.exec(value);
+  return `${critical ?? ""}cA false${rest === "empty" ? "" : `, ${rest}`}`;
+}
+
 /** The lines of a report in text behind its summary: the depth, the label, the value and the place of each. */
 export function linesOf(text) {
   const lines = [];
@@ -9,7 +16,8 @@ export function linesOf(text) {
   for (const line of fields.join("\n").split("\n")) {
     const found = /^( *)(\S+)(?:  +(.*?))?  +(\d+)\.\.(\d+)$/.exec(line);
     if (found === null) continue;
-    const [, indent, label, value = "", start, end] = found;
+    const [, indent, label, told = "", start, end] = found;
+    const value = withDefaults(label, told);
     lines.push({ depth: indent.length / 2, label, value, start: Number(start), end: Number(end) });
   }
   return lines;

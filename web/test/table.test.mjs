@@ -70,6 +70,23 @@ function refused(row, der) {
 const numberOf = (digits) => BigInt(`0x${digits}`);
 const nameOf = (node) => node.items.map((set) => set.items.map((it) => [it.name ?? it.id, it.value]));
 
+// The same as properties of what is read.
+function assertValues(row, reading) {
+  const seconds = (date) => date.toISOString().replace(".000Z", "Z");
+  if (row.not_before !== "-") assert.equal(seconds(reading.notBefore), row.not_before);
+  if (row.not_after !== "-") assert.equal(seconds(reading.notAfter), row.not_after);
+  if (row.signed !== "-") assert.deepEqual(reading.signedBytes, reading.bytes(reading.signedPart));
+  if (/^[0-9]/.test(row.extensions)) {
+    assert.deepEqual(reading.extensions.map((it) => it.id), row.extensions.split(" ").map((it) => it.split("=")[0]));
+  }
+  if (row.values === "-") return;
+  const { serialNumber, ...names } = JSON.parse(row.values);
+  if (serialNumber) assert.equal(reading.serialNumber, numberOf(serialNumber));
+  for (const it of ["subject", "issuer"]) {
+    if (names[it]) assert.deepEqual([...reading[it]].map(({ name, id, value }) => [name ?? id, value]), names[it].flat());
+  }
+}
+
 function reported(row, der) {
   const told = report(der, row.kind);
   assert.equal(told.type, row.kind);
@@ -78,6 +95,7 @@ function reported(row, der) {
   if (row.signed !== "-") assert.equal(told.signed.join(".."), row.signed);
   if (row.not_before !== "-") assert.equal(told.Certificate.tbsCertificate.validity.notBefore.value, row.not_before);
   if (row.not_after !== "-") assert.equal(told.Certificate.tbsCertificate.validity.notAfter.value, row.not_after);
+  assertValues(row, read(der, row.kind));
   if (row.values === "-") return;
   const values = JSON.parse(row.values);
   const fields = told.Certificate.tbsCertificate;
@@ -160,6 +178,16 @@ test("a salt length is exact", () => {
   assert.equal(told.Certificate.tbsCertificate.signature.parameters.saltLength.value, 2n ** 64n - 1n);
   const small = parseReport('{"a":{"saltLength":{"at":[1,2],"value":32}}}');
   assert.equal(small.a.saltLength.value, 32);
+});
+
+test("every number is exact", () => {
+  const text = `{"a":{"value":1,"b":{"value":"\\"value\\":99999999999999999"}},"c":[{"value":18446744073709551615},{"value":[7]},{"value":9007199254740991}]}`;
+  const { a, c } = parseReport(text);
+  assert.deepEqual([a.value, a.b.value], [1, '"value":99999999999999999']);
+  assert.deepEqual(c.map((it) => it.value), [18446744073709551615n, [7], 9007199254740991]);
+  // (an RSA key of version 2^64 - 2)
+  const der = fromHex("3023020900fffffffffffffffe02012102010302010502010b020103020101020101020102");
+  assert.equal(report(der, "rsa-private-key").RSAPrivateKey.version.value, 2n ** 64n - 2n);
 });
 
 test("large and hostile inputs are answered", () => {

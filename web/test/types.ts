@@ -1,7 +1,8 @@
 // What tsc makes of the types of the package: it must find nothing wrong here, but where it is said that it does.
 
 import { check, encode, read, Refused, report } from "cimaroly";
-import type { CertificateFields, Deviation, FieldName, Kind, PrivateKeyFields, RequestFields, Span, Structure } from "cimaroly";
+import type { AlternativeName, CertificateFields, Deviation, Extension, FieldName, Kind, Name } from "cimaroly";
+import type { Policy, PrivateKeyFields, PublicKey, RequestFields, Span, Structure } from "cimaroly";
 
 export function startOfVersion(pem: string): number | undefined {
   const version: Span | undefined = read(pem).fields["version"];
@@ -49,3 +50,35 @@ export function fieldsOfEach(der: Uint8Array, kind: Kind): Span[] {
 
 // @ts-expect-error A refusal's field may be null.
 export const lengthOfField = (error: Refused): number => error.field.length;
+
+// The values of each type are known too.
+export async function valuesOfEach(der: Uint8Array, kind: Kind): Promise<string[]> {
+  const certificate = read(der);
+  const request = read(der, "request");
+  const key = read(der, "private-key");
+  const any: Structure = read(der, kind);
+  const areKnown: [
+    Same<typeof certificate.serialNumber, bigint>,
+    Same<typeof certificate.subject, Name>,
+    Same<typeof certificate.notAfter, Date>,
+    Same<typeof certificate.pathLength, number | null>,
+    Same<typeof request.alternativeNames, AlternativeName[] | null>,
+    Same<typeof certificate.policies, Policy[] | null>,
+    Same<typeof request.ocspAddresses, string[] | null>,
+    Same<typeof request.issuer, undefined>,
+    Same<typeof key.publicKey, PublicKey | null>,
+    Same<typeof any.issuer, Name | undefined>,
+    Same<ReturnType<typeof certificate.validity>, "valid" | "not yet valid" | "expired">,
+  ] = [true, true, true, true, true, true, true, true, true, true, true];
+  // @ts-expect-error A certificate may have no such extension.
+  certificate.alternativeNames.length;
+  // @ts-expect-error There is no such usage.
+  certificate.keyUsage?.includes("signing");
+  // @ts-expect-error A domain name has no bytes.
+  certificate.alternativeNames?.map((it) => it.bytes);
+  const addresses = certificate.alternativeNames?.map((it) => (it.type === "iPAddress" ? it.bytes.length : 0)) ?? [];
+  const found: Extension | undefined = certificate.extensions.get("id-ce-keyUsage");
+  const names = [...certificate.subject].map((it) => `${it.name} ${it.value ?? it.der.length} ${it.set.toFixed()}`);
+  const isFor: boolean = certificate.matchesHost("example.org") && certificate.isCa && areKnown[0] && addresses.length > 0;
+  return [await certificate.fingerprint("SHA-1"), await certificate.publicKey.pin(), found?.id ?? "", String(isFor), ...names];
+}

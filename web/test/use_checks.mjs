@@ -1,9 +1,12 @@
 // What is checked of how the page is used: where the focus goes, what closes, and what fits on a phone.
 
 import assert from "node:assert/strict";
+import { createHash, X509Certificate } from "node:crypto";
 import { withPage } from "./browser_checks.mjs";
 import { SAMPLES, sample } from "./data.mjs";
-import { RESULT, click, count, text, texts } from "./in_page.mjs";
+import { furtherExtensions } from "./further.mjs";
+import { keyCertificate } from "./hostile.mjs";
+import { RESULT, SAVED, click, count, text, texts } from "./in_page.mjs";
 
 const PHONES = [
   { width: 360, height: 640 },
@@ -185,6 +188,117 @@ async function refusedIdentifiers(context) {
   });
 }
 
+// The text of the row of the summary with a label, once it is there.
+const row = (label) => `Array.from(document.querySelectorAll("#summary dt"))
+  .find((it) => it.textContent === ${JSON.stringify(label)})?.nextElementSibling.textContent`;
+
+// Fingerprints and pins, as Node takes them, also where several structures are shown one behind the other.
+async function digests(context) {
+  return withPage(context, DESKTOP, async (page) => {
+    for (const name of ["certificate_rsa.pem", "certificate_ec.pem", "certificate_pss.pem"]) {
+      const { raw, publicKey } = new X509Certificate(sample(name));
+      await page.drop(name, sample(name));
+      await page.until(`(${row("SHA-256")})?.length === 64`);
+      const digest = (algorithm, bytes, form) => createHash(algorithm).update(bytes).digest(form);
+      assert.equal(await page.run(row("SHA-256")), digest("sha256", raw, "hex"));
+      assert.equal(await page.run(row("SHA-1")), digest("sha1", raw, "hex"));
+      const key = publicKey.export({ type: "spki", format: "der" });
+      assert.equal(await page.run(row("pin")), digest("sha256", key, "base64"));
+      assert.equal(await page.run(count("#summary dt")), new Set(await page.run(texts("#summary dt"))).size);
+    }
+    await page.drop("refused_month_13.pem", sample("refused_month_13.pem"));
+    assert.equal(await page.run(count("#summary dt")), 0);
+    await page.drop("request_rsa.pem", sample("request_rsa.pem"));
+    await page.until(`(${row("pin")})?.length === 44`);
+    const pin = await page.run(row("pin"));
+    await page.drop("private_key_rsa.pem", sample("private_key_rsa.pem"));
+    await page.until(`(${row("pin")})?.length === 44`);
+    assert.equal(await page.run(row("pin")), pin, "the key is that of the request");
+  });
+}
+
+// What a page from an insecure address is like: it tells the digests that the report has, and no others.
+async function withoutWebCrypto(context) {
+  return withPage(context, DESKTOP, async (page) => {
+    const source = `Object.defineProperty(Crypto.prototype, "subtle", { value: undefined });`;
+    await page.send("Page.addScriptToEvaluateOnNewDocument", { source });
+    await page.go(`${context.address}?`);
+    await page.until("crypto.subtle === undefined");
+    await page.drop("certificate_rsa.pem", sample("certificate_rsa.pem"));
+    const labels = await page.run(texts("#summary dt"));
+    const { sha256 } = JSON.parse(await page.run(SAVED));
+    const isDigest = (it) => ["pin", "SHA-256", "SHA-1"].includes(it);
+    assert.equal(labels.filter(isDigest).length, sha256 === undefined ? 0 : 3);
+    for (const it of ["subject", "issuer", "valid", "key", "signed"]) assert.ok(labels.includes(it), it);
+  });
+}
+
+// A certificate that is valid from one time to another, so many seconds from now.
+function certificateOf(from, to) {
+  const pem = Buffer.from(keyCertificate(Buffer.from("3000", "hex"), []));
+  const at = pem.indexOf("191017174128Z");
+  const utc = (seconds) => new Date(Date.now() + 1000 * seconds).toISOString().replace(/[-:T]|\.\d+/g, "").slice(2);
+  pem.write(utc(from), at);
+  pem.write(utc(to), at + 15);
+  return pem;
+}
+
+const DAY = 86_400;
+
+async function clock(context) {
+  return withPage(context, DESKTOP, async (page) => {
+    const cases = [
+      [-2 * DAY, -DAY, "Expired"],
+      [DAY, 2 * DAY, "Not yet valid"],
+      [-DAY, DAY, ""],
+    ];
+    for (const [from, to, expected] of cases) {
+      await page.drop("it.der", certificateOf(from, to));
+      assert.equal(await page.run(isShown("standing")), expected !== "");
+      if (expected !== "") assert.equal(await page.run(text("standing")), expected);
+      assert.equal(await page.run(text("verdict")), "In DER");
+    }
+    await page.drop("it.der", certificateOf(-2 * DAY, -DAY));
+    for (const name of ["request_rsa.pem", "private_key_ec.pem", "refused_month_13.pem"]) {
+      await page.drop(name, sample(name));
+      assert.equal(await page.run(isShown("standing")), false, name);
+    }
+  });
+}
+
+// Shows what a report tells of bytes, as if the module had told it.
+const showReport = ({ bytes, report }) => `(async () => {
+  const [cimaroly, { Entry }, { Result }] = await Promise.all(
+    ["cimaroly", "page/entry", "page/result"].map((it) => import("./" + it + ".mjs")),
+  );
+  const told = { ...cimaroly, reportText: () => ${JSON.stringify(JSON.stringify(report))} };
+  const bytes = Uint8Array.from(${JSON.stringify(Array.from(bytes))});
+  // (elements to which the page's own view doesn't listen)
+  const view = document.getElementById("result");
+  view.replaceWith(view.cloneNode(true));
+  document.getElementById("kind").replaceChildren();
+  document.body.classList.add("has-result");
+  new Result(told).show(new Entry(told, { file: "extensions.der", kind: "extensions", label: "EXTENSIONS", line: 1, bytes }));
+})()`;
+
+async function further(context) {
+  for (const size of [{ ...DESKTOP, height: 1500 }, { ...PHONES[1], height: 2400 }]) {
+    await withPage(context, size, async (page) => {
+      await page.run(showReport(furtherExtensions()));
+      await page.until(`document.querySelectorAll("#tree .field").length > 25`);
+      const [line] = await page.run(`Array.from(document.querySelectorAll("#tree .field"))
+        .filter((it) => it.querySelector(".label").textContent === "id-ad-ocsp").map((it) => it.querySelector(".value").textContent)`);
+      assert.equal(line, 'uniformResourceIdentifier "ocsp:one"');
+      const stamp = `Array.from(document.querySelectorAll("#tree .field"))
+        .find((it) => it.querySelector(".label").textContent === "SignedCertificateTimestamp")`;
+      await page.run(`${stamp}.click()`);
+      assert.match(await page.run(text("detail")), /TLS structure · bytes \d+\.\.\d+/);
+      assert.ok((await page.run("document.documentElement.scrollWidth")) <= size.width);
+      await context.keep(page, `further-${size.width}`);
+    });
+  }
+}
+
 export const useChecks = [
   ["the form closes, and the result has the focus and is in view", formCloses],
   ["what is dropped is gone to", goesToResult],
@@ -194,4 +308,8 @@ export const useChecks = [
   ["times don't break in two", timesDontBreak],
   ["the page says what it takes", saysWhatIsTaken],
   ["what is refused has names of identifiers", refusedIdentifiers],
+  ["fingerprints and pins are told", digests],
+  ["a page without WebCrypto tells the rest", withoutWebCrypto],
+  ["what is expired or not yet valid is told", clock],
+  ["further extensions are shown", further],
 ];
