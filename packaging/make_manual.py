@@ -15,7 +15,7 @@ HERE = os.path.dirname(os.path.abspath(__file__))
 ROOT = os.path.dirname(HERE)
 # The statuses and examples that `cimaroly --help` ends with.
 STATUS = {
-    0: "All is in DER.",
+    0: "Everything is in DER.",
     1: "Something was refused.",
     2: "Wrong usage.",
     3: "Something has deviations.",
@@ -26,6 +26,9 @@ EXAMPLES = (
     "cimaroly show cert.pem",
     "cimaroly check --progress /etc/ssl/certs",
     "cimaroly check --json certs.pem | jq -c 'select(.result != \"ok\")'",
+    "cimaroly show --fields subject,notAfter,sha256 certs.pem",
+    "cimaroly check --at 2026-12-31T23:59:59Z certs.pem",
+    "cimaroly match cert.pem key.pem",
     "cimaroly der --pem cert.pem > strict.pem",
 )
 
