@@ -6,8 +6,8 @@
 #        tools/dist.sh --sums           compares checksums alone, for which no toolchain is needed
 #        tools/dist.sh --after-ci SUMS  --check right after rt ci, which has built anew the programs in out/, and the
 #                                       libraries that aren't among SUMS (tools/plant.py --before-ci)
-#        tools/dist.sh --build NAME     proves and builds an artifact, such as x86_64-linux/cimaroly, where that isn't done, and
-#                                       prints its path
+#        tools/dist.sh --build NAME ..  proves and builds artifacts, such as x86_64-linux/cimaroly, where that isn't done, and
+#                                       prints their paths
 # SOURCES has the line of the toolchain that built it, and the checksum of each artifact's sources (tools/sources.sh). Where another
 # toolchain builds other bytes of the same sources, that is said, and is no fault. What is built has a record beside it,
 # FILE.sources: the checksum of its sources and its own. The last line of a comparison is 'N passed, M failed'.
@@ -148,6 +148,18 @@ compare() {
     return 1
 }
 
+# The names of the artifacts: on one line those that one crate has for one machine, since some are made of others of these.
+groups() {
+    artifacts | awk '
+        $2 != "-" {
+            key = $3
+            sub(/[^\/]*$/, $3 ~ /wasm$/ ? "wasm" : "", key)
+            if (!(key in names)) order[++count] = key
+            names[key] = names[key] " " $1
+        }
+        END { for (at = 1; at <= count; at++) print names[order[at]] }'
+}
+
 case ${1-} in
 '') make_dist ;;
 --check | --sums) compare "$1" ;;
@@ -156,16 +168,20 @@ case ${1-} in
     # (all is built first, so that dist/ can be made of it where it differs; of these files rt ci has built the programs for x86-64)
     artifacts | while read -r _name crate file; do
         if [ "$file" = "crates/$crate/out/$crate" ] && [ -f "$file" ]; then record "$crate" "$file" >"$file.sources"; fi
-        build "$crate" "$file" </dev/null || true
     done
+    groups | STOOD=$stood xargs -P "$(nproc)" -L 1 tools/dist.sh --build >/dev/null || true
     compare --check
     ;;
 --build)
-    artifacts | while read -r name crate file; do
-        if [ "$name" = "$2" ]; then
-            build "$crate" "$file" </dev/null
-            echo "$file"
-        fi
+    if [ -n "${STOOD+known}" ]; then stood=$STOOD; fi
+    shift
+    for wanted; do
+        artifacts | while read -r name crate file; do
+            if [ "$name" = "$wanted" ]; then
+                build "$crate" "$file" </dev/null
+                echo "$file"
+            fi
+        done
     done
     ;;
 *)

@@ -1,18 +1,18 @@
 #!/usr/bin/env python3
 """Writes what `require` loads in web/node/ from the ES modules of web/, and their types: a test compares them.
 
-Run it after a change of core.mjs, names.mjs, pem.mjs or cimaroly.d.ts in web/, and commit what it writes.
+Run it after a change of one of these modules or of cimaroly.d.ts in web/, and commit what it writes.
 """
 import pathlib
 import re
 
 ROOT = pathlib.Path(__file__).resolve().parent.parent
-MODULES = ("core", "names", "pem")
+MODULES = ("core", "der", "digests", "directory", "hosts", "keys", "names", "pem", "services", "values")
 HEAD = "// This file is written by tools/make_commonjs.py from web/{}.\n\n"
 
 IMPORT = re.compile(r'^import (\{[^}]*\}) from "\./(\w+)\.mjs";$', re.M)
 EXPORT_LIST = re.compile(r"^export \{([^}]*)\};\n\n?", re.M)
-EXPORT = re.compile(r"^export ((?:class|const|function\*?) (\w+))", re.M)
+EXPORT = re.compile(r"^export ((?:class|const|(?:async )?function\*?) (\w+))", re.M)
 
 
 def behind_licence(head, text):

@@ -223,7 +223,9 @@ class Snippets(BindingTest):
     def test_python(self):
         self.write("main.py", snippet("python").encode())
         printed = self.ran(sys.executable, "main.py", folder=self.place, PYTHONPATH=f"{BINDINGS}/python")
-        self.assertEqual(printed, "RSA parameters absent 13 26\nRSA parameters absent 106 119\n3000 deviations\n")
+        places = "RSA parameters absent 13 26\nRSA parameters absent 106 119\n"
+        values = " 1 2022-10-16 17:41:28+00:00\nEd25519 256 False\n"
+        self.assertEqual(printed, f"{values}{places}3000 deviations\n")
 
     def test_javascript(self):
         self.needs("node")
@@ -232,7 +234,8 @@ class Snippets(BindingTest):
         os.symlink(f"{ROOT}/web", f"{self.place}/web")
         self.write("main.mjs", snippet("js").encode())
         printed = self.ran("node", "main.mjs", folder=self.place)
-        self.assertEqual(printed, "RSA parameters absent 13 26\nRSA parameters absent 106 119\ndeviations\n")
+        values = "null 2022-10-16T17:41:28.000Z false\n"
+        self.assertEqual(printed, f"{values}RSA parameters absent 13 26\nRSA parameters absent 106 119\n")
 
     def test_rust(self):
         self.needs("cargo", "cc")

@@ -81,7 +81,7 @@ class Program(unittest.TestCase):
             (b"no certificate\n", b"refused: no PEM, DER or hexadecimal", 1),
             (b"-----BEGIN CERTIFICATE-----\nMAA=\n", b"refused: the block has no END line", 1),
             (bad, b"refused: malformed time", 1),
-            (read("algorithm.hex"), b"could be algorithm, raw-algorithm: choose with --type", 2),
+            (read("algorithm.hex"), b"could be algorithm or raw-algorithm: choose with --type", 2),
         ):
             with self.subTest(why):
                 out, error, ended = run("der", data=data)
@@ -326,14 +326,15 @@ class Program(unittest.TestCase):
     def test_several_types(self):
         """A type that other structures are read as too is taken only where it is asked for."""
         for name, kinds in (
-            ("algorithm", "algorithm, raw-algorithm"),
+            ("algorithm", "algorithm or raw-algorithm"),
             ("deviation_2_raw_algorithm", "raw-algorithm"),
             ("name", "name"),
         ):
             with self.subTest(name):
-                kind = kinds.split(", ", maxsplit=1)[0]
+                kind, _, others = kinds.partition(" or ")
+                choice = "choose with --type, as in" if others else "to read it as that, use"
                 out, _, status = run("check", f"{DATA}/{name}.hex")
-                self.assertIn(f"could be {kinds}: choose with --type, as in --type {kind}\n", out.decode())
+                self.assertIn(f"could be {kinds}: {choice} --type {kind}\n", out.decode())
                 self.assertEqual(status, 2)
                 self.assertIn(run("check", "--type", kind, f"{DATA}/{name}.hex")[2], (0, 3))
 

@@ -230,17 +230,28 @@ class Terminals(unittest.TestCase):
 
     def test_progress(self):
         """A bar that is drawn anew in its place, and cleared at the end."""
-        with tempfile.TemporaryDirectory() as room:
-            for number in range(40):
-                with open(f"{room}/{number}.pem", "wb") as file:
-                    file.write(500 * read("certificate_rsa.pem"))
-            text, status = run_on_terminal("check", "--progress", room, only_errors=True)
-        *drawn, last = text.split("\r\x1b[K")
-        self.assertEqual((last, status), ("20000 structures: 20000 in DER, 0 with deviations, 0 refused\n", 0))
+        # (it is drawn each second: a fast machine wants more to do before it sees one)
+        for blocks in (500, 4_000, 16_000):
+            *drawn, last = self.progress_over(blocks)
+            structures = 40 * blocks
+            self.assertEqual(last, f"{structures} structures: {structures} in DER, 0 with deviations, 0 refused\n")
+            if len(drawn) > 1:
+                break
         self.assertGreater(len(drawn), 1)
         for it in filter(None, drawn):
             self.assertRegex(it, r"^\[#* *\] \d+ of 40 files, \d+ structures, \d+/s(, \d+ s left)?$")
             self.assertEqual(it.index("]"), 21)
+
+    def progress_over(self, blocks):
+        """What is drawn while 40 files of so many blocks are checked, and what stands there at the end."""
+        with tempfile.TemporaryDirectory() as room:
+            with open(f"{room}/0.pem", "wb") as file:
+                file.write(blocks * read("certificate_rsa.pem"))
+            for number in range(1, 40):
+                os.link(f"{room}/0.pem", f"{room}/{number}.pem")
+            text, status = run_on_terminal("check", "--progress", room, only_errors=True)
+        self.assertEqual(status, 0)
+        return text.split("\r\x1b[K")
 
 
 @NEEDS_PROGRAM

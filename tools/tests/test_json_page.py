@@ -28,7 +28,7 @@ def oid(digits):
 # Object identifiers: of nothing known, and of algorithms, extensions and attributes (RFC 8410, RFC 5280, X.520, RFC 2985).
 UNKNOWN, ED25519 = oid("2a0304"), sequence(oid("2b6570"))
 AUTHORITY_KEY, ALTERNATIVE_NAME, TITLE = oid("551d23"), oid("551d11"), oid("55040c")
-SIGNING_TIME = oid("2a864886f70d010905")
+KEY_USAGE, SIGNING_TIME = oid("551d0f"), oid("2a864886f70d010905")
 PUBLIC_KEY = sequence(ED25519, element(3, b"\0\1"))
 
 
@@ -117,6 +117,36 @@ class Page(unittest.TestCase):
         told = self.told("request", request(sequence(UNKNOWN, values)))["CertificationRequest"]
         item = told["certificationRequestInfo"]["attributes"]["items"][0]
         self.assertEqual((item["value"], "items" in item), (values.hex(":"), False))
+
+    def test_types_of_values(self):
+        """By `asn1` and `value`, or by `der`, each element can be made again."""
+        for tag, name, content in (
+            (0x0C, "UTF8String", "\u00fc"),
+            (0x12, "NumericString", "1 2"),
+            (0x13, "PrintableString", "a-b'(c)?"),
+            (0x16, "IA5String", "a@b\x01"),
+            (0x1A, "VisibleString", "a@b"),
+        ):
+            value = element(tag, content.encode())
+            told = self.told("name", sequence(element(0x31, sequence(TITLE, value))))["Name"]["items"][0]["items"][0]
+            self.assertEqual((told["asn1"], told["value"], told.get("der")), (name, content, None))
+        for tag, content in ((0x12, b"1a"), (0x13, b"a@b"), (0x16, "\u00fc".encode()), (0x1A, b"a\x01")):
+            value = element(tag, content)
+            told = self.told("name", sequence(element(0x31, sequence(TITLE, value))))["Name"]["items"][0]["items"][0]
+            self.assertEqual(told["der"], value.hex(":"))
+        long = element(0x13, 300 * b"@")
+        told = self.told("name", sequence(element(0x31, sequence(TITLE, long))))["Name"]["items"][0]["items"][0]
+        self.assertEqual(told["der"], long.hex(":"))
+
+    def test_what_is_told_of_bits_and_addresses(self):
+        for bits, expected in (("0780", {"bits": 1}), ("0080", {"bits": 8}), ("05a0 20", {"bits": 11, "der": "03:03:05:a0:20"})):
+            usage = element(0x03, bytes.fromhex(bits))
+            told = self.told("extensions", extensions(KEY_USAGE, usage))["Extensions"]["items"][0]
+            self.assertEqual({it: told[it] for it in ("bits", "der") if it in told}, expected)
+        for size, length in ((4, None), (16, None), (8, 8), (0, 0)):
+            names = sequence(element(0x87, bytes(size)))
+            told = self.told("extensions", extensions(ALTERNATIVE_NAME, names))["Extensions"]["items"][0]["items"][0]
+            self.assertEqual(told.get("length"), length)
 
     def test_addresses(self):
         """Those of RFC 5952, 4: an IPv4 address in one of IPv6 has no dots."""

@@ -4,7 +4,7 @@ import json
 import re
 import unittest
 
-from cimaroly_program import NEEDS_PROGRAM, ROOT, run
+from cimaroly_program import DATA, NEEDS_PROGRAM, ROOT, run
 
 FAULTS = {"another label": "label", "invalid base64": "base64", "no END line": "end", "headers": "headers"}
 
@@ -35,6 +35,18 @@ class Table(unittest.TestCase):
                 blocks = [json.loads(line) for line in lines]
                 found = [told(it) for it in blocks if "label" in it]
                 self.assertEqual(" ".join(found), re.sub(r"=[0-9a-f]*|\w+(?=!)", "", answer))
+
+
+@NEEDS_PROGRAM
+class Bare(unittest.TestCase):
+    def test_bare_base64(self):
+        with open(f"{DATA}/certificate_ec.pem", "rb") as file:
+            text = b"".join(file.read().splitlines(True)[1:-1])
+        for data in (text, text.replace(b"\n", b"\r\n "), b"\n \t" + text):
+            (line,) = run("check", "--json", data=data)[0].splitlines()[:1]
+            self.assertEqual(json.loads(line)["result"], "ok")
+        for data in (text[:-2], b"MAMA\n"):
+            self.assertNotEqual(run("check", data=data)[2], 0)
 
 
 if __name__ == "__main__":

@@ -214,6 +214,22 @@ class Texts(unittest.TestCase):
         self.assertEqual(said["issuer"], told["issuer"] or "(empty)")
         self.assertEqual(said["valid"], f"{stamp(told['notBefore'])} to {stamp(told['notAfter'])}")
 
+    def test_secrets_of_one_byte(self):
+        """What isn't shown is counted in words: one byte, several bytes."""
+        _, _, status = run("check", "-q", "--type", "private-key", "-", data=edwards_key(b"\1"))
+        self.assertEqual(status, 0)
+        for secret, said in ((b"\1", "1 byte, not shown"), (bytes(32), "32 bytes, not shown")):
+            out, _, _ = run("show", "--type", "private-key", "-", data=edwards_key(secret))
+            self.assertRegex(out.decode(), rf"\n  privateKey +{said} ")
+
+    @NEEDS_OPENSSL
+    def test_constraints_left_out(self):
+        """Basic constraints without anything in them are those of no authority."""
+        text = run("show", f"{DATA}/certificate_ed25519.pem")[0].decode()
+        self.assertRegex(text, r"\n +id-ce-basicConstraints +cA false +420\.\.431\n")
+        told = openssl("x509", "-in", f"{DATA}/certificate_ed25519.pem", "-noout", "-ext", "basicConstraints")
+        self.assertIn("CA:FALSE", told)
+
     @NEEDS_OPENSSL
     def test_keys(self):
         for it, words in (("certificate_rsa", ["RSA"]), ("certificate_pss", ["RSA"]), ("certificate_ec", ["EC"])):
@@ -269,7 +285,7 @@ class Keys(unittest.TestCase):
                 der = element(0x30, integer(number) + integer(3))
                 said, text = self.key("rsa-public-key", der)
                 size = number.bit_length()
-                self.assertEqual(said, f"RSA, {size} bits" if number > 0 else "RSA, with a modulus that isn't positive")
+                self.assertEqual(said, f"RSA, {size} bit{'s' * (size != 1)}" if number > 0 else "RSA, with a modulus that isn't positive")
                 shown_as = re.search(r"^  modulus +(.*?)  ", text, re.MULTILINE)[1]
                 if -(2**63) <= number < 2**64:
                     self.assertEqual(shown_as, str(number))
@@ -290,6 +306,7 @@ class Keys(unittest.TestCase):
             ("Ed25519, 256 bits", self.public("06032b6570", bytes(32))),
             ("Ed25519, 0 bits instead of 256", self.public("06032b6570", b"")),
             ("Ed448, 3 bits instead of 456", self.public("06032b6571", b"\x80", 5)),
+            ("Ed448, 1 bit instead of 456", self.public("06032b6571", b"\x80", 7)),
             ("X25519, 264 bits instead of 256", self.public("06032b656e", bytes(33))),
             ("EC, secp256r1, 256 bits", self.public(curve, b"\4" + bytes(64))),
             ("EC, secp256r1, 256 bits", self.public(curve, b"\2" + bytes(32))),
@@ -438,18 +455,6 @@ class Places(unittest.TestCase):
                 self.same(told[name], found[0])
                 for field, element in zip(fields, inner(found, found[0]), strict=True):
                     self.same(told[name][field], element)
-
-    def test_what_an_unknown_extension_holds(self):
-        """It is kept as octets, with their number."""
-        (told,) = shown(f"{DATA}/certificate_rsa.pem")
-        found = elements("-in", f"{DATA}/certificate_rsa.pem")
-        node = extensions_of(told)["2.5.29.32"]
-        (outer,) = [it for it in found if it[:2] == tuple(node["at"])]
-        start, end, _, tag = inner(found, outer)[-1]
-        self.assertEqual((tag.split("  ")[0], node["length"]), ("OCTET STRING", end - start - 2))
-        self.assertEqual(len(node["value"].split(":")), node["length"])
-        text = run("show", f"{DATA}/certificate_rsa.pem")[0].decode()
-        self.assertRegex(text, rf"\n +id-ce-certificatePolicies +{node['length']} bytes, {node['value']} +{outer[0]}\.\.{outer[1]}\n")
 
     def test_fields_inside_of_extensions(self):
         # each place inside an extension holds one element, by its own header
