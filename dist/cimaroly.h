@@ -2,9 +2,9 @@
 /*
  * cimaroly.h: check, encode and look into X.509 structures in DER.
  *
- * Every call reads the whole of its input as one structure of a kind, and answers a status. What the calls promise is
- * proved (docs/PROVED.md). Tested, not proved: that a call leaves memory->at and memory->size as they were, and what
- * the text of cimaroly_report says. Measured: the sizes of memory and of the stack that are given here.
+ * Every call but those for PEM reads the whole of its input as one structure of a kind, and answers a status. What the
+ * calls promise is proved (docs/PROVED.md). Tested, not proved: that a call leaves memory->at and memory->size as they
+ * were, and what the text of cimaroly_report says. Measured: the sizes of memory and of the stack that are given here.
  *
  * Rules for every call:
  *
@@ -13,11 +13,11 @@
  * - Nothing is kept between calls, so any number of threads may call at once, each with memory of its own.
  * - A call never calls malloc. It works in the memory that it is lent (struct cimaroly_memory), which is the caller's
  *   again when it returns. Only cimaroly_encode, cimaroly_report and, if the input has deviations, cimaroly_places
- *   need any: for the others { NULL, 0 } will do, and they never answer CIMAROLY_OUT_OF_MEMORY. cimaroly_check takes
- *   less than 2 KB of the stack, whatever the size of the input. The forms whose names end in _malloc take the memory
- *   that is needed from malloc, ask for more if it was too little, and free it.
+ *   need any: for the others { NULL, 0 } will do, or they are lent none, and they never answer CIMAROLY_OUT_OF_MEMORY.
+ *   cimaroly_check takes less than 2 KB of the stack, whatever the size of the input. The forms whose names end in
+ *   _malloc take the memory that is needed from malloc, ask for more if it was too little, and free it.
  * - A result, a size or a count is written whatever the status, and is all zeros unless stated otherwise. A buffer is
- *   written with CIMAROLY_OK alone; with every other status it is unchanged.
+ *   written with CIMAROLY_OK alone; with every other status it is unchanged, unless stated otherwise.
  * - Places count bytes of the input from 0. A span covers the bytes start..end, without the one at end.
  *
  * Link with -lcimaroly. libcimaroly.a needs memcpy, memmove and memset, and nothing else. It is built for x86-64
@@ -63,7 +63,7 @@ enum cimaroly_status {
     CIMAROLY_OK = 0,               /* the input encodes a value of the kind, and all is done */
     CIMAROLY_REFUSED = 1,          /* the input encodes no value of the kind; cimaroly_check says why and where */
     CIMAROLY_OUT_OF_MEMORY = 2,    /* the memory was too little: nothing is known of the input */
-    CIMAROLY_BUFFER_TOO_SHORT = 3, /* the size or the count that is needed is told, and the buffer is as it was */
+    CIMAROLY_BUFFER_TOO_SHORT = 3, /* the size or count needed is told; the buffer is as it was, unless said otherwise */
     CIMAROLY_UNKNOWN_KIND = 4,     /* the number is that of no kind, or of none that the call is for */
     CIMAROLY_TOO_LONG = 5          /* what is to be written has 2^64 bytes or more */
 };
@@ -99,6 +99,15 @@ enum cimaroly_deviation {
     CIMAROLY_AUTHORITY_KEY_FIELD_ORDER = 8,
     CIMAROLY_GENERAL_NAME_FORM = 9,
     CIMAROLY_SKIPPED_KEY_ELEMENT = 10
+};
+
+/* What cimaroly_pem_next answers. */
+enum cimaroly_pem {
+    CIMAROLY_PEM_BLOCK = 0,          /* a block */
+    CIMAROLY_PEM_NO_MORE = 1,        /* no further line begins one */
+    CIMAROLY_PEM_LABEL_MISMATCH = 2, /* a block whose END line has another label than its BEGIN line */
+    CIMAROLY_PEM_NO_END = 3,         /* one without END line: another block begins, or the text ends, before */
+    CIMAROLY_PEM_HAS_HEADERS = 4     /* one with headers (RFC 1421, 4.6), as keys have that a password encrypts */
 };
 
 /*
@@ -185,6 +194,47 @@ struct cimaroly_extension {
     struct cimaroly_span extn_value;
 };
 
+/* A second in UTC, in the Gregorian calendar. */
+struct cimaroly_time {
+    int64_t unix_time; /* seconds since 1970-01-01 00:00:00, leap seconds not counted; below 0 before that */
+    uint16_t year;     /* 0 to 9999 */
+    uint8_t month;     /* 1 to 12 */
+    uint8_t day;       /* 1 to 31 */
+    uint8_t hour;      /* 0 to 23 */
+    uint8_t minute;    /* 0 to 59 */
+    uint8_t second;    /* 0 to 59 */
+};
+
+/* Where an attribute of a name stands (RFC 5280, 4.1.2.4), without tags and lengths. */
+struct cimaroly_attribute {
+    size_t set;                      /* the number of its set, a RelativeDistinguishedName, from 0 */
+    struct cimaroly_span identifier; /* of its type: 55 04 03 is the common name's (X.520) */
+    uint8_t tag;                     /* of its value: 0x0C UTF8String, 0x13 PrintableString, 0x1E BMPString .. */
+    struct cimaroly_span value;      /* what stands in that */
+};
+
+/*
+ * Where a general name stands (RFC 5280, 4.2.1.6). Its form is tag & 31: 0 otherName, 1 rfc822Name, 2 dNSName,
+ * 4 directoryName, 5 ediPartyName, 6 uniformResourceIdentifier, 7 iPAddress, 8 registeredID. The tags 0x82 and 0x87 are
+ * those of a dNSName and an iPAddress in DER; under 0xA1, 0xA2, 0xA6, 0xA7 and 0xA8, which are deviations, an element
+ * stands in place of the content.
+ */
+struct cimaroly_general_name {
+    uint8_t tag;
+    struct cimaroly_span content; /* what stands under the tag */
+};
+
+/* Where a block of a PEM text stands. */
+struct cimaroly_pem_block {
+    struct cimaroly_span label; /* what stands between `-----BEGIN ` and `-----` */
+    struct cimaroly_span text;  /* the lines up to the END line, or up to what is wrong, for cimaroly_pem_decode */
+    size_t room;                /* how many bytes a buffer must have room for, so that they are decoded to it */
+    uint64_t first_line;        /* the number of the BEGIN line, from 1; CR, LF, or CR and LF end a line */
+    uint64_t last_line;         /* that of the END line, or of the line where the fault was met */
+    size_t next;                /* where the next block is looked for, further on than `at` was, */
+    uint64_t next_line;         /* and how many lines stand before that */
+};
+
 /*
  * The version of the library that the program runs with, to compare with CIMAROLY_VERSION_NUMBER: 0x100 for 0.1.0.
  */
@@ -244,6 +294,58 @@ uint32_t cimaroly_private_key_fields(struct cimaroly_memory *memory, const uint8
                                      struct cimaroly_private_key *fields);
 
 /*
+ * Between which times a certificate is valid, both included (RFC 5280, 4.1.2.5). It takes no memory.
+ *
+ * CIMAROLY_OK, CIMAROLY_REFUSED.
+ */
+uint32_t cimaroly_validity(const uint8_t *der, size_t der_size, struct cimaroly_time *not_before,
+                           struct cimaroly_time *not_after);
+
+/*
+ * Writes where the attributes of a certificate's subject (RFC 5280, 4.1.2.6) or issuer (4.1.2.4) stand to the front of
+ * `attributes`, which has room for `room` of them, in order. They take no memory.
+ *
+ * CIMAROLY_OK: *count is how many there are.
+ * CIMAROLY_BUFFER_TOO_SHORT: so too, and as many are written as there is room for.
+ * CIMAROLY_REFUSED.
+ */
+uint32_t cimaroly_subject_attributes(const uint8_t *der, size_t der_size, struct cimaroly_attribute *attributes,
+                                     size_t room, size_t *count);
+uint32_t cimaroly_issuer_attributes(const uint8_t *der, size_t der_size, struct cimaroly_attribute *attributes,
+                                    size_t room, size_t *count);
+
+/*
+ * Where the content of a certificate's serial number stands (RFC 5280, 4.1.2.2): a number in two's complement, the
+ * highest byte first. It takes no memory.
+ *
+ * CIMAROLY_OK, CIMAROLY_REFUSED.
+ */
+uint32_t cimaroly_serial_number(const uint8_t *der, size_t der_size, struct cimaroly_span *serial_number);
+
+/*
+ * Where the value stands of a certificate's first extension with an identifier (RFC 5280, 4.2): what its OCTET STRING
+ * holds. The identifier is given by the content of its OBJECT IDENTIFIER: 55 1D 11 is that of subjectAltName. It takes
+ * no memory.
+ *
+ * CIMAROLY_OK: *value is 0..0 where no extension has the identifier.
+ * CIMAROLY_REFUSED: the input encodes no certificate.
+ */
+uint32_t cimaroly_find_extension(const uint8_t *der, size_t der_size, const uint8_t *identifier, size_t identifier_size,
+                                 struct cimaroly_span *value);
+
+/*
+ * Writes where the general names of a list stand (RFC 5280, 4.2.1.6), such as that in the value of subjectAltName, to
+ * the front of `names`, which has room for `room` of them, in order. Places count from the list's first byte. It takes
+ * no memory.
+ *
+ * CIMAROLY_OK: *count is how many there are.
+ * CIMAROLY_BUFFER_TOO_SHORT: so too, and as many are written as there is room for.
+ * CIMAROLY_REFUSED: the input encodes no such list.
+ */
+uint32_t cimaroly_general_names(const uint8_t *list, size_t list_size, struct cimaroly_general_name *names, size_t room,
+                                size_t *count);
+
+/*
  * Writes where each extension stands, in the order of the input, to the front of `extensions`, which has room for
  * `room` of them.
  *
@@ -266,6 +368,48 @@ uint32_t cimaroly_extensions(struct cimaroly_memory *memory, uint32_t kind, cons
 uint32_t cimaroly_report(struct cimaroly_memory *memory, uint32_t kind, const uint8_t *der, size_t der_size,
                          bool secrets, uint8_t *out, size_t out_size, size_t *size);
 
+/*
+ * Where the next block of a PEM text stands (RFC 7468), from byte `at` on, before which stand `line` lines: begin with
+ * 0 and 0, and go on with block->next and block->next_line. A boundary stands alone in its line but for white space,
+ * and a byte order mark before it; text around blocks is passed over. Neither this call nor the next takes memory.
+ *
+ * An enum cimaroly_pem; with CIMAROLY_PEM_NO_MORE *block is all zeros. A block that has a fault is told as far as it
+ * goes, and the text behind it can be read on.
+ */
+uint32_t cimaroly_pem_next(const uint8_t *text, size_t text_size, size_t at, uint64_t line,
+                           struct cimaroly_pem_block *block);
+
+/*
+ * Decodes base64 text (RFC 4648, 4), white space among its symbols, to the front of `out`, which has room for
+ * `out_size` bytes: the text of a block, or bare base64.
+ *
+ * CIMAROLY_OK: *size is how many bytes it stands for; the others of the buffer are as they were.
+ * CIMAROLY_BUFFER_TOO_SHORT: *size bytes of room are needed, three for four symbols.
+ * CIMAROLY_REFUSED: it is the encoding of no bytes: another symbol, padding that is missing or in the middle, or bits
+ * set behind the last byte. The buffer may hold bytes of the text before.
+ */
+uint32_t cimaroly_pem_decode(const uint8_t *text, size_t text_size, uint8_t *out, size_t out_size, size_t *size);
+
+/*
+ * Writes the text of an object identifier to the front of `out`, which has room for `out_size` bytes: its arcs in
+ * decimal, joined by points, as in 2.5.4.3, without a zero behind it. The identifier is given by the content of its
+ * OBJECT IDENTIFIER. It takes no memory.
+ *
+ * CIMAROLY_OK, CIMAROLY_BUFFER_TOO_SHORT: *size is the text's.
+ * CIMAROLY_REFUSED: the bytes are the content of no object identifier with arcs of at most 64 bits.
+ * CIMAROLY_TOO_LONG.
+ */
+uint32_t cimaroly_oid_text(const uint8_t *identifier, size_t identifier_size, uint8_t *out, size_t out_size,
+                           size_t *size);
+
+/*
+ * The same for its name, as the standards spell it: commonName for 2.5.4.3. Of what has no name here, *size is 0.
+ *
+ * CIMAROLY_OK, CIMAROLY_BUFFER_TOO_SHORT.
+ */
+uint32_t cimaroly_oid_name(const uint8_t *identifier, size_t identifier_size, uint8_t *out, size_t out_size,
+                           size_t *size);
+
 /* The name of an error, in plain words; "" if no error has the number. */
 static inline const char *cimaroly_error_name(size_t error)
 {
@@ -277,7 +421,7 @@ static inline const char *cimaroly_error_name(size_t error)
         "wrong tag",
         "malformed length",
         "malformed number",
-        "malformed truth value",
+        "malformed boolean",
         "malformed bit string",
         "malformed object identifier",
         "character not allowed",
