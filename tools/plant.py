@@ -2,14 +2,16 @@
 """Tries edits that plant a fault, several in one check: the prover must refuse each.
 
 usage: tools/plant.py CRATE [FOLDER] [--only WORD] [--one] [--log FILE]
-       tools/plant.py --gate [--stood SUMS]
+       tools/plant.py --gate [--stood SUMS [--beside FILE]]
        tools/plant.py --before-ci
 
 FOLDER is crates/CRATE/planted where it is left out. --only takes the edits whose name contains WORD, --one tries each edit by
 itself, and --log appends what each check prints to a file. --gate tries the edits in planted/ of every crate, of as many crates at
 a time as there are processors, or as RT_JOBS says, and those that were refused on this machine over the same files only once. With
 SUMS, what --before-ci printed before a run of rt ci, it takes the libraries that are new since then as they are. --before-ci removes
-libraries that an earlier run of rt ci left, which would else come back in the place of new ones.
+libraries that an earlier run of rt ci left, which would else come back in the place of new ones. With --beside it runs beside rt ci,
+which prints into FILE, and after it the line 'rt ci ended with STATUS': the edits of a crate are tried once rt ci has proved it and all
+below it, on half the processors until rt ci has ended. Where SUMS names libraries, which rt ci puts back, it waits for that end.
 
 It works on a copy of the crate. Edits of different functions' bodies are planted together, and one check of the functions that they
 name (--only) tells of each whether it is refused for itself: a check goes by what the contracts of other functions say, and not by
@@ -30,7 +32,8 @@ import re
 import subprocess
 import sys
 import tempfile
-from concurrent.futures import ThreadPoolExecutor
+import time
+from concurrent.futures import FIRST_COMPLETED, ThreadPoolExecutor, wait
 
 from edits import ROOT, BadEdit, Edit, edits_in
 from libraries import build, closure, library_sum, lists, made_since, sum_of, sums_before_ci
@@ -38,6 +41,8 @@ from trial import LOST, NO_VERDICT, PARTS, PROVED, REFUSED, UNKNOWN, WAITING, Co
 
 # Where the gate keeps what it printed of edits that were all refused, by the checksum of what they were tried over.
 KEPT = f"{os.environ.get('XDG_CACHE_HOME') or os.path.expanduser('~/.cache')}/x509-planted"
+# Seconds between two looks at how far rt ci is.
+PAUSE = 5
 TOOLS = ("plant.py", "trial.py", "libraries.py", "edits.py", "functions.py")
 
 
@@ -236,16 +241,64 @@ def try_kept(crate, folder):
     return 0 if ran.returncode == 0 else int(bad[1]) if bad else len(edits_in(folder))
 
 
-def try_planted(stood):
+class Run:
+    """A run of rt ci, by what it has printed into a file so far."""
+
+    def __init__(self, path):
+        self.path = path
+
+    def said(self):
+        with contextlib.suppress(OSError), open(self.path, encoding="utf-8", errors="replace") as it:
+            return it.read()
+        return ""
+
+    def proved(self):
+        """The crates that were proved, whose libraries stand."""
+        return set(re.findall(r"(?m)^rt: (\w+) proved$", self.said()))
+
+    def has_ended(self):
+        return bool(re.search(r"(?m)^rt ci ended with \d+$", self.said()))
+
+    def wait(self):
+        while not self.has_ended():
+            time.sleep(PAUSE)
+
+
+def try_beside(run, folders, counts, lanes):
+    """Tries the edits of each crate as soon as rt ci has proved what they are tried over, and answers how many aren't refused."""
+    uses, left, running, bad = lists(), sorted(counts, key=lambda it: -counts[it]), set(), 0
+    with ThreadPoolExecutor(lanes) as pool:
+        while left or running:
+            has_ended, proved = run.has_ended(), run.proved()
+            ready = [it for it in left if proved.issuperset({it, *closure(it, uses)})]
+            if has_ended and not ready and not running:
+                print(f"not tried, since rt ci didn't prove what they stand on: {' '.join(left)}", flush=True)
+                return bad + sum(counts[it] for it in left)
+            taken = ready[: max(0, (lanes if has_ended else max(1, lanes // 2)) - len(running))]
+            left = [it for it in left if it not in taken]
+            running |= {pool.submit(try_kept, it, folders[it]) for it in taken}
+            done, running = wait(running, PAUSE, FIRST_COMPLETED)
+            bad += sum(it.result() for it in done)
+            if not done and not running:
+                time.sleep(PAUSE)
+    return bad
+
+
+def try_planted(stood, beside):
     """Tries what every crate has in planted/, and answers how many edits aren't refused."""
     uses = lists()
     folders = {it: f"{ROOT}/crates/{it}/planted" for it in uses}
     counts = {crate: len(edits_in(folder)) for crate, folder in folders.items() if edits_in(folder)}
-    build(below_all(counts, uses), set() if stood is None else made_since(stood))
     number = os.environ.get("RT_JOBS", "")
     lanes = int(number) if number.isdigit() and int(number) else len(os.sched_getaffinity(0))
-    with ThreadPoolExecutor(lanes) as pool:
-        bad = sum(pool.map(lambda it: try_kept(it, folders[it]), sorted(counts, key=lambda it: -counts[it])))
+    if beside and not stood:
+        bad = try_beside(Run(beside), folders, counts, lanes)
+    else:
+        if beside:
+            Run(beside).wait()
+        build(below_all(counts, uses), set() if stood is None else made_since(stood))
+        with ThreadPoolExecutor(lanes) as pool:
+            bad = sum(pool.map(lambda it: try_kept(it, folders[it]), sorted(counts, key=lambda it: -counts[it])))
     print(f"{sum(counts.values()) - bad} passed, {bad} failed", flush=True)
     return bad
 
@@ -264,6 +317,7 @@ def words():
     given.add_argument("folder", nargs="?")
     given.add_argument("--gate", action="store_true")
     given.add_argument("--stood")
+    given.add_argument("--beside", default="")
     given.add_argument("--before-ci", action="store_true")
     given.add_argument("--only", default="")
     given.add_argument("--one", action="store_true")
@@ -279,7 +333,7 @@ def main():
         print(sums_before_ci())
         return 0
     if given.gate:
-        return 1 if try_planted(given.stood) else 0
+        return 1 if try_planted(given.stood, given.beside) else 0
     if not given.crate:
         print("a crate or --gate: see --help", file=sys.stderr)
         return 2

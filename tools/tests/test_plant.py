@@ -1,12 +1,16 @@
 """Tests how edits are read and tried: each way in which an edit can look refused that isn't."""
 
+import contextlib
+import io
 import os
 import shutil
 import subprocess
 import sys
 import tempfile
+import time
 import unittest
 import unittest.mock
+from concurrent.futures import ThreadPoolExecutor
 
 ROOT = os.path.dirname(os.path.dirname(os.path.dirname(os.path.abspath(__file__))))
 sys.path.insert(0, f"{ROOT}/tools")
@@ -408,6 +412,44 @@ class KeptTest(unittest.TestCase):
             with open(f"{room}/stamp", "a", encoding="utf-8") as it:
                 it.write("b.edit: refused\n")
             self.assertEqual(plant.kept_of("stamp"), "")
+
+
+class BesideTest(unittest.TestCase):
+    """Edits that are tried while rt ci goes on."""
+
+    def tried(self, first, then):
+        """Which crates' edits were tried when rt ci had printed the first text, which then, and how many edits weren't refused."""
+        tried = []
+
+        def try_kept(crate, _):
+            tried.append(crate)
+            return 1 if crate == "above" else 0
+
+        uses = {"low": [], "above": ["low", "std"], "apart": []}
+        with tempfile.TemporaryDirectory() as room, contextlib.ExitStack() as patches:
+            lay_out(room, {"ci": first})
+            for name, it in (("PAUSE", 0.01), ("try_kept", try_kept), ("lists", lambda: uses)):
+                patches.enter_context(unittest.mock.patch.object(plant, name, it))
+            said = io.StringIO()
+            with contextlib.redirect_stdout(said), ThreadPoolExecutor(1) as pool:
+                words = plant.Run(f"{room}/ci"), dict.fromkeys(uses, ""), {"low": 2, "above": 3, "apart": 4}, 2
+                going = pool.submit(plant.try_beside, *words)
+                time.sleep(0.3)
+                so_far = [*tried]
+                lay_out(room, {"ci": first + then})
+                bad = going.result(60)
+            return so_far, tried[len(so_far) :], bad, said.getvalue()
+
+    def test_as_soon_as_proved(self):
+        first = "fn low::a: proved\nrt: above proved\nrt: apart: its tests are proved\n"
+        so_far, later, bad, _ = self.tried(first, "rt: low proved\nrt: apart proved\nrt ci ended with 0\n")
+        self.assertEqual((so_far, sorted(later), bad), ([], ["above", "apart", "low"], 1))
+        so_far, later, bad, _ = self.tried("rt: low proved\n", "rt: above proved\nrt: apart proved\nrt ci ended with 0\n")
+        self.assertEqual((so_far, sorted(later), bad), (["low"], ["above", "apart"], 1))
+
+    def test_not_proved(self):
+        *_, bad, said = self.tried("rt: low proved\n", "rt: apart proved\nrt ci ended with 1\n")
+        self.assertEqual((bad, said), (3, "not tried, since rt ci didn't prove what they stand on: above\n"))
 
 
 @unittest.skipUnless(shutil.which("rt"), "the toolchain isn't on the PATH")
