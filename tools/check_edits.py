@@ -23,7 +23,7 @@ BUDGETS = [
     (28, ["x509_der_parts"]),
     (10, ["x509_prim", "x509_prim_parts"]),
     (18, ["x509_names", "x509_names_parts"]),
-    (25, ["x509_keys_parts"]),
+    (23, ["x509_keys_parts"]),
     (16, ["x509_keys"]),
     (18, ["picky_asn1_x509_parts"]),
     (16, ["picky_asn1_x509"]),
