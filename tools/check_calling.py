@@ -3,8 +3,8 @@
 
 usage: tools/check_calling.py
 
-Each piece of a block that is marked as rust or antt, up to a blank line, must stand in one of its page's files word by word, but
-for how its lines are broken. A line is printed for each that doesn't, and the exit status is then 1.
+Each piece of a block that is marked as rust, antt, asn1 or edit, up to a blank line, must stand in one of its page's files word by
+word, but for how its lines are broken. A line is printed for each that doesn't, and the exit status is then 1.
 """
 
 import glob
@@ -18,15 +18,14 @@ PAGES = {
     "README.md": ["crates/x509_callers/src/*.rt", "docs/BINDINGS.md"],
     "docs/CALLING.md": ["crates/x509_callers/src/*.rt"],
     "docs/CONTRIBUTING.md": [
+        "crates/x509_more_extensions/declarations.asn1",
+        "crates/x509_more_extensions/specs/PolicyMapping.antt",
+        "crates/x509_more_extensions/src/structures/laws.rt",
+        "crates/x509_more_extensions/planted/mapping_as_a_set.edit",
         "crates/x509_keys_parts/src/aes_auth_enc.rt",
-        "crates/x509_keys_parts/src/laws.rt",
-        "crates/x509_keys_parts/specs/AesAuthEncParams.antt",
-        "crates/x509_keys_parts/specs/AesLaws.antt",
-        "crates/x509_keys_parts/specs/facts/AesAuthEncParams.antt",
-        "crates/x509_keys_parts/proofs/laws/aes_auth_enc_fields/Answers.antt",
     ],
 }
-BLOCK = re.compile(r"^```(?:rust|antt)\n(.*?)^```$", re.S | re.M)
+BLOCK = re.compile(r"^```(?:rust|antt|asn1|edit)\n(.*?)^```$", re.S | re.M)
 
 
 def text_of(path):
