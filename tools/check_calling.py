@@ -22,7 +22,6 @@ PAGES = {
         "crates/x509_more_extensions/specs/PolicyMapping.antt",
         "crates/x509_more_extensions/src/structures/laws.rt",
         "crates/x509_more_extensions/planted/mapping_as_a_set.edit",
-        "crates/x509_keys_parts/src/aes_auth_enc.rt",
     ],
 }
 BLOCK = re.compile(r"^```(?:rust|antt|asn1|edit)\n(.*?)^```$", re.S | re.M)
