@@ -6,8 +6,8 @@ usage: tools/make_tables.py [FOLDER]   FOLDER in the place of the repository, to
 What is written by hand: the definitions in specs/, and what stands around the regions. tools/tests/test_tables.py compares.
 """
 
+import argparse
 import pathlib
-import sys
 
 import make_commonjs
 import make_object_identifiers
@@ -35,7 +35,9 @@ def made():
 
 
 def main():
-    folder = pathlib.Path(sys.argv[1] if len(sys.argv) > 1 else ROOT)
+    given = argparse.ArgumentParser(description=__doc__, formatter_class=argparse.RawDescriptionHelpFormatter)
+    given.add_argument("folder", nargs="?", type=pathlib.Path, default=pathlib.Path(ROOT))
+    folder = given.parse_args().folder
     for path, text in made().items():
         target = folder / path
         target.parent.mkdir(parents=True, exist_ok=True)
