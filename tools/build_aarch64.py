@@ -13,6 +13,7 @@ import os
 import subprocess
 import sys
 
+from build_library import kept
 from edits import ROOT
 from libraries import build, closure, lists, made_since
 from trial import check_of, kit
@@ -36,13 +37,12 @@ def main():
     is_library = out.endswith(".a")
     build(closure(given.crate, lists()), set() if given.stood is None else made_since(given.stood))
     folder = f"{ROOT}/crates/{given.crate}"
-    kept = f"{os.path.dirname(out)}/kept"
-    os.makedirs(kept, exist_ok=True)
+    os.makedirs(os.path.dirname(out), exist_ok=True)
     words = check_of(given.crate, folder)
     words[1] = "build"
     if is_library:
         words += ["--links", f"{given.crate}=", "--crate-type", "staticlib"]
-    words += ["--target", TARGET, "--toolchain", f"{kit()}/toolchain", "--backend", "llvm", "--incremental", kept]
+    words += ["--target", TARGET, "--toolchain", f"{kit()}/toolchain", "--backend", "llvm", "--incremental", kept(folder)]
     run([*words, "-o", out if is_library else f"{out}.o"], folder)
     if not is_library:
         run([f"{ROOT}/tools/aarch64/link.sh", f"{out}.o", out], folder)

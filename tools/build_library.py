@@ -17,6 +17,13 @@ from libraries import build, closure, lists, made_since
 from trial import check_of, kit
 
 
+def kept(folder):
+    """Where the builds of a crate for several machines keep what was proved, which is the same for all: each takes it from there."""
+    path = f"{folder}/out/kept"
+    os.makedirs(path, exist_ok=True)
+    return path
+
+
 def main():
     given = argparse.ArgumentParser(description=__doc__, formatter_class=argparse.RawDescriptionHelpFormatter)
     given.add_argument("crate")
@@ -24,11 +31,12 @@ def main():
     given = given.parse_args()
     build(closure(given.crate, lists()), set() if given.stood is None else made_since(given.stood))
     folder = f"{ROOT}/crates/{given.crate}"
-    os.makedirs(f"{folder}/out", exist_ok=True)
     words = check_of(given.crate, folder)
     words[1] = "build"
+    # (the builds for other machines wait for this proof)
+    words[words.index("--jobs") + 1] = str(max(1, len(os.sched_getaffinity(0)) // 2))
     words += ["--links", f"{given.crate}=", "--crate-type", "staticlib", "--toolchain", f"{kit()}/toolchain", "--backend", "llvm"]
-    words += ["-o", f"out/lib{given.crate}.a"]
+    words += ["--incremental", kept(folder), "-o", f"out/lib{given.crate}.a"]
     return subprocess.run(words, cwd=folder, stdin=subprocess.DEVNULL, stdout=sys.stderr, check=False).returncode
 
 

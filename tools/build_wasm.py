@@ -14,6 +14,7 @@ import shutil
 import subprocess
 import sys
 
+from build_library import kept
 from edits import ROOT
 from libraries import build, closure, lists, made_since
 from trial import check_of, kit
@@ -32,11 +33,10 @@ def run(words, folder):
 def built_archive(folder):
     """The archive for WebAssembly, proved and built of the sources that stand here."""
     archive = f"{folder}/out/lib{CRATE}-wasm64.a"
-    os.makedirs(f"{folder}/out/kept-wasm64", exist_ok=True)
     words = check_of(CRATE, folder)
     words[1] = "build"
     words += ["--links", f"{CRATE}=", "--crate-type", "staticlib", "--target", TARGET, "--toolchain", f"{kit()}/toolchain"]
-    words += ["--backend", "llvm", "--incremental", "out/kept-wasm64", "-o", archive]
+    words += ["--backend", "llvm", "--incremental", kept(folder), "-o", archive]
     run(words, folder)
     return archive
 

@@ -148,14 +148,13 @@ compare() {
     return 1
 }
 
-# The names of the artifacts: on one line those that one crate has for one machine, since some are made of others of these.
+# The names of the artifacts: on one line those of one crate, since some are made of others of these, and the builds for other
+# machines take what the first one has proved.
 groups() {
     artifacts | awk '
         $2 != "-" {
-            key = $3
-            sub(/[^\/]*$/, $3 ~ /wasm$/ ? "wasm" : "", key)
-            if (!(key in names)) order[++count] = key
-            names[key] = names[key] " " $1
+            if (!($2 in names)) order[++count] = $2
+            names[$2] = names[$2] " " $1
         }
         END { for (at = 1; at <= count; at++) print names[order[at]] }'
 }
