@@ -1,19 +1,18 @@
-"""Certificates and requests: the values of their fields, as a report of the library tells them."""
+"""Certificates and requests: the values of their fields, as the library tells them by calls for them, or in its report."""
 
 from __future__ import annotations
 
 import datetime
 import hashlib
-from collections.abc import Iterable
 from functools import cached_property
 from typing import Any, NamedTuple, Optional, Union
 
-from . import _hosts, _library, _services
+from . import _hosts, _library, _services, _values
 from ._armour import encoded
-from ._keys import Algorithm, PublicKey, Told, public_key, signature_algorithm
-from ._names import COMMON_NAME, Address, AlternativeNames, Name, alternative_names, content_size, integer, octets
+from ._keys import Algorithm, PublicKey, signature_algorithm
+from ._names import COMMON_NAME, Address, AlternativeNames, Name, alternative_names, alternative_names_in, integer, octets
 from ._services import Policy, Timestamp
-from ._structure import Extensions, Structure, listed, names_of
+from ._structure import Extensions, Structure, inside, listed
 
 # The extensions of which values are told (RFC 5280, 4.2.1).
 _SUBJECT_KEY, _KEY_USAGE, _SUBJECT_NAMES, _ISSUER_NAMES = "2.5.29.14", "2.5.29.15", "2.5.29.17", "2.5.29.18"
@@ -35,14 +34,16 @@ _PURPOSE_NAMES = {
     f"{_PURPOSE}.9": "OCSPSigning",
 }
 
+# The elements of the identifiers of alternative names.
+_NAMES = {_SUBJECT_NAMES: bytes.fromhex("0603551d11"), _ISSUER_NAMES: bytes.fromhex("0603551d12")}
+
 # How much of a name `repr` shows.
 _SHOWN = 100
 
 
-def _time(text: str) -> datetime.datetime:
-    """A time that a report tells, as RFC 3339 writes it."""
-    year, month, day = int(text[:4]), int(text[5:7]), int(text[8:10])
-    hour, minute, second = int(text[11:13]), int(text[14:16]), int(text[17:19])
+def _time(numbers: tuple[int, ...]) -> datetime.datetime:
+    """A time, by its numbers from the year on."""
+    year, month, day, hour, minute, second = numbers
     return datetime.datetime(year, month, day, hour, minute, second, tzinfo=datetime.timezone.utc)
 
 
@@ -51,25 +52,13 @@ def _version(told: Any) -> int:
     return told + 1 if isinstance(told, int) else int(told[1:])
 
 
-class _Contents(NamedTuple):
-    """What is kept of a report: not the places of all fields, which take much memory."""
+class _Asked(NamedTuple):
+    """What is kept of a request's report: not the places of all fields, which take much memory."""
 
     version: int
     subject: Name
-    key: Told
-    key_at: tuple[int, int]
-    algorithm: Algorithm
-    extensions: list[Any]
-
-
-class _Issued(NamedTuple):
-    """What is kept of a certificate's report besides that."""
-
-    issuer: Name
-    serial_number: int
-    not_before: str
-    not_after: str
-    extension_names: list[Optional[str]]
+    nodes: list[Any]
+    lists: list[tuple[int, int]]
 
 
 class _Signed(Structure):
@@ -78,35 +67,36 @@ class _Signed(Structure):
     _SIGNATURE: str
 
     @property
-    def _contents(self) -> _Contents:
+    def _nodes(self) -> list[Any]:
+        """The report's nodes of the extensions of which values are told."""
         raise NotImplementedError
 
     @property
     def version(self) -> int:
         """The version: of a certificate 1, 2 or 3 (RFC 5280, 4.1.2.1), of a request 1 (RFC 2986, 4.1)."""
-        return self._contents.version
+        raise NotImplementedError
 
     @property
     def subject(self) -> Name:
         """The subject's name (RFC 5280, 4.1.2.6); it may be empty."""
-        return self._contents.subject
+        raise NotImplementedError
 
     @cached_property
     def public_key(self) -> PublicKey:
         """The subject's public key (RFC 5280, 4.1.2.7)."""
-        return PublicKey._of(self._bytes(*self._contents.key_at), self._contents.key)
+        return PublicKey(self._bytes(*self._span("subject_public_key_info")))
 
     @property
     def signature_algorithm(self) -> Algorithm:
         """The algorithm by which it is signed (RFC 5280, 4.1.1.2). Its `str` is the name, such as `ecdsa-with-SHA384`."""
-        return self._contents.algorithm
+        return signature_algorithm(self._bytes(*self._span("signature_algorithm")))
 
     @property
     def signature(self) -> bytes:
         """The signature's bytes (RFC 5280, 4.1.1.3)."""
-        field = self.fields[self._SIGNATURE].data
+        start, end = self._span(self._SIGNATURE)
         # (the first byte of the content counts unused bits: X.690, 8.6)
-        return field[len(field) - content_size(len(field)) + 1 :]
+        return self._bytes(inside(self._der, start)[0] + 1, end)
 
     @property
     def signed_bytes(self) -> bytes:
@@ -115,7 +105,7 @@ class _Signed(Structure):
 
     def _told_of(self, identifier: str) -> Any:
         """The node of an extension, or None. Raises `ValueError` if there are several."""
-        found = [it for it in self._contents.extensions if it["id"] == identifier]
+        found = [it for it in self._nodes if it["id"] == identifier]
         if len(found) > 1:
             raise ValueError(f"{len(found)} extensions {found[0].get('name')}: RFC 5280, 4.2 allows for one")
         return found[0] if found else None
@@ -226,7 +216,7 @@ class _Signed(Structure):
         return self._shown()
 
 
-def _nodes(told: Any) -> list[Any]:
+def _of_values(told: Any) -> list[Any]:
     """The items of a report's node of extensions of which values are told."""
     return [it for it in told["items"] if it["id"] in _TOLD]
 
@@ -246,59 +236,58 @@ class Certificate(_Signed):
         super().__init__(der, "certificate")
 
     @cached_property
-    def _told(self) -> tuple[_Contents, _Issued]:
-        certificate = self.report()["Certificate"]
-        told = certificate["tbsCertificate"]
-        extensions = told.get("extensions", {"items": []})
-        start, end = told["subjectPublicKeyInfo"]["at"]
-        contents = _Contents(
-            version=_version(told["version"]["value"]) if "version" in told else 1,
-            subject=Name._of(told["subject"], self._der),
-            key=public_key(told["subjectPublicKeyInfo"]),
-            key_at=(start, end),
-            algorithm=signature_algorithm(certificate["signatureAlgorithm"]),
-            extensions=_nodes(extensions),
-        )
-        issued = _Issued(
-            issuer=Name._of(told["issuer"], self._der),
-            serial_number=integer(told["serialNumber"]["value"]),
-            not_before=told["validity"]["notBefore"]["value"],
-            not_after=told["validity"]["notAfter"]["value"],
-            extension_names=names_of(extensions),
-        )
-        return contents, issued
+    def _nodes(self) -> list[Any]:
+        told = self.report()["Certificate"]["tbsCertificate"]
+        return _of_values(told.get("extensions", {"items": []}))
 
     @property
-    def _contents(self) -> _Contents:
-        return self._told[0]
-
-    @property
-    def _issued(self) -> _Issued:
-        return self._told[1]
-
-    def _extension_names(self) -> Iterable[Optional[str]]:
-        return self._issued.extension_names
+    def version(self) -> int:
+        """The version: 1, 2 or 3 (RFC 5280, 4.1.2.1)."""
+        _, end = self._span("version")
+        # (the last byte is that of a number which is one less)
+        return self._der[end - 1] + 1 if end > 0 else 1
 
     @property
     def serial_number(self) -> int:
         """The number that the issuer gave it (RFC 5280, 4.1.2.2)."""
-        return self._issued.serial_number
+        return self._number
+
+    @cached_property
+    def _number(self) -> int:
+        return _values.serial_number(self.der)
+
+    @property
+    def subject(self) -> Name:
+        """The subject's name (RFC 5280, 4.1.2.6); it may be empty."""
+        return self._subject
+
+    @cached_property
+    def _subject(self) -> Name:
+        return Name._at(self.der, *self._span("subject"), _values.subject_attributes(self.der))
 
     @property
     def issuer(self) -> Name:
         """The issuer's name (RFC 5280, 4.1.2.4)."""
-        return self._issued.issuer
+        return self._issuer
+
+    @cached_property
+    def _issuer(self) -> Name:
+        return Name._at(self.der, *self._span("issuer"), _values.issuer_attributes(self.der))
+
+    @cached_property
+    def _times(self) -> tuple[tuple[int, ...], tuple[int, ...]]:
+        return _values.times(self.der)
 
     @property
     def not_before(self) -> datetime.datetime:
         """The first second at which it is valid, in UTC (RFC 5280, 4.1.2.5). Raises `ValueError` for the year 0, which `datetime`
         doesn't have."""
-        return _time(self._issued.not_before)
+        return _time(self._times[0])
 
     @property
     def not_after(self) -> datetime.datetime:
         """The last second at which it is valid, in UTC (RFC 5280, 4.1.2.5). Raises `ValueError` for the year 0."""
-        return _time(self._issued.not_after)
+        return _time(self._times[1])
 
     @cached_property
     def issuer_alternative_names(self) -> AlternativeNames:
@@ -311,9 +300,36 @@ class Certificate(_Signed):
         told = self._told_of(_AUTHORITY_KEY)
         return octets(told["keyIdentifier"]["value"]) if told is not None and "keyIdentifier" in told else None
 
+    def _list(self) -> tuple[bytes, int]:
+        """The list of extensions, and where it stands; no bytes if there is none."""
+        start, end = self._span("extensions")
+        if end == 0:
+            return b"", 0
+        # (it stands under the tag [3])
+        at, _ = inside(self._der, start)
+        return self._bytes(at, end), at
+
+    def _found_extensions(self) -> Extensions:
+        encoded, at = self._list()
+        return listed(encoded, _library.extensions("extensions", encoded), at) if encoded else Extensions()
+
+    def _names(self, identifier: str) -> AlternativeNames:
+        encoded, _ = self._list()
+        names = _NAMES[identifier]
+        places = _library.extensions("extensions", encoded) if encoded else []
+        found = [it[6] for it in places if encoded[it[2] : it[3]] == names]
+        if not found:
+            return AlternativeNames()
+        told = None
+        if len(found) == 1:
+            start, end = inside(encoded, found[0])
+            told = alternative_names_in(encoded[start:end])
+        return super()._names(identifier) if told is None else told
+
     def _summary(self) -> str:
         shown = self._shown()
-        return f"{shown} until {self._issued.not_after[:10]}" if shown else ""
+        year, month, day = self._times[1][:3]
+        return f"{shown} until {year:04}-{month:02}-{day:02}" if shown else ""
 
 
 class Request(_Signed):
@@ -326,29 +342,37 @@ class Request(_Signed):
         super().__init__(der, "request")
 
     @cached_property
-    def _contents(self) -> _Contents:
-        request = self.report()["CertificationRequest"]
-        told = request["certificationRequestInfo"]
+    def _told(self) -> _Asked:
+        told = self.report()["CertificationRequest"]["certificationRequestInfo"]
         extensions = [it for one in _requested(told) for it in one["items"]]
-        start, end = told["subjectPKInfo"]["at"]
-        return _Contents(
+        return _Asked(
             version=_version(told["version"]["value"]),
             subject=Name._of(told["subject"], self._der),
-            key=public_key(told["subjectPKInfo"]),
-            key_at=(start, end),
-            algorithm=signature_algorithm(request["signatureAlgorithm"]),
-            extensions=_nodes({"items": extensions}),
+            nodes=_of_values({"items": extensions}),
+            lists=[(one["at"][0], one["at"][1]) for one in _requested(told)],
         )
 
-    def _found_extensions(self) -> Extensions:
-        lists = _requested(self.report()["CertificationRequest"]["certificationRequestInfo"])
-        return Extensions(it for one in lists for it in self._listed(one))
+    @property
+    def _nodes(self) -> list[Any]:
+        return self._told.nodes
 
-    def _listed(self, told: Any) -> Extensions:
-        """The extensions of a list that a report's node tells of."""
-        start, end = told["at"]
+    @property
+    def version(self) -> int:
+        """The version, which is 1 (RFC 2986, 4.1)."""
+        return self._told.version
+
+    @property
+    def subject(self) -> Name:
+        """The subject's name (RFC 2986, 4.1); it may be empty."""
+        return self._told.subject
+
+    def _found_extensions(self) -> Extensions:
+        return Extensions(it for start, end in self._told.lists for it in self._listed(start, end))
+
+    def _listed(self, start: int, end: int) -> Extensions:
+        """The extensions of a list that stands there."""
         der = self._bytes(start, end)
-        return listed(der, _library.extensions("extensions", der), names_of(told), start)
+        return listed(der, _library.extensions("extensions", der), start)
 
 
 def _requested(told: Any) -> list[Any]:

@@ -1,15 +1,20 @@
-"""Keys and algorithms, as a report of the library tells them."""
+"""Keys and algorithms, as a report of the library tells them; what algorithms say is asked once for each of them."""
 
 from __future__ import annotations
 
 import base64
+import functools
 import hashlib
+from collections.abc import Callable
 from functools import cached_property
-from typing import Any, Literal, NamedTuple, Optional, Union
+from typing import Any, Literal, NamedTuple, Optional, TypeVar, Union
 
+from . import _library
 from ._armour import encoded
-from ._names import content_size, element, integer, octets
-from ._structure import Structure
+from ._names import content_size, element, octets
+from ._structure import Structure, inside
+
+_T = TypeVar("_T")
 
 PublicKind = Literal["public-key", "rsa-public-key"]
 PrivateKind = Literal["private-key", "rsa-private-key", "ec-private-key"]
@@ -51,6 +56,9 @@ _BITS = {
     "1.3.101.112": 256,
     "1.3.101.113": 456,
 }
+
+# The algorithms whose keys have a size that they or their parameters say, or that of the modulus.
+_SIZED = frozenset((_RSA, _EC, *(f"1.3.101.{number}" for number in range(110, 114))))
 
 # The curves that have no name in a report (SEC 2, 2.4.1; RFC 5639, 3), with their sizes.
 _CURVES = {
@@ -105,8 +113,29 @@ class Algorithm(NamedTuple):
         return self.name or self.identifier
 
 
-def signature_algorithm(told: Any) -> Algorithm:
-    """The algorithm that a report's node tells of."""
+class Told(NamedTuple):
+    """What is told of a key."""
+
+    algorithm: str
+    identifier: str
+    curve: Optional[str]
+    bits: Optional[int]
+
+
+# Longer algorithm identifiers than these aren't kept.
+_SHORT = 256
+
+
+def _kept(call: Callable[[bytes], _T]) -> Callable[[bytes], _T]:
+    """A call on an algorithm identifier, of which there are few: what it answers to the last ones is kept."""
+    kept = functools.lru_cache(maxsize=256)(call)
+    return lambda der: kept(der) if len(der) <= _SHORT else call(der)
+
+
+@_kept
+def signature_algorithm(der: bytes) -> Algorithm:
+    """What an `AlgorithmIdentifier` tells of a signature."""
+    told = _library.report("algorithm", der, False)["AlgorithmIdentifier"]
     found = told["algorithm"]["value"]
     digest = _DIGESTS.get(found["id"])
     if found["id"] == _PSS:
@@ -116,13 +145,35 @@ def signature_algorithm(told: Any) -> Algorithm:
     return Algorithm(found["id"], found.get("name"), digest)
 
 
-class Told(NamedTuple):
-    """What is told of a key."""
+@_kept
+def _key_algorithm(der: bytes) -> Optional[Told]:
+    """What an `AlgorithmIdentifier` tells of its keys, but for the size of one that says it itself; None if it can't be read
+    alone."""
+    told = _library.report("algorithm", der, False).get("AlgorithmIdentifier")
+    return None if told is None else _read_key(told, None)
 
-    algorithm: str
-    identifier: str
-    curve: Optional[str]
-    bits: Optional[int]
+
+def _public_key(der: bytes) -> Optional[Told]:
+    """What a `SubjectPublicKeyInfo` tells, by its algorithm; None where the report is asked."""
+    start, _ = inside(der, 0)
+    _, end = inside(der, start)
+    told = _key_algorithm(der[start:end])
+    if told is None or told.identifier not in _SIZED:
+        return None
+    if told.identifier != _RSA:
+        return told
+    # (the first byte of a BIT STRING counts unused bits: X.690, 8.6)
+    at, _ = inside(der, end)
+    return told._replace(bits=_rsa_numbers(der, at + 1)[1])
+
+
+def _rsa_numbers(der: bytes, start: int) -> tuple[int, int, int]:
+    """The modulus, its size in bits and the exponent of an `RSAPublicKey` (RFC 8017, A.1.1)."""
+    at, _ = inside(der, start)
+    modulus_at, modulus_end = inside(der, at)
+    at, end = inside(der, modulus_end)
+    modulus = int.from_bytes(der[modulus_at:modulus_end], "big", signed=True)
+    return modulus, modulus.bit_length(), int.from_bytes(der[at:end], "big", signed=True)
 
 
 def _read_key(told: Any, own: Optional[int]) -> Told:
@@ -144,7 +195,7 @@ def _curve(told: Any) -> tuple[Optional[str], Optional[int]]:
     return told.get("name") or name, size
 
 
-def public_key(told: Any) -> Told:
+def _reported(told: Any) -> Told:
     """What a report's node of a `SubjectPublicKeyInfo` tells of the key."""
     key = told["subjectPublicKey"]
     return _read_key(told["algorithm"], key["modulus"]["bits"] if "modulus" in key else key.get("bits"))
@@ -201,24 +252,19 @@ class PublicKey(_AnyKey):
     @cached_property
     def _rsa(self) -> Optional[tuple[int, int, int]]:
         """The modulus, its size in bits and the exponent of an RSA key."""
-        report = self.report()
-        told = report["RSAPublicKey"] if self._kind == "rsa-public-key" else report["SubjectPublicKeyInfo"]["subjectPublicKey"]
-        if "modulus" not in told:
+        if self._kind == "rsa-public-key":
+            return _rsa_numbers(self.der, 0)
+        if self._key.identifier != _RSA:
             return None
-        modulus, exponent = told["modulus"], told["publicExponent"]
-        return integer(modulus["value"]), modulus["bits"], integer(exponent["value"])
+        # (behind the algorithm; the first byte of a BIT STRING counts unused bits: X.690, 8.6)
+        der = self.der
+        _, end = inside(der, inside(der, 0)[0])
+        return _rsa_numbers(der, inside(der, end)[0] + 1)
 
     def _told(self) -> Told:
         if self._kind == "rsa-public-key":
             return Told("RSA", _RSA, None, self._rsa[1] if self._rsa else None)
-        return public_key(self.report()["SubjectPublicKeyInfo"])
-
-    @classmethod
-    def _of(cls, der: bytes, told: Told) -> PublicKey:
-        """The key in a certificate or a request, of which this has been told."""
-        found = cls(der)
-        found.__dict__["_key"] = told
-        return found
+        return _public_key(self.der) or _reported(self.report()["SubjectPublicKeyInfo"])
 
     @property
     def modulus(self) -> Optional[int]:

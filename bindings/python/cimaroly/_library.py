@@ -1,4 +1,4 @@
-"""The calls of the shared object, over memory that each thread keeps for them."""
+"""The calls of the shared object: over memory that each thread keeps for them, or over none where they need none."""
 
 from __future__ import annotations
 
@@ -7,9 +7,10 @@ import json
 import mmap
 import os
 import platform
+import struct
 import threading
 from collections.abc import Callable, Iterator
-from ctypes import POINTER, byref, c_bool, c_size_t, c_uint32, c_uint64, c_void_p
+from ctypes import byref, c_bool, c_size_t, c_uint32, c_uint64, c_void_p
 from typing import Any, Optional
 
 from ._kinds import KINDS, Kind, Refused
@@ -30,6 +31,8 @@ _NUMBERS = {kind: number for number, kind in enumerate(KINDS, 1)}
 _KEPT = 1 << 20
 _ITEMS = 64
 _BYTES = 8192
+# The words of room before its items: memory, and a count.
+_FRONT = 3
 # More bytes than a report of what is refused has.
 _SHORT = 512
 
@@ -38,12 +41,6 @@ class Span(ctypes.Structure):
     """`struct cimaroly_span`."""
 
     _fields_ = [("start", c_size_t), ("end", c_size_t)]
-
-
-class Verdict(ctypes.Structure):
-    """`struct cimaroly_verdict`."""
-
-    _fields_ = [("counts", c_size_t * 10), ("headers", c_size_t), ("error", c_size_t), ("at", c_size_t)]
 
 
 class Place(ctypes.Structure):
@@ -56,58 +53,6 @@ class Signed(ctypes.Structure):
     """`struct cimaroly_signed`."""
 
     _fields_ = [("part", Span), ("inside", c_size_t * 10), ("outside", c_size_t * 10)]
-
-
-class Extension(ctypes.Structure):
-    """`struct cimaroly_extension`."""
-
-    _fields_ = [("whole", Span), ("extn_id", Span), ("critical", Span), ("extn_value", Span)]
-
-
-class Certificate(ctypes.Structure):
-    """`struct cimaroly_certificate`."""
-
-    _fields_ = [
-        ("tbs_certificate", Span),
-        ("version", Span),
-        ("serial_number", Span),
-        ("signature", Span),
-        ("issuer", Span),
-        ("validity", Span),
-        ("subject", Span),
-        ("subject_public_key_info", Span),
-        ("issuer_unique_id", Span),
-        ("subject_unique_id", Span),
-        ("extensions", Span),
-        ("signature_algorithm", Span),
-        ("signature_value", Span),
-    ]
-
-
-class Request(ctypes.Structure):
-    """`struct cimaroly_request`."""
-
-    _fields_ = [
-        ("certification_request_info", Span),
-        ("version", Span),
-        ("subject", Span),
-        ("subject_public_key_info", Span),
-        ("attributes", Span),
-        ("signature_algorithm", Span),
-        ("signature", Span),
-    ]
-
-
-class PrivateKey(ctypes.Structure):
-    """`struct cimaroly_private_key`."""
-
-    _fields_ = [
-        ("version", Span),
-        ("private_key_algorithm", Span),
-        ("private_key", Span),
-        ("skipped", Span),
-        ("public_key", Span),
-    ]
 
 
 class PemBlock(ctypes.Structure):
@@ -130,14 +75,37 @@ class Memory(ctypes.Structure):
     _fields_ = [("at", c_void_p), ("size", c_size_t)]
 
 
-# The kinds that have fields, with their call and its structure.
-_FIELDS: dict[Kind, tuple[str, type[ctypes.Structure]]] = {
-    "certificate": ("cimaroly_certificate_fields", Certificate),
-    "request": ("cimaroly_request_fields", Request),
-    "private-key": ("cimaroly_private_key_fields", PrivateKey),
+# The kinds that have fields, with the names of these in the order of their structure in the header.
+FIELDS: dict[Kind, tuple[str, ...]] = {
+    "certificate": (
+        "tbs_certificate",
+        "version",
+        "serial_number",
+        "signature",
+        "issuer",
+        "validity",
+        "subject",
+        "subject_public_key_info",
+        "issuer_unique_id",
+        "subject_unique_id",
+        "extensions",
+        "signature_algorithm",
+        "signature_value",
+    ),
+    "request": (
+        "certification_request_info",
+        "version",
+        "subject",
+        "subject_public_key_info",
+        "attributes",
+        "signature_algorithm",
+        "signature",
+    ),
+    "private-key": ("version", "private_key_algorithm", "private_key", "skipped", "public_key"),
 }
-# The calls that are for one kind, and aren't told which.
-_OF_ONE_KIND = frozenset(name for name, _ in _FIELDS.values())
+# The numbers of `struct cimaroly_verdict`, of `struct cimaroly_extension` and of the structures of fields.
+_VERDICT, _EXTENSION = struct.Struct("@13N"), struct.Struct("@8N")
+_SPANS = {kind: struct.Struct(f"@{2 * len(names)}N") for kind, names in FIELDS.items()}
 
 
 def _folder() -> str:
@@ -159,20 +127,28 @@ def _load() -> dict[str, Callable[..., int]]:
     except OSError as error:
         builds = "there are builds for Linux on x86-64 and aarch64, and the WebAssembly module in web/ runs anywhere"
         raise ImportError(f"the shared object of cimaroly can't be loaded ({builds}): {error}", path=path) from error
-    given = (POINTER(Memory), c_uint32, c_void_p, c_size_t)
-    buffer = (c_void_p, c_size_t, POINTER(c_size_t))
+    given, buffer = (c_void_p, c_size_t), (c_void_p, c_size_t, c_void_p)
+    of_a_kind = (c_void_p, c_uint32, *given)
     calls: dict[str, tuple[Any, ...]] = {
-        "cimaroly_check": (*given, POINTER(Verdict)),
-        "cimaroly_encode": (*given, *buffer),
-        "cimaroly_places": (*given, *buffer),
-        "cimaroly_signed_part": (*given, POINTER(Signed)),
-        "cimaroly_extensions": (*given, *buffer),
-        "cimaroly_report": (*given, c_bool, *buffer),
-        "cimaroly_pem_next": (c_void_p, c_size_t, c_size_t, c_uint64, POINTER(PemBlock)),
-        "cimaroly_pem_decode": (c_void_p, c_size_t, *buffer),
+        "cimaroly_check": (*of_a_kind, c_void_p),
+        "cimaroly_encode": (*of_a_kind, *buffer),
+        "cimaroly_places": (*of_a_kind, *buffer),
+        "cimaroly_signed_part": (*of_a_kind, c_void_p),
+        "cimaroly_extensions": (*of_a_kind, *buffer),
+        "cimaroly_report": (*of_a_kind, c_bool, *buffer),
+        "cimaroly_certificate_fields": (c_void_p, *given, c_void_p),
+        "cimaroly_request_fields": (c_void_p, *given, c_void_p),
+        "cimaroly_private_key_fields": (c_void_p, *given, c_void_p),
+        "cimaroly_validity": (*given, c_void_p, c_void_p),
+        "cimaroly_serial_number": (*given, c_void_p),
+        "cimaroly_subject_attributes": (*given, *buffer),
+        "cimaroly_issuer_attributes": (*given, *buffer),
+        "cimaroly_general_names": (*given, *buffer),
+        "cimaroly_oid_text": (*given, *buffer),
+        "cimaroly_oid_name": (*given, *buffer),
+        "cimaroly_pem_next": (*given, c_size_t, c_uint64, c_void_p),
+        "cimaroly_pem_decode": (*given, *buffer),
     }
-    for call, fields in _FIELDS.values():
-        calls[call] = (POINTER(Memory), c_void_p, c_size_t, POINTER(fields))
     loaded: dict[str, Callable[..., int]] = {}
     for name, arguments in calls.items():
         function = getattr(library, name)
@@ -181,7 +157,58 @@ def _load() -> dict[str, Callable[..., int]]:
     return loaded
 
 
-_CALLS = _load()
+CALLS = _load()
+
+
+class Room:
+    """Room for what a call answers, behind a `struct cimaroly_memory` of no bytes, for calls that need none.
+
+    A call takes some that is free, and gives it back when the answer has been taken out: so neither another thread nor the
+    handler of a signal writes to it meanwhile.
+    """
+
+    __slots__ = ("size", "bytes", "memory", "count", "items")
+
+    def __init__(self, size: int = _BYTES) -> None:
+        words = (c_uint64 * (_FRONT + size // 8 + 1))()
+        self.size = size
+        self.bytes = memoryview(words).cast("B")
+        self.memory = ctypes.addressof(words)
+        self.count = self.memory + ctypes.sizeof(Memory)
+        self.items = self.memory + 8 * _FRONT
+
+    def item(self, numbers: struct.Struct) -> tuple[int, ...]:
+        """The numbers of the first item."""
+        return numbers.unpack_from(self.bytes, 8 * _FRONT)
+
+    def listed(self, numbers: struct.Struct, count: int) -> list[tuple[int, ...]]:
+        """The numbers of so many items."""
+        return list(numbers.iter_unpack(self.front(count * numbers.size)))
+
+    def front(self, size: int) -> memoryview:
+        """So many bytes of the items."""
+        return self.bytes[8 * _FRONT : 8 * _FRONT + size]
+
+    def told(self) -> int:
+        """The count that a call tells."""
+        return int(c_size_t.from_address(self.count).value)
+
+
+_FREE: list[Room] = []
+
+
+def taken() -> Room:
+    """Room that nobody else has until it is given back."""
+    try:
+        return _FREE.pop()
+    except IndexError:
+        return Room()
+
+
+def given_back(room: Room) -> None:
+    """Lets others have it, unless it is larger than others need."""
+    if room.size == _BYTES:
+        _FREE.append(room)
 
 
 class _Lent:
@@ -222,7 +249,7 @@ def _lent(size: int) -> _Lent:
     return lent
 
 
-def _input(der: Held) -> Any:
+def input_at(der: Held) -> Any:
     """The place of an input, as calls take it."""
     if isinstance(der, Secret):
         return byref(ctypes.c_char.from_buffer(der)) if der else b""
@@ -231,11 +258,10 @@ def _input(der: Held) -> Any:
 
 def _asked(name: str, kind: Kind, der: Held, *arguments: Any) -> int:
     """The status of a call on an input of a kind, which is given more memory until that is enough."""
-    call, size = _CALLS[name], 16 * len(der) + 16384
-    numbers = () if name in _OF_ONE_KIND else (_NUMBERS[kind],)
+    call, size = CALLS[name], 16 * len(der) + 16384
     while True:
         lent = _lent(size)
-        status = call(byref(lent.of_library), *numbers, _input(der), len(der), *arguments)
+        status = call(byref(lent.of_library), _NUMBERS[kind], input_at(der), len(der), *arguments)
         if kind in PRIVATE:
             lent.overwrite()
         if status != OUT_OF_MEMORY:
@@ -243,12 +269,27 @@ def _asked(name: str, kind: Kind, der: Held, *arguments: Any) -> int:
         size = 4 * lent.size
 
 
+def items(name: str, numbers: struct.Struct, der: Held, kind: Optional[Kind] = None) -> tuple[int, list[tuple[int, ...]]]:
+    """The status of a call that needs no memory, and the items that it writes. A kind is given to those that ask for one."""
+    room, status = taken(), BUFFER_TOO_SHORT
+    while True:
+        front = () if kind is None else (room.memory, _NUMBERS[kind])
+        status = CALLS[name](*front, input_at(der), len(der), room.items, room.size // numbers.size, room.count)
+        count = room.told()
+        if status != BUFFER_TOO_SHORT:
+            break
+        room = Room(count * numbers.size)
+    found = room.listed(numbers, count) if status == OK else []
+    given_back(room)
+    return status, found
+
+
 def pem_blocks(text: Held) -> Iterator[tuple[int, PemBlock]]:
     """What the search for PEM blocks answers, one behind the other, and where each block stands."""
     at = line = 0
     while True:
         block = PemBlock()
-        answer = _CALLS["cimaroly_pem_next"](_input(text), len(text), at, line, byref(block))
+        answer = CALLS["cimaroly_pem_next"](input_at(text), len(text), at, line, byref(block))
         if answer == PEM_NO_MORE:
             return
         yield answer, block
@@ -258,17 +299,24 @@ def pem_blocks(text: Held) -> Iterator[tuple[int, PemBlock]]:
 def pem_decoded(symbols: Held, room: int) -> Optional[Secret]:
     """What base64 text stands for, or None if it is none."""
     out, size = Secret(room), c_size_t()
-    if _CALLS["cimaroly_pem_decode"](_input(symbols), len(symbols), _input(out), room, byref(size)) != OK:
+    if CALLS["cimaroly_pem_decode"](input_at(symbols), len(symbols), input_at(out), room, byref(size)) != OK:
         return None
     return out if size.value == room else Secret(memoryview(out)[: size.value])
 
 
-def check(kind: Kind, der: Held) -> Verdict:
-    """What a check finds. Raises `Refused`."""
-    verdict = Verdict()
-    if _asked("cimaroly_check", kind, der, byref(verdict)) == REFUSED:
-        raise Refused(kind, verdict.error, verdict.at, _refused_in(kind, der))
-    return verdict
+_CHECK = CALLS["cimaroly_check"]
+
+
+def check(kind: Kind, der: Held) -> tuple[int, ...]:
+    """What a check finds: how often there is each of the ten deviations, and how many headers were decoded. Raises
+    `Refused`."""
+    room = taken()
+    status = _CHECK(room.memory, _NUMBERS[kind], der if type(der) is bytes else input_at(der), len(der), room.items)
+    found = room.item(_VERDICT)
+    given_back(room)
+    if status == REFUSED:
+        raise Refused(kind, found[11], found[12], _refused_in(kind, der))
+    return found[:11]
 
 
 def _refused_in(kind: Kind, der: Held) -> Optional[str]:
@@ -328,9 +376,11 @@ def places(kind: Kind, der: Held) -> list[Place]:
     return _items("cimaroly_places", kind, der, Place)
 
 
-def extensions(kind: Kind, der: Held) -> list[Extension]:
-    """Where each extension stands."""
-    return _items("cimaroly_extensions", kind, der, Extension)
+def extensions(kind: Kind, der: Held) -> list[tuple[int, ...]]:
+    """Where each extension stands: start and end of it, of `extnID`, of `critical` and of `extnValue`."""
+    status, found = items("cimaroly_extensions", _EXTENSION, der, kind)
+    _is_ok(status, kind, der)
+    return found
 
 
 def signed_part(kind: Kind, der: Held) -> Signed:
@@ -340,12 +390,13 @@ def signed_part(kind: Kind, der: Held) -> Signed:
     return part
 
 
-def fields(kind: Kind, der: Held) -> dict[str, Span]:
-    """Where each field stands that is there."""
-    if kind not in _FIELDS:
+def fields(kind: Kind, der: Held) -> tuple[int, ...]:
+    """Start and end of each field, in the order of `FIELDS`; 0 and 0 of one that isn't there."""
+    if kind not in FIELDS:
         raise ValueError(f"not for a {kind}")
-    name, structure = _FIELDS[kind]
-    found = structure()
-    _is_ok(_asked(name, kind, der, byref(found)), kind, der)
-    spans = {field[0]: getattr(found, field[0]) for field in structure._fields_}
-    return {field: span for field, span in spans.items() if span.end > 0}
+    room = taken()
+    status = CALLS[f"cimaroly_{kind.replace('-', '_')}_fields"](room.memory, input_at(der), len(der), room.items)
+    found = room.item(_SPANS[kind])
+    given_back(room)
+    _is_ok(status, kind, der)
+    return found

@@ -1,6 +1,7 @@
-"""Distinguished names and general names, as a report of the library tells them.
+"""Distinguished names and general names, of the places that the library tells, or else of its report.
 
-Bytes are only sliced where the report says that something stands; how long what stands inside is follows from its size.
+Bytes are only sliced where the library says that something stands; how long what stands inside is follows from its size.
+The report says what a value is that isn't plain text.
 """
 
 from __future__ import annotations
@@ -8,13 +9,14 @@ from __future__ import annotations
 import functools
 import ipaddress
 import re
-from collections.abc import Iterator
+from collections.abc import Iterable, Iterator
 from dataclasses import dataclass, field
 from typing import Any, NamedTuple, Optional, Union
 
-from . import _library
+from . import _library, _values
 from ._pem import Data, viewed
 from ._secret import Held
+from ._structure import inside
 
 Address = Union[ipaddress.IPv4Address, ipaddress.IPv6Address]
 """An address of the internet protocol."""
@@ -114,6 +116,31 @@ class Attribute:
         return self.rfc4514()
 
 
+# The tags of strings whose characters are ASCII or UTF-8 (X.680, 41): UTF8String, NumericString, PrintableString, IA5String
+# and VisibleString.
+_UTF8 = 12
+_STRINGS = frozenset((_UTF8, 18, 19, 22, 26))
+
+
+def _plain(tag: int, content: bytes) -> Optional[str]:
+    """The text of a string, or None where the report is asked what its value is."""
+    if tag not in _STRINGS or not (tag == _UTF8 or content.isascii()):
+        return None
+    try:
+        return content.decode()
+    except UnicodeDecodeError:
+        return None
+
+
+def _attribute_at(der: bytes, oid: int, oid_end: int, tag: int, at: int, end: int) -> Optional[Attribute]:
+    """The attribute that stands at these places; None where the report is asked what its value is."""
+    value = _plain(tag, der[at:end])
+    if value is None:
+        return None
+    identifier, name = _values.identifier(der[oid:oid_end])
+    return Attribute(identifier, name, value, der[oid_end:end])
+
+
 def _attribute(told: Any, der: Held) -> Attribute:
     start, end = told["at"]
     size = content_size(end - start) - _identifier_size(told["id"])
@@ -140,6 +167,26 @@ class Name:
         data = bytes(viewed(der))
         _library.check("name", data)
         self._tell(_library.report("name", data, False)["Name"], data)
+
+    @classmethod
+    def _at(cls, der: bytes, start: int, end: int, places: Iterable[tuple[int, ...]]) -> Name:
+        """The name that stands from one byte to another, of attributes at these places."""
+        content, last = der[inside(der, start)[0] : end], end
+        sets: list[list[Attribute]] = []
+        for number, oid, oid_end, tag, at, last in places:
+            found = _attribute_at(der, oid, oid_end, tag, at, last)
+            if found is None:
+                return cls(element(0x30, content))
+            # (a set may be empty)
+            while number >= len(sets):
+                sets.append([])
+            sets[number].append(found)
+        if last != end or (content and not sets):
+            # (and so may the last ones)
+            return cls(element(0x30, content))
+        name = cls.__new__(cls)
+        name._content, name._sets = content, tuple(map(tuple, sets))
+        return name
 
     @classmethod
     def _of(cls, told: Any, der: Held) -> Name:
@@ -314,3 +361,37 @@ def _general_name(told: Any, der: Held) -> GeneralName:
 def alternative_names(told: Any, der: Held) -> AlternativeNames:
     """The general names that are the items of a report's node."""
     return AlternativeNames(_general_name(it, der) for it in told["items"])
+
+
+# The forms of general names that are texts, by their tags in DER, and the tags of two others.
+_TEXTS = {0x81: "rfc822Name", 0x82: "dNSName", 0x86: "uniformResourceIdentifier"}
+_IP_ADDRESS, _REGISTERED_ID = 0x87, 0x88
+
+
+def _address_of(content: bytes) -> Union[Address, bytes]:
+    """An address by its bytes, or these if there are neither 4 nor 16."""
+    if len(content) == 4:
+        return ipaddress.IPv4Address(content)
+    return ipaddress.IPv6Address(content) if len(content) == 16 else content
+
+
+def _general_name_at(tag: int, content: bytes) -> Optional[GeneralName]:
+    """The general name under a tag; None where the report is asked what it is."""
+    if tag in _TEXTS:
+        return GeneralName(_TEXTS[tag], content.decode("ascii")) if content.isascii() else None
+    if tag == _IP_ADDRESS:
+        return GeneralName("iPAddress", _address_of(content))
+    if tag == _REGISTERED_ID:
+        return GeneralName("registeredID", _values.identifier(content)[0])
+    return None
+
+
+def alternative_names_in(encoded: bytes) -> Optional[AlternativeNames]:
+    """The general names of a list; None where the report is asked what one of them is."""
+    names = []
+    for tag, start, end in _values.general_names(encoded) or ((0, 0, 0),):
+        name = _general_name_at(tag, encoded[start:end])
+        if name is None:
+            return None
+        names.append(name)
+    return AlternativeNames(names)

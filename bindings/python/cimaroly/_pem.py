@@ -118,7 +118,7 @@ def is_pem(data: Union[bytes, memoryview]) -> bool:
     """
     if bytes(data[:2]) in _UTF_16:
         raise PemError("UTF-16 text: PEM is read as UTF-8 or ASCII")
-    return not _is_one_element(data) and next(pem_blocks_in(_text(data)), None) is not None
+    return not is_one_element(data) and next(pem_blocks_in(_text(data)), None) is not None
 
 
 def _text(data: Union[bytes, memoryview]) -> Held:
@@ -156,7 +156,7 @@ def pem_blocks(data: Data) -> Iterator[Block]:
     return (Block(it.label, it.kind, it.decoded(), it.line) for it in raw_blocks(viewed(data)))
 
 
-def _is_one_element(data: Union[bytes, memoryview]) -> bool:
+def is_one_element(data: Union[bytes, memoryview]) -> bool:
     """Whether the data is a SEQUENCE, by its tag and its length."""
     if len(data) < 2 or data[0] != 0x30:
         return False

@@ -9,7 +9,7 @@ from typing import Any, Literal, Optional, Union, overload
 from ._certificates import Certificate, Request
 from ._keys import PrivateKey, PrivateKind, PublicKey, PublicKind
 from ._kinds import KINDS, Kind, Refused
-from ._pem import Data, PemError, RawBlock, bare_base64, escaped, is_pem, raw_blocks, viewed
+from ._pem import Data, PemError, RawBlock, bare_base64, escaped, is_one_element, is_pem, raw_blocks, viewed
 from ._secret import PRIVATE, Held, Secret
 from ._structure import Structure, Verdict, checked
 
@@ -69,6 +69,8 @@ def _bare(view: memoryview, kind: Kind) -> Optional[Held]:
 def _der(data: Data, kind: Kind) -> Held:
     """DER as it is, or what is in the first block that the kind fits, or in bare base64."""
     _known(kind)
+    if isinstance(data, bytes) and is_one_element(data):
+        return data
     view = viewed(data)
     if not (isinstance(data, str) or is_pem(view)):
         return _bare(view, kind) or (data if isinstance(data, bytes) else Secret(view))
@@ -125,9 +127,9 @@ def read_each(data: Data, kind: Optional[Kind] = None) -> Iterator[Outcome]:
     if is_pem(view) or (isinstance(data, str) and next(raw_blocks(view), None) is not None):
         return (_outcome(it) for it in raw_blocks(view) if kind is None or it.kind == kind)
     bare = _bare(view, kind or "certificate")
-    if bare is None and isinstance(data, str):
-        return iter(())
-    return iter((_outcome_of_der(data if bare is None else bare, kind or "certificate"),))
+    if bare is not None:
+        return iter((_outcome_of_der(bare, kind or "certificate"),))
+    return iter(()) if isinstance(data, str) else iter((_outcome_of_der(data, kind or "certificate"),))
 
 
 def _outcome(block: RawBlock) -> Outcome:

@@ -2,11 +2,11 @@
 
 from __future__ import annotations
 
-from collections.abc import Iterable, Mapping
+from collections.abc import Iterable, Mapping, Sequence
 from functools import cached_property
 from typing import Any, NamedTuple, Optional, SupportsIndex, Union, overload
 
-from . import _library
+from . import _library, _values
 from ._kinds import Deviation, Kind
 from ._pem import viewed
 from ._secret import PRIVATE, Held, Secret, measured
@@ -120,46 +120,35 @@ class SignedPart(NamedTuple):
     """How often each deviation occurs outside of them."""
 
 
-def _counted(counts: Any) -> dict[Deviation, int]:
-    found = counts[:]
-    return {Deviation(number): count for number, count in enumerate(found, 1) if count} if any(found) else {}
+def _counted(counts: Sequence[int]) -> dict[Deviation, int]:
+    return {Deviation(number): count for number, count in enumerate(counts, 1) if count} if any(counts) else {}
 
 
-def _identifier(content: bytes) -> str:
-    """An object identifier with dots (X.690, 8.19)."""
-    arcs, arc = [], 0
-    for byte in content:
-        arc = arc << 7 | byte & 127
-        if byte < 128:
-            arcs.append(arc)
-            arc = 0
-    first = min(arcs[0] // 40, 2)
-    return ".".join(map(str, (first, arcs[0] - 40 * first, *arcs[1:])))
+def inside(der: Held, start: int) -> tuple[int, int]:
+    """Where the content stands of an element that was read (X.690, 8.1.3)."""
+    size = der[start + 1]
+    at = start + 2
+    if size < 128:
+        return at, at + size
+    digits = at + size - 128
+    return digits, digits + int.from_bytes(der[at:digits], "big")
 
 
-def _content(der: Held, span: Any) -> bytes:
-    """The content of an element that was read."""
-    size = der[span.start + 1]
-    header = 2 if size < 128 else size - 126
-    return bytes(memoryview(der)[span.start + header : span.end])
-
-
-def listed(der: Held, spans: Iterable[_library.Extension], names: Iterable[Optional[str]], offset: int = 0) -> Extensions:
+def listed(der: Held, places: Iterable[tuple[int, ...]], offset: int = 0) -> Extensions:
     """The extensions that stand at these places of bytes, which stand at an offset of the structure."""
 
-    def extension(it: _library.Extension, name: Optional[str]) -> Extension:
-        critical = it.critical.end > 0 and der[it.critical.end - 1] != 0
-        identifier, value = _identifier(_content(der, it.extn_id)), _content(der, it.extn_value)
-        found = Extension(identifier, critical, value, it.whole.start + offset, it.whole.end + offset)
+    def content(start: int) -> bytes:
+        at, end = inside(der, start)
+        return bytes(der[at:end])
+
+    def extension(start: int, end: int, oid: int, _1: int, _2: int, critical_end: int, value: int, _3: int) -> Extension:
+        identifier, name = _values.identifier(content(oid))
+        critical = critical_end > 0 and der[critical_end - 1] != 0
+        found = Extension(identifier, critical, content(value), start + offset, end + offset)
         found.name = name
         return found
 
-    return Extensions(map(extension, spans, names))
-
-
-def names_of(told: Any) -> list[Optional[str]]:
-    """The names of the items of a report's node."""
-    return [it.get("name") for it in told["items"]]
+    return Extensions(extension(*it) for it in places)
 
 
 def checked(der: Held, kind: Kind) -> Verdict:
@@ -171,7 +160,7 @@ def checked(der: Held, kind: Kind) -> Verdict:
         if isinstance(der, Secret):
             der.overwrite()
         raise
-    return Verdict(_counted(found.counts), found.headers)
+    return Verdict(_counted(found[:10]), found[10])
 
 
 class Structure:
@@ -232,8 +221,19 @@ class Structure:
         return self._found_fields()
 
     def _found_fields(self) -> Mapping[str, Field]:
-        found = _library.fields(self._kind, self._der)
-        return {name: Field(it.start, it.end, self._bytes(it.start, it.end)) for name, it in found.items()}
+        spans = self._spans
+        each = zip(_library.FIELDS[self._kind], spans[::2], spans[1::2])
+        return {name: Field(start, end, self._bytes(start, end)) for name, start, end in each if end > 0}
+
+    @cached_property
+    def _spans(self) -> tuple[int, ...]:
+        """Start and end of each field, in the order of the library."""
+        return _library.fields(self._kind, self._der)
+
+    def _span(self, name: str) -> tuple[int, int]:
+        """Start and end of a field; 0 and 0 if it isn't there."""
+        at = 2 * _library.FIELDS[self._kind].index(name)
+        return self._spans[at], self._spans[at + 1]
 
     def _bytes(self, start: int, end: int) -> bytes:
         return bytes(memoryview(self._der)[start:end])
@@ -244,22 +244,14 @@ class Structure:
         return self._found_extensions()
 
     def _found_extensions(self) -> Extensions:
-        spans = _library.extensions(self._kind, self._der)
-        return listed(self._der, spans, self._extension_names() if spans else ())
-
-    def _extension_names(self) -> Iterable[Optional[str]]:
-        """The library's name for each extension."""
-        told = self.report()
-        if self._kind == "certificate":
-            told = told["Certificate"]["tbsCertificate"]
-        return names_of(told.get("extensions") or told.get("Extensions"))
+        return listed(self._der, _library.extensions(self._kind, self._der))
 
     @cached_property
     def signed_part(self) -> SignedPart:
         """What the signature of a certificate or a request covers. Raises `ValueError` for another kind."""
         found = _library.signed_part(self._kind, self._der)
         start, end = found.part.start, found.part.end
-        return SignedPart(start, end, self._bytes(start, end), _counted(found.inside), _counted(found.outside))
+        return SignedPart(start, end, self._bytes(start, end), _counted(found.inside[:]), _counted(found.outside[:]))
 
     def encode(self) -> bytes:
         """The DER encoding: if there are no deviations, the bytes that were read."""

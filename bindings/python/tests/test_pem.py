@@ -52,7 +52,8 @@ class Table(unittest.TestCase):
 class Inputs(unittest.TestCase):
     def test_bare_base64(self) -> None:
         text = b"".join((TABLE.parents[2] / "tools/tests/data/certificate_ec.pem").read_bytes().splitlines(True)[1:-1])
-        for data in (text, text.decode(), bytearray(b"\n  " + text.replace(b"\n", b"\r\n"))):
+        forms: list[cimaroly.Data] = [text, text.decode(), bytearray(b"\n  " + text.replace(b"\n", b"\r\n"))]
+        for data in forms:
             self.assertTrue(cimaroly.check(data).is_der)
             (found,) = cimaroly.read_each(data)
             self.assertEqual((found.line, found.kind), (None, "certificate"))

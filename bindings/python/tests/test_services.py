@@ -13,6 +13,7 @@ try:
     from cryptography import x509
     from cryptography.hazmat.primitives.asymmetric import ed25519
     from cryptography.hazmat.primitives.serialization import Encoding
+    from cryptography.x509.oid import AuthorityInformationAccessOID
 except ImportError:
     x509 = None  # type: ignore[assignment]
 
@@ -85,7 +86,7 @@ def certificate(key: Any, chance: random.Random) -> bytes:
     first = datetime.datetime(2026, 1, 1)
     name = x509.Name([])
     built = x509.CertificateBuilder(name, name, key.public_key(), 1).not_valid_before(first).not_valid_after(first)
-    methods = (x509.AuthorityInformationAccessOID.OCSP, x509.AuthorityInformationAccessOID.CA_ISSUERS)
+    methods = (AuthorityInformationAccessOID.OCSP, AuthorityInformationAccessOID.CA_ISSUERS)
     services = [x509.AccessDescription(chance.choice(methods), any_name(chance)) for _ in range(chance.randint(0, 4))]
     if services:
         built = built.add_extension(x509.AuthorityInformationAccess(services), False)
@@ -137,7 +138,7 @@ class Compared(unittest.TestCase):
 
     def test_requests(self) -> None:
         key, place = ed25519.Ed25519PrivateKey.generate(), x509.UniformResourceIdentifier("http://ocsp.example/")
-        services = x509.AuthorityInformationAccess([x509.AccessDescription(x509.AuthorityInformationAccessOID.OCSP, place)])
+        services = x509.AuthorityInformationAccess([x509.AccessDescription(AuthorityInformationAccessOID.OCSP, place)])
         request = x509.CertificateSigningRequestBuilder(x509.Name([])).add_extension(services, False).sign(key, None)
         mine = cimaroly.Request(request.public_bytes(Encoding.DER))
         self.assertEqual(mine.ocsp_addresses, ("http://ocsp.example/",))

@@ -1,0 +1,79 @@
+# SPDX-License-Identifier: MIT OR Apache-2.0
+"""Values of certificates, and object identifiers, by calls of the library that take no memory."""
+
+from __future__ import annotations
+
+import functools
+import struct
+from collections.abc import Callable
+from typing import Optional
+
+from ._library import BUFFER_TOO_SHORT, CALLS, OK, Room, given_back, items, taken
+
+# The numbers of two `struct cimaroly_time`, of `cimaroly_span`, `cimaroly_attribute` and `cimaroly_general_name`.
+_TIMES, _SPAN = struct.Struct("@qH5BxqH5Bx"), struct.Struct("@2N")
+_ATTRIBUTE, _GENERAL_NAME = struct.Struct("@3NB2N"), struct.Struct("@B2N")
+_ONE_TIME = _TIMES.size // 2
+
+# Longer identifiers than these aren't kept.
+_SHORT = 64
+
+Numbers = list[tuple[int, ...]]
+
+
+def times(certificate: bytes) -> tuple[tuple[int, ...], tuple[int, ...]]:
+    """Between which times a certificate is valid: of each the year, the month, the day, the hour, the minute, the second."""
+    room = taken()
+    CALLS["cimaroly_validity"](certificate, len(certificate), room.items, room.items + _ONE_TIME)
+    found = room.item(_TIMES)
+    given_back(room)
+    return found[1:7], found[8:14]
+
+
+def serial_number(certificate: bytes) -> int:
+    """The serial number of a certificate."""
+    room = taken()
+    CALLS["cimaroly_serial_number"](certificate, len(certificate), room.items)
+    start, end = room.item(_SPAN)
+    given_back(room)
+    return int.from_bytes(certificate[start:end], "big", signed=True)
+
+
+def subject_attributes(certificate: bytes) -> Numbers:
+    """Where the attributes of the subject of a certificate stand: of each the number of its set, start and end of the
+    identifier, the tag of the value, and start and end of what stands in that."""
+    return items("cimaroly_subject_attributes", _ATTRIBUTE, certificate)[1]
+
+
+def issuer_attributes(certificate: bytes) -> Numbers:
+    """The same of the issuer."""
+    return items("cimaroly_issuer_attributes", _ATTRIBUTE, certificate)[1]
+
+
+def general_names(encoded: bytes) -> Optional[Numbers]:
+    """Where the general names of a list stand: of each the tag, and start and end of what stands under it. None if the
+    bytes encode no list of them."""
+    status, found = items("cimaroly_general_names", _GENERAL_NAME, encoded)
+    return found if status == OK else None
+
+
+def identifier(content: bytes) -> tuple[str, Optional[str]]:
+    """An object identifier with dots, and the name that the library has for it, by the content of its element."""
+    return _kept_identifier(content) if len(content) <= _SHORT else _identifier(content)
+
+
+def _identifier(content: bytes) -> tuple[str, Optional[str]]:
+    return _text(CALLS["cimaroly_oid_text"], content), _text(CALLS["cimaroly_oid_name"], content) or None
+
+
+_kept_identifier = functools.lru_cache(maxsize=1024)(_identifier)
+
+
+def _text(call: Callable[..., int], content: bytes) -> str:
+    """What a call writes of an object identifier."""
+    room = taken()
+    while call(content, len(content), room.items, room.size, room.count) == BUFFER_TOO_SHORT:
+        room = Room(room.told())
+    text = str(room.front(room.told()), "ascii")
+    given_back(room)
+    return text
