@@ -37,6 +37,8 @@ _PURPOSE_NAMES = {
 # The elements of the identifiers of alternative names.
 _NAMES = {_SUBJECT_NAMES: bytes.fromhex("0603551d11"), _ISSUER_NAMES: bytes.fromhex("0603551d12")}
 
+_UTC = datetime.timezone.utc
+
 # How much of a name `repr` shows.
 _SHOWN = 100
 
@@ -44,7 +46,7 @@ _SHOWN = 100
 def _time(numbers: tuple[int, ...]) -> datetime.datetime:
     """A time, by its numbers from the year on."""
     year, month, day, hour, minute, second = numbers
-    return datetime.datetime(year, month, day, hour, minute, second, tzinfo=datetime.timezone.utc)
+    return datetime.datetime(year, month, day, hour, minute, second, 0, _UTC)
 
 
 def _version(told: Any) -> int:
@@ -84,7 +86,7 @@ class _Signed(Structure):
     @cached_property
     def public_key(self) -> PublicKey:
         """The subject's public key (RFC 5280, 4.1.2.7)."""
-        return PublicKey(self._bytes(*self._span("subject_public_key_info")))
+        return PublicKey._within(self._bytes(*self._span("subject_public_key_info")))
 
     @property
     def signature_algorithm(self) -> Algorithm:
@@ -300,31 +302,16 @@ class Certificate(_Signed):
         told = self._told_of(_AUTHORITY_KEY)
         return octets(told["keyIdentifier"]["value"]) if told is not None and "keyIdentifier" in told else None
 
-    def _list(self) -> tuple[bytes, int]:
-        """The list of extensions, and where it stands; no bytes if there is none."""
-        start, end = self._span("extensions")
-        if end == 0:
-            return b"", 0
-        # (it stands under the tag [3])
-        at, _ = inside(self._der, start)
-        return self._bytes(at, end), at
-
-    def _found_extensions(self) -> Extensions:
-        encoded, at = self._list()
-        return listed(encoded, _library.extensions("extensions", encoded), at) if encoded else Extensions()
-
     def _names(self, identifier: str) -> AlternativeNames:
-        encoded, _ = self._list()
-        names = _NAMES[identifier]
-        places = _library.extensions("extensions", encoded) if encoded else []
-        found = [it[6] for it in places if encoded[it[2] : it[3]] == names]
-        if not found:
+        der, sought = self.der, _NAMES[identifier]
+        if der.count(sought) > 1:
+            # (there may be several such extensions)
+            return super()._names(identifier)
+        value = _values.extension(der, sought[2:])
+        if value is None:
             return AlternativeNames()
-        told = None
-        if len(found) == 1:
-            start, end = inside(encoded, found[0])
-            told = alternative_names_in(encoded[start:end])
-        return super()._names(identifier) if told is None else told
+        found = alternative_names_in(value)
+        return super()._names(identifier) if found is None else found
 
     def _summary(self) -> str:
         shown = self._shown()

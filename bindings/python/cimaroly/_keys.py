@@ -164,7 +164,7 @@ def _public_key(der: bytes) -> Optional[Told]:
         return told
     # (the first byte of a BIT STRING counts unused bits: X.690, 8.6)
     at, _ = inside(der, end)
-    return told._replace(bits=_rsa_numbers(der, at + 1)[1])
+    return Told(told.algorithm, _RSA, None, _rsa_numbers(der, at + 1)[1])
 
 
 def _rsa_numbers(der: bytes, start: int) -> tuple[int, int, int]:
@@ -265,6 +265,13 @@ class PublicKey(_AnyKey):
         if self._kind == "rsa-public-key":
             return Told("RSA", _RSA, None, self._rsa[1] if self._rsa else None)
         return _public_key(self.der) or _reported(self.report()["SubjectPublicKeyInfo"])
+
+    @classmethod
+    def _within(cls, der: bytes) -> PublicKey:
+        """The key in a certificate or a request that was read, of these bytes."""
+        found = cls.__new__(cls)
+        found._kind, found._der = "public-key", der
+        return found
 
     @property
     def modulus(self) -> Optional[int]:

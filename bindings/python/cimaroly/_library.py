@@ -33,6 +33,7 @@ _ITEMS = 64
 _BYTES = 8192
 # The words of room before its items: memory, and a count.
 _FRONT = 3
+_COUNT = struct.Struct("@N")
 # More bytes than a report of what is refused has.
 _SHORT = 512
 
@@ -103,9 +104,8 @@ FIELDS: dict[Kind, tuple[str, ...]] = {
     ),
     "private-key": ("version", "private_key_algorithm", "private_key", "skipped", "public_key"),
 }
-# The numbers of `struct cimaroly_verdict`, of `struct cimaroly_extension` and of the structures of fields.
+# The numbers of `struct cimaroly_verdict` and of `struct cimaroly_extension`.
 _VERDICT, _EXTENSION = struct.Struct("@13N"), struct.Struct("@8N")
-_SPANS = {kind: struct.Struct(f"@{2 * len(names)}N") for kind, names in FIELDS.items()}
 
 
 def _folder() -> str:
@@ -143,6 +143,7 @@ def _load() -> dict[str, Callable[..., int]]:
         "cimaroly_serial_number": (*given, c_void_p),
         "cimaroly_subject_attributes": (*given, *buffer),
         "cimaroly_issuer_attributes": (*given, *buffer),
+        "cimaroly_find_extension": (*given, *given, c_void_p),
         "cimaroly_general_names": (*given, *buffer),
         "cimaroly_oid_text": (*given, *buffer),
         "cimaroly_oid_name": (*given, *buffer),
@@ -158,6 +159,11 @@ def _load() -> dict[str, Callable[..., int]]:
 
 
 CALLS = _load()
+# The calls that tell fields, with the numbers of their structures.
+_FIELDS_OF = {
+    kind: (CALLS[f"cimaroly_{kind.replace('-', '_')}_fields"], struct.Struct(f"@{2 * len(names)}N"))
+    for kind, names in FIELDS.items()
+}
 
 
 class Room:
@@ -191,7 +197,7 @@ class Room:
 
     def told(self) -> int:
         """The count that a call tells."""
-        return int(c_size_t.from_address(self.count).value)
+        return int(_COUNT.unpack_from(self.bytes, 8 * _FRONT - 8)[0])
 
 
 _FREE: list[Room] = []
@@ -271,10 +277,10 @@ def _asked(name: str, kind: Kind, der: Held, *arguments: Any) -> int:
 
 def items(name: str, numbers: struct.Struct, der: Held, kind: Optional[Kind] = None) -> tuple[int, list[tuple[int, ...]]]:
     """The status of a call that needs no memory, and the items that it writes. A kind is given to those that ask for one."""
-    room, status = taken(), BUFFER_TOO_SHORT
+    call, given, room = CALLS[name], input_at(der), taken()
     while True:
         front = () if kind is None else (room.memory, _NUMBERS[kind])
-        status = CALLS[name](*front, input_at(der), len(der), room.items, room.size // numbers.size, room.count)
+        status = call(*front, given, len(der), room.items, room.size // numbers.size, room.count)
         count = room.told()
         if status != BUFFER_TOO_SHORT:
             break
@@ -394,9 +400,11 @@ def fields(kind: Kind, der: Held) -> tuple[int, ...]:
     """Start and end of each field, in the order of `FIELDS`; 0 and 0 of one that isn't there."""
     if kind not in FIELDS:
         raise ValueError(f"not for a {kind}")
+    call, numbers = _FIELDS_OF[kind]
     room = taken()
-    status = CALLS[f"cimaroly_{kind.replace('-', '_')}_fields"](room.memory, input_at(der), len(der), room.items)
-    found = room.item(_SPANS[kind])
+    status = call(room.memory, input_at(der), len(der), room.items)
+    found = room.item(numbers)
     given_back(room)
-    _is_ok(status, kind, der)
+    if status != OK:
+        _is_ok(status, kind, der)
     return found

@@ -72,13 +72,13 @@ def _text_or_bytes(told: str, size: int) -> Union[str, bytes]:
     return octets(told) if len(told) == 3 * size - 1 else told
 
 
-# What is written as it stands: with one of these alone in front, at the end and between.
+# What is written as it stands, and can be printed: with one of these alone in front, at the end and between.
 _PLAIN = re.compile(r"[\w.@-](?:[\w.@ /()'*:=-]*[\w.@-])?")
 
 
 def _escaped(text: str) -> str:
     """A text as RFC 4514, 2.4 escapes it. What can't be printed, or changes the direction of text, is escaped as well."""
-    if _PLAIN.fullmatch(text) and text.isprintable():
+    if _PLAIN.fullmatch(text):
         return text
     found = []
     for at, symbol in enumerate(text):
@@ -124,10 +124,10 @@ _STRINGS = frozenset((_UTF8, 18, 19, 22, 26))
 
 def _plain(tag: int, content: bytes) -> Optional[str]:
     """The text of a string, or None where the report is asked what its value is."""
-    if tag not in _STRINGS or not (tag == _UTF8 or content.isascii()):
-        return None
+    if content.isascii():
+        return content.decode("ascii") if tag in _STRINGS else None
     try:
-        return content.decode()
+        return content.decode() if tag == _UTF8 else None
     except UnicodeDecodeError:
         return None
 
@@ -138,7 +138,10 @@ def _attribute_at(der: bytes, oid: int, oid_end: int, tag: int, at: int, end: in
     if value is None:
         return None
     identifier, name = _values.identifier(der[oid:oid_end])
-    return Attribute(identifier, name, value, der[oid_end:end])
+    found = object.__new__(Attribute)
+    # (the maker of a frozen dataclass takes three times as long)
+    found.__dict__.update(identifier=identifier, name=name, value=value, der=der[oid_end:end])
+    return found
 
 
 def _attribute(told: Any, der: Held) -> Attribute:
@@ -214,7 +217,7 @@ class Name:
     @property
     def common_name(self) -> Optional[str]:
         """The common name; of several the last, which is the most specific; None if there is none."""
-        found = self.values(COMMON_NAME)
+        found = [it.value for one in self._sets for it in one if it.identifier == COMMON_NAME]
         return str(found[-1]) if found else None
 
     def values(self, key: str) -> tuple[Union[str, bytes], ...]:

@@ -178,8 +178,13 @@ class Structure:
         self._kind = kind
         # (what is refused as something else may be a private key, too)
         copy: Held = der if isinstance(der, (bytes, Secret)) else Secret(viewed(der))
-        self._verdict = checked(copy, kind)
+        self.__dict__["_verdict"] = checked(copy, kind)
         self._der: Held = copy if kind in PRIVATE else bytes(copy)
+
+    @cached_property
+    def _verdict(self) -> Verdict:
+        """What a check finds; of what stands in something that was read it is asked for later."""
+        return checked(self._der, self._kind)
 
     @property
     def der(self) -> bytes:
@@ -232,11 +237,12 @@ class Structure:
 
     def _span(self, name: str) -> tuple[int, int]:
         """Start and end of a field; 0 and 0 if it isn't there."""
-        at = 2 * _library.FIELDS[self._kind].index(name)
-        return self._spans[at], self._spans[at + 1]
+        spans, at = self._spans, 2 * _library.FIELDS[self._kind].index(name)
+        return spans[at], spans[at + 1]
 
     def _bytes(self, start: int, end: int) -> bytes:
-        return bytes(memoryview(self._der)[start:end])
+        der = self._der
+        return der[start:end] if isinstance(der, bytes) else bytes(memoryview(der)[start:end])
 
     @cached_property
     def extensions(self) -> Extensions:
@@ -272,7 +278,7 @@ class Structure:
 
     def __getstate__(self) -> dict[str, Any]:
         # (what was asked for once is asked for again)
-        return {name: self.__dict__[name] for name in self._KEPT}
+        return {name: getattr(self, name) for name in self._KEPT}
 
     def __eq__(self, other: object) -> bool:
         return isinstance(other, Structure) and (self._kind, self._der) == (other._kind, other._der)

@@ -21,10 +21,14 @@ _SHORT = 64
 Numbers = list[tuple[int, ...]]
 
 
+_VALIDITY, _SERIAL_NUMBER = CALLS["cimaroly_validity"], CALLS["cimaroly_serial_number"]
+_FIND_EXTENSION = CALLS["cimaroly_find_extension"]
+
+
 def times(certificate: bytes) -> tuple[tuple[int, ...], tuple[int, ...]]:
     """Between which times a certificate is valid: of each the year, the month, the day, the hour, the minute, the second."""
     room = taken()
-    CALLS["cimaroly_validity"](certificate, len(certificate), room.items, room.items + _ONE_TIME)
+    _VALIDITY(certificate, len(certificate), room.items, room.items + _ONE_TIME)
     found = room.item(_TIMES)
     given_back(room)
     return found[1:7], found[8:14]
@@ -33,7 +37,7 @@ def times(certificate: bytes) -> tuple[tuple[int, ...], tuple[int, ...]]:
 def serial_number(certificate: bytes) -> int:
     """The serial number of a certificate."""
     room = taken()
-    CALLS["cimaroly_serial_number"](certificate, len(certificate), room.items)
+    _SERIAL_NUMBER(certificate, len(certificate), room.items)
     start, end = room.item(_SPAN)
     given_back(room)
     return int.from_bytes(certificate[start:end], "big", signed=True)
@@ -48,6 +52,15 @@ def subject_attributes(certificate: bytes) -> Numbers:
 def issuer_attributes(certificate: bytes) -> Numbers:
     """The same of the issuer."""
     return items("cimaroly_issuer_attributes", _ATTRIBUTE, certificate)[1]
+
+
+def extension(certificate: bytes, identifier: bytes) -> Optional[bytes]:
+    """What the first extension with an identifier holds, which is given by the content of its element; or None."""
+    room = taken()
+    _FIND_EXTENSION(certificate, len(certificate), identifier, len(identifier), room.items)
+    start, end = room.item(_SPAN)
+    given_back(room)
+    return certificate[start:end] if end > 0 else None
 
 
 def general_names(encoded: bytes) -> Optional[Numbers]:

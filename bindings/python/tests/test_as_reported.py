@@ -2,7 +2,9 @@
 
 from __future__ import annotations
 
+import copy
 import os
+import pickle
 import threading
 import unittest
 from collections.abc import Iterator
@@ -77,6 +79,8 @@ class AsReported(unittest.TestCase):
         key = mine.public_key
         shown = _keys._reported(told["subjectPublicKeyInfo"])
         self.assertEqual((key.algorithm, key.algorithm_identifier, key.curve, key.bits), shown)
+        for it in (cimaroly.PublicKey(key.der), pickle.loads(pickle.dumps(key)), copy.copy(key)):
+            self.assertEqual((it, it.verdict, repr(it), it.pin()), (key, key.verdict, repr(key), key.pin()))
         signed = report["signatureAlgorithm"]["algorithm"]["value"]
         algorithm = mine.signature_algorithm
         self.assertEqual((algorithm.identifier, algorithm.name), (signed["id"], signed.get("name")))

@@ -149,7 +149,7 @@ class Compared(unittest.TestCase):
         access = self.found(extensions, x509.AuthorityInformationAccess)
         methods = ((mine.ocsp_addresses, "OCSP"), (mine.issuer_addresses, "CA_ISSUERS"))
         for told, method in methods:
-            oid = getattr(x509.AuthorityInformationAccessOID, method)
+            oid = getattr(AuthorityInformationAccessOID, method)
             self.assertEqual(list(told), addresses(it.access_location for it in access or () if it.access_method == oid))
         points = self.found(extensions, x509.CRLDistributionPoints)
         self.assertEqual(list(mine.crl_addresses), [one for it in points or () for one in addresses(it.full_name)])
