@@ -17,7 +17,7 @@ fn inspect(text: &[u8]) -> Result<(), Box<dyn Error>> {
 
 fn show(der: &[u8]) -> Result<(), cimaroly::Error> {
     let certificate = cimaroly::certificate(der)?;
-    println!("serial number  {:02x?}", certificate.serial_number.content());
+    println!("serial number  {:02x?}", certificate.serial_number());
     for attribute in certificate.subject().attributes() {
         println!("subject        {} {:?}", attribute.oid, attribute.text().unwrap_or("..."));
     }

@@ -24,7 +24,8 @@
 //! ```
 //!
 //! With the feature `alloc`, which is on by default, there are functions of the same names at the
-//! root of the crate, which take memory from the global allocator, and more until it is enough.
+//! root of the crate, which take memory from the global allocator, and more until it is enough. With
+//! the feature `std` a [`Time`] becomes a `SystemTime`, and an [`Error`] an `io::Error`.
 //!
 //! # Linking
 //!
@@ -35,19 +36,24 @@
 
 #[cfg(feature = "alloc")]
 extern crate alloc;
+#[cfg(feature = "std")]
+extern crate std;
 
 #[cfg(feature = "alloc")]
 mod allocated;
 mod elements;
 mod error;
+mod few;
 mod field_path;
 mod fields;
+mod general_names;
 mod kind;
 mod library;
 mod names;
 mod oid;
 mod pem;
 mod reader;
+mod strings;
 mod times;
 mod told;
 mod usages;
@@ -60,9 +66,10 @@ pub use crate::allocated::{
 pub use crate::error::{Error, Reason, Refused};
 pub use crate::field_path::FieldPath;
 pub use crate::fields::{Certificate, Extension, Field, PrivateKey, Request};
+pub use crate::general_names::{GeneralName, GeneralNames};
 pub use crate::kind::{Deviation, Kind};
 pub use crate::library::{Block, ExtensionPlaces};
-pub use crate::names::{Attribute, Attributes, GeneralName, GeneralNames, Name};
+pub use crate::names::{Attribute, Attributes, Name};
 pub use crate::oid::Oid;
 pub use crate::pem::{decode_base64, pem_blocks, PemBlock, PemBlocks, PemError, PemFault};
 pub use crate::reader::{Extensions, Reader};

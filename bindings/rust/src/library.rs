@@ -43,6 +43,13 @@ pub(crate) struct Span {
     pub(crate) end: usize,
 }
 
+impl Span {
+    /// Its bytes of an input. (The library's spans lie within it.)
+    pub(crate) fn of(self, der: &[u8]) -> &[u8] {
+        der.get(self.start..self.end).unwrap_or_default()
+    }
+}
+
 /// `struct cimaroly_verdict`.
 #[derive(Default)]
 #[repr(C)]
@@ -126,6 +133,24 @@ impl ExtensionPlaces {
     };
 }
 
+/// `struct cimaroly_attribute`.
+#[derive(Clone, Copy, Default)]
+#[repr(C)]
+pub(crate) struct AttributePlace {
+    pub(crate) set: usize,
+    pub(crate) identifier: Span,
+    pub(crate) tag: u8,
+    pub(crate) value: Span,
+}
+
+/// `struct cimaroly_general_name`.
+#[derive(Clone, Copy, Default)]
+#[repr(C)]
+pub(crate) struct GeneralNamePlace {
+    pub(crate) tag: u8,
+    pub(crate) content: Span,
+}
+
 /// `struct cimaroly_pem_block`.
 #[derive(Default)]
 #[repr(C)]
@@ -158,8 +183,8 @@ pub(crate) mod status {
 
 mod c {
     use super::{
-        Certificate, ExtensionPlaces, FlatPemBlock, Memory, Place, PrivateKey, Request, Signed,
-        Time, Verdict,
+        AttributePlace, Certificate, ExtensionPlaces, FlatPemBlock, GeneralNamePlace, Memory,
+        Place, PrivateKey, Request, Signed, Span, Time, Verdict,
     };
 
     extern "C" {
@@ -237,6 +262,39 @@ mod c {
             der_size: usize,
             not_before: *mut Time,
             not_after: *mut Time,
+        ) -> u32;
+        pub(super) fn cimaroly_subject_attributes(
+            der: *const u8,
+            der_size: usize,
+            attributes: *mut AttributePlace,
+            room: usize,
+            count: *mut usize,
+        ) -> u32;
+        pub(super) fn cimaroly_issuer_attributes(
+            der: *const u8,
+            der_size: usize,
+            attributes: *mut AttributePlace,
+            room: usize,
+            count: *mut usize,
+        ) -> u32;
+        pub(super) fn cimaroly_serial_number(
+            der: *const u8,
+            der_size: usize,
+            serial_number: *mut Span,
+        ) -> u32;
+        pub(super) fn cimaroly_find_extension(
+            der: *const u8,
+            der_size: usize,
+            identifier: *const u8,
+            identifier_size: usize,
+            value: *mut Span,
+        ) -> u32;
+        pub(super) fn cimaroly_general_names(
+            list: *const u8,
+            list_size: usize,
+            names: *mut GeneralNamePlace,
+            room: usize,
+            count: *mut usize,
         ) -> u32;
         pub(super) fn cimaroly_pem_next(
             text: *const u8,
@@ -344,6 +402,38 @@ pub(crate) fn report(
 pub(crate) fn validity(der: &[u8], not_before: &mut Time, not_after: &mut Time) -> u32 {
     // SAFETY: as above; any numbers are a time.
     unsafe { c::cimaroly_validity(der.as_ptr(), der.len(), not_before, not_after) }
+}
+
+/// A call on a certificate that tells where the attributes of a name stand.
+pub(crate) type AttributesCall = fn(&[u8], &mut [AttributePlace], &mut usize) -> u32;
+
+pub(crate) fn subject_attributes(der: &[u8], out: &mut [AttributePlace], count: &mut usize) -> u32 {
+    let (at, room) = (out.as_mut_ptr(), out.len());
+    // SAFETY: as above; `out` has room for `room` places, of which any numbers are one.
+    unsafe { c::cimaroly_subject_attributes(der.as_ptr(), der.len(), at, room, count) }
+}
+
+pub(crate) fn issuer_attributes(der: &[u8], out: &mut [AttributePlace], count: &mut usize) -> u32 {
+    let (at, room) = (out.as_mut_ptr(), out.len());
+    // SAFETY: as above; `out` has room for `room` places, of which any numbers are one.
+    unsafe { c::cimaroly_issuer_attributes(der.as_ptr(), der.len(), at, room, count) }
+}
+
+pub(crate) fn serial_number(der: &[u8], told: &mut Span) -> u32 {
+    // SAFETY: as above; any numbers are a span.
+    unsafe { c::cimaroly_serial_number(der.as_ptr(), der.len(), told) }
+}
+
+pub(crate) fn find_extension(der: &[u8], identifier: &[u8], value: &mut Span) -> u32 {
+    let (at, size) = (identifier.as_ptr(), identifier.len());
+    // SAFETY: as above; any numbers are a span.
+    unsafe { c::cimaroly_find_extension(der.as_ptr(), der.len(), at, size, value) }
+}
+
+pub(crate) fn general_names(list: &[u8], out: &mut [GeneralNamePlace], count: &mut usize) -> u32 {
+    let (at, room) = (out.as_mut_ptr(), out.len());
+    // SAFETY: as above; `out` has room for `room` places, of which any numbers are one.
+    unsafe { c::cimaroly_general_names(list.as_ptr(), list.len(), at, room, count) }
 }
 
 pub(crate) fn pem_next(text: &[u8], at: usize, line: u64, block: &mut FlatPemBlock) -> u32 {

@@ -29,3 +29,18 @@ impl fmt::Display for Time {
         write!(f, "{year:04}-{month:02}-{day:02}T{hour:02}:{minute:02}:{second:02}Z")
     }
 }
+
+#[cfg(feature = "std")]
+impl From<Time> for std::time::SystemTime {
+    /// # Panics
+    /// The system has no such time; those of Linux have all of them.
+    fn from(time: Time) -> Self {
+        let seconds = core::time::Duration::from_secs(time.unix_time.unsigned_abs());
+        let epoch = std::time::SystemTime::UNIX_EPOCH;
+        if time.unix_time < 0 {
+            epoch - seconds
+        } else {
+            epoch + seconds
+        }
+    }
+}

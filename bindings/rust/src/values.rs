@@ -1,9 +1,10 @@
 //! Values of certificates and requests, which borrow from the input. They take no memory.
 
-use crate::elements::{first_in, Element, Elements};
+use crate::elements::{first_in, Elements};
 use crate::fields::{Certificate, Extension, Request};
-use crate::library;
-use crate::names::{GeneralNames, Name};
+use crate::general_names::GeneralNames;
+use crate::library::{self, Span};
+use crate::names::{Name, Source};
 use crate::oid::Oid;
 use crate::times::Time;
 use crate::usages::KeyUsage;
@@ -19,13 +20,24 @@ impl<'a> Certificate<'a> {
     /// The name of the subject (RFC 5280, 4.1.2.6).
     #[must_use]
     pub fn subject(&self) -> Name<'a> {
-        Name::of(self.subject.content())
+        let source = Source { der: self.whole.bytes(), call: library::subject_attributes };
+        Name::within(self.subject.content(), source)
     }
 
     /// The name of the issuer (RFC 5280, 4.1.2.4).
     #[must_use]
     pub fn issuer(&self) -> Name<'a> {
-        Name::of(self.issuer.content())
+        let source = Source { der: self.whole.bytes(), call: library::issuer_attributes };
+        Name::within(self.issuer.content(), source)
+    }
+
+    /// The number that the issuer gave it, in two's complement, the highest byte first (RFC 5280,
+    /// 4.1.2.2).
+    #[must_use]
+    pub fn serial_number(&self) -> &'a [u8] {
+        let (der, mut place) = (self.whole.bytes(), Span::default());
+        library::serial_number(der, &mut place);
+        place.of(der)
     }
 
     /// The first second at which it is valid (RFC 5280, 4.1.2.5).
@@ -43,18 +55,21 @@ impl<'a> Certificate<'a> {
     /// What the first extension of a type holds: the content of its `extnValue`.
     #[must_use]
     pub fn extension(&self, oid: Oid<'_>) -> Option<&'a [u8]> {
-        let mut list = Elements(first_in(self.extensions?.content())).map(Element::inside);
-        list.find_map(|mut fields| {
-            let is_sought = fields.next()?.content == oid.content();
-            // (`critical` may stand between)
-            fields.last().filter(|_| is_sought).map(|value| value.content)
-        })
+        let (der, mut place) = (self.whole.bytes(), Span::default());
+        library::find_extension(der, oid.content(), &mut place);
+        (place.end > 0).then(|| place.of(der))
     }
 
     /// The names of the first `subjectAltName` (RFC 5280, 4.2.1.6), of which there are none without that extension.
     #[must_use]
     pub fn alternative_names(&self) -> GeneralNames<'a> {
         self.extension(Oid::SUBJECT_ALT_NAME).map(GeneralNames::of).unwrap_or_default()
+    }
+
+    /// The names of the first `issuerAltName` (RFC 5280, 4.2.1.7), likewise.
+    #[must_use]
+    pub fn issuer_alternative_names(&self) -> GeneralNames<'a> {
+        self.extension(Oid::ISSUER_ALT_NAME).map(GeneralNames::of).unwrap_or_default()
     }
 
     /// What its key may be used for; `None` without a `keyUsage` (RFC 5280, 4.2.1.3).
