@@ -70,6 +70,17 @@ function refused(row, der) {
 const numberOf = (digits) => BigInt(`0x${digits}`);
 const nameOf = (node) => node.items.map((set) => set.items.map((it) => [it.name ?? it.id, it.value]));
 
+// What people ask of a certificate first.
+function assertAsked(row, { subject, serialNumber, notBefore, notAfter, alternativeNames, publicKey }) {
+  assert.equal(subject.commonName ?? "none", row.common_name);
+  assert.equal(subject.rfc4514(), row.rfc4514);
+  assert.equal(serialNumber.toString(), row.serial_number);
+  assert.equal([notBefore, notAfter].map((it) => it.getTime() / 1000).join(".."), row.unix_times);
+  const names = (alternativeNames ?? []).filter((it) => it.type === "dNSName").map((it) => it.value);
+  assert.equal(names.join(" ") || "none", row.dns_names);
+  assert.equal([publicKey.algorithm, publicKey.curve, publicKey.bits].filter((it) => it !== null).join(" "), row.key);
+}
+
 // The same as properties of what is read.
 function assertValues(row, reading) {
   const seconds = (date) => date.toISOString().replace(".000Z", "Z");
@@ -79,6 +90,7 @@ function assertValues(row, reading) {
   if (/^[0-9]/.test(row.extensions)) {
     assert.deepEqual(reading.extensions.map((it) => it.id), row.extensions.split(" ").map((it) => it.split("=")[0]));
   }
+  if (row.serial_number !== "-") assertAsked(row, reading);
   if (row.values === "-") return;
   const { serialNumber, ...names } = JSON.parse(row.values);
   if (serialNumber) assert.equal(reading.serialNumber, numberOf(serialNumber));

@@ -16,7 +16,11 @@ enum column {
     FIELDS,
     EXTENSIONS,
     FIELD = 14,
-    COLUMNS = 15
+    COMMON_NAME,
+    SERIAL_NUMBER,
+    UNIX_TIMES,
+    DNS_NAMES,
+    COLUMNS = 21
 };
 
 /* A row: its cells, the number of its kind, and its input. */
