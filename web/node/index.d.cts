@@ -266,6 +266,11 @@ export interface Timestamp {
 /** What extensions say; `null` if the extension isn't there. */
 export interface ExtensionValues {
   alternativeNames: AlternativeName[] | null;
+  issuerAlternativeNames: AlternativeName[] | null;
+  /** What names the subject's key. */
+  subjectKeyIdentifier: Uint8Array | null;
+  /** What names the issuer's key. */
+  authorityKeyIdentifier: Uint8Array | null;
   keyUsage: KeyUsage[] | null;
   extendedKeyUsage: Identifier[] | null;
   /** Whether the basic constraints say that it is that of an authority. */
@@ -374,6 +379,11 @@ export class Structure<K extends Kind = Kind> implements Verdict {
   /** As people count: 3 of a certificate that says `v3`. */
   get version(): ValueOf<K, "version">;
   get alternativeNames(): ValueOf<K, "alternativeNames">;
+  get issuerAlternativeNames(): ValueOf<K, "issuerAlternativeNames">;
+  /** What names the subject's key. */
+  get subjectKeyIdentifier(): ValueOf<K, "subjectKeyIdentifier">;
+  /** What names the issuer's key. */
+  get authorityKeyIdentifier(): ValueOf<K, "authorityKeyIdentifier">;
   get keyUsage(): ValueOf<K, "keyUsage">;
   get extendedKeyUsage(): ValueOf<K, "extendedKeyUsage">;
   /** Whether the basic constraints say that it is that of an authority. */

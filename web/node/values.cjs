@@ -18,9 +18,12 @@ const ROOTS = ["Certificate", "CertificationRequest", "PrivateKeyInfo", "Subject
 ROOTS.push("RSAPublicKey", "ECPrivateKey", "Name", "Extensions", "AlgorithmIdentifier");
 
 const EXTENSION_REQUEST = "1.2.840.113549.1.9.14";
+const SUBJECT_KEY = "2.5.29.14";
 const KEY_USAGE = "2.5.29.15";
 const ALTERNATIVE_NAMES = "2.5.29.17";
+const ISSUER_NAMES = "2.5.29.18";
 const BASIC_CONSTRAINTS = "2.5.29.19";
+const AUTHORITY_KEY = "2.5.29.35";
 const EXTENDED_KEY_USAGE = "2.5.29.37";
 const ISSUER_SERVICES = "1.3.6.1.5.5.7.1.1";
 const DISTRIBUTION_POINTS = "2.5.29.31";
@@ -171,6 +174,20 @@ class Values {
 
   get alternativeNames() {
     return this.#told(ALTERNATIVE_NAMES, (it) => (it.items ?? []).map((one) => alternativeName(one, this.der)));
+  }
+
+  get issuerAlternativeNames() {
+    return this.#told(ISSUER_NAMES, (it) => (it.items ?? []).map((one) => alternativeName(one, this.der)));
+  }
+
+  /** What names the subject's key. */
+  get subjectKeyIdentifier() {
+    return this.#told(SUBJECT_KEY, (it) => bytesOf(it.value));
+  }
+
+  /** What names the issuer's key. */
+  get authorityKeyIdentifier() {
+    return this.#told(AUTHORITY_KEY, ({ keyIdentifier }) => (keyIdentifier ? bytesOf(keyIdentifier.value) : null));
   }
 
   /** What the key may be used for, by the names of the bits that are set. */

@@ -64,12 +64,14 @@ export async function valuesOfEach(der: Uint8Array, kind: Kind): Promise<string[
     Same<typeof certificate.pathLength, number | null>,
     Same<typeof request.alternativeNames, AlternativeName[] | null>,
     Same<typeof certificate.policies, Policy[] | null>,
+    Same<typeof certificate.subjectKeyIdentifier, Uint8Array | null>,
+    Same<typeof request.issuerAlternativeNames, AlternativeName[] | null>,
     Same<typeof request.ocspAddresses, string[] | null>,
     Same<typeof request.issuer, undefined>,
     Same<typeof key.publicKey, PublicKey | null>,
     Same<typeof any.issuer, Name | undefined>,
     Same<ReturnType<typeof certificate.validity>, "valid" | "not yet valid" | "expired">,
-  ] = [true, true, true, true, true, true, true, true, true, true, true];
+  ] = [true, true, true, true, true, true, true, true, true, true, true, true, true];
   // @ts-expect-error A certificate may have no such extension.
   certificate.alternativeNames.length;
   // @ts-expect-error There is no such usage.

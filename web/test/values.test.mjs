@@ -66,6 +66,13 @@ for (const [name, certificate] of certificates) {
     assert.equal(certificate.version, Number(/Version: (\d)/.exec(text)[1]));
     assert.equal(certificate.isCa, text.includes("CA:TRUE"));
     assert.equal(certificate.pathLength, Number(/pathlen:(\d+)/.exec(text)?.[1] ?? NaN) || null);
+    const identifiers = ["subjectKeyIdentifier", "authorityKeyIdentifier"].map((it) => certificate[it]);
+    const stated = ["Subject", "Authority"].map((it) => {
+      const found = new RegExp(`${it} Key Identifier: *\\n\\s+(?:keyid:)?([0-9A-F:]+)\\n`).exec(text);
+      return found && Buffer.from(found[1].replaceAll(":", ""), "hex").toString("hex");
+    });
+    // (OpenSSL reads no fields in another order)
+    if (certificate.isDer) assert.deepEqual(identifiers.map((it) => it && Buffer.from(it).toString("hex")), stated);
     // (others of the samples have strings that OpenSSL shows in another way)
     if (!name.startsWith("hostile")) {
       for (const it of ["subject", "issuer"]) {
