@@ -37,12 +37,33 @@ def with_extensions(der):
     return read.subject.rdns, read.issuer.rdns, list(read.extensions), read.public_key()
 
 
+def row(der):
+    """What people ask of a certificate first: its subject, dates, names of the DNS and key."""
+    it = cimaroly.read(der)
+    key = it.public_key
+    dates = it.not_before, it.not_after
+    return it.subject.rfc4514(), it.subject.common_name, *dates, it.alternative_names.dns_names, key.algorithm, key.bits
+
+
+def row_by_cryptography(der):
+    """The same."""
+    it = x509.load_der_x509_certificate(der)
+    common = it.subject.get_attributes_for_oid(x509.NameOID.COMMON_NAME)[-1].value
+    names = it.extensions.get_extension_for_class(x509.SubjectAlternativeName).value
+    key = it.public_key()
+    dates = it.not_valid_before_utc, it.not_valid_after_utc
+    hosts = names.get_values_for_type(x509.DNSName)
+    return it.subject.rfc4514_string(), common, *dates, hosts, type(key).__name__, getattr(key, "key_size", 256)
+
+
 CALLS = {
     "Python `cimaroly.check`": cimaroly.check,
     "Python `cimaroly.read(..).fields`": lambda der: cimaroly.read(der).fields,
     "Python `cimaroly.read(..).report()`": lambda der: cimaroly.read(der).report(),
+    "Python: subject, dates, DNS names and key": row,
+    "`cryptography`: the same": row_by_cryptography,
     "`cryptography`: `load_der_x509_certificate`": x509.load_der_x509_certificate,
-    "`cryptography`: the same, and names, extensions and key": with_extensions,
+    "`cryptography`: that, and names, extensions and key": with_extensions,
 }
 
 

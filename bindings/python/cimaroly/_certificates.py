@@ -10,7 +10,7 @@ from typing import Any, NamedTuple, Optional, Union
 from . import _hosts, _library, _services, _values
 from ._armour import encoded
 from ._keys import Algorithm, PublicKey, signature_algorithm
-from ._names import COMMON_NAME, Address, AlternativeNames, Name, alternative_names, alternative_names_in, integer, octets
+from ._names import COMMON_NAME, Address, AlternativeNames, Name, alternative_names, alternative_names_in, element, integer, octets
 from ._services import Policy, Timestamp
 from ._structure import Extensions, Structure, inside, listed
 
@@ -311,7 +311,11 @@ class Certificate(_Signed):
         if value is None:
             return AlternativeNames()
         found = alternative_names_in(value)
-        return super()._names(identifier) if found is None else found
+        if found is not None:
+            return found
+        alone = element(0x30, element(0x30, sought, element(4, value)))
+        (told,) = _library.report("extensions", alone, False)["Extensions"]["items"]
+        return alternative_names(told, alone)
 
     def _summary(self) -> str:
         shown = self._shown()

@@ -33,7 +33,6 @@ _ITEMS = 64
 _BYTES = 8192
 # The words of room before its items: memory, and a count.
 _FRONT = 3
-_COUNT = struct.Struct("@N")
 # More bytes than a report of what is refused has.
 _SHORT = 512
 
@@ -173,12 +172,13 @@ class Room:
     handler of a signal writes to it meanwhile.
     """
 
-    __slots__ = ("size", "bytes", "memory", "count", "items")
+    __slots__ = ("size", "words", "bytes", "memory", "count", "items")
 
     def __init__(self, size: int = _BYTES) -> None:
         words = (c_uint64 * (_FRONT + size // 8 + 1))()
         self.size = size
         self.bytes = memoryview(words).cast("B")
+        self.words = self.bytes.cast("Q")
         self.memory = ctypes.addressof(words)
         self.count = self.memory + ctypes.sizeof(Memory)
         self.items = self.memory + 8 * _FRONT
@@ -187,17 +187,18 @@ class Room:
         """The numbers of the first item."""
         return numbers.unpack_from(self.bytes, 8 * _FRONT)
 
-    def listed(self, numbers: struct.Struct, count: int) -> list[tuple[int, ...]]:
-        """The numbers of so many items."""
-        return list(numbers.iter_unpack(self.front(count * numbers.size)))
+    def listed(self, numbers: struct.Struct, status: int) -> list[tuple[int, ...]]:
+        """The numbers of the items that a call has written, by its status."""
+        end = 8 * _FRONT + (self.words[_FRONT - 1] * numbers.size if status == OK else 0)
+        return list(numbers.iter_unpack(self.bytes[8 * _FRONT : end]))
 
-    def front(self, size: int) -> memoryview:
-        """So many bytes of the items."""
-        return self.bytes[8 * _FRONT : 8 * _FRONT + size]
+    def text(self) -> str:
+        """The text that a call has written."""
+        return str(self.bytes[8 * _FRONT : 8 * _FRONT + self.words[_FRONT - 1]], "ascii")
 
-    def told(self) -> int:
-        """The count that a call tells."""
-        return int(_COUNT.unpack_from(self.bytes, 8 * _FRONT - 8)[0])
+    def larger(self, numbers: int) -> Room:
+        """Room for as many items as a call tells, of so many bytes."""
+        return Room(self.words[_FRONT - 1] * numbers)
 
 
 _FREE: list[Room] = []
@@ -273,21 +274,6 @@ def _asked(name: str, kind: Kind, der: Held, *arguments: Any) -> int:
         if status != OUT_OF_MEMORY:
             return status
         size = 4 * lent.size
-
-
-def items(name: str, numbers: struct.Struct, der: Held, kind: Optional[Kind] = None) -> tuple[int, list[tuple[int, ...]]]:
-    """The status of a call that needs no memory, and the items that it writes. A kind is given to those that ask for one."""
-    call, given, room = CALLS[name], input_at(der), taken()
-    while True:
-        front = () if kind is None else (room.memory, _NUMBERS[kind])
-        status = call(*front, given, len(der), room.items, room.size // numbers.size, room.count)
-        count = room.told()
-        if status != BUFFER_TOO_SHORT:
-            break
-        room = Room(count * numbers.size)
-    found = room.listed(numbers, count) if status == OK else []
-    given_back(room)
-    return status, found
 
 
 def pem_blocks(text: Held) -> Iterator[tuple[int, PemBlock]]:
@@ -384,7 +370,15 @@ def places(kind: Kind, der: Held) -> list[Place]:
 
 def extensions(kind: Kind, der: Held) -> list[tuple[int, ...]]:
     """Where each extension stands: start and end of it, of `extnID`, of `critical` and of `extnValue`."""
-    status, found = items("cimaroly_extensions", _EXTENSION, der, kind)
+    call, given, room = CALLS["cimaroly_extensions"], input_at(der), taken()
+    while True:
+        most = room.size // _EXTENSION.size
+        status = call(room.memory, _NUMBERS[kind], given, len(der), room.items, most, room.count)
+        if status != BUFFER_TOO_SHORT:
+            break
+        room = room.larger(_EXTENSION.size)
+    found = room.listed(_EXTENSION, status)
+    given_back(room)
     _is_ok(status, kind, der)
     return found
 

@@ -107,13 +107,22 @@ class Attribute:
     def rfc4514(self) -> str:
         """The attribute as text (RFC 4514, 2.3 and 2.4): `CN=example.org`, or, if its type has no short name there, the type
         with dots and the bytes of the encoding in hexadecimal."""
-        short = _SHORT.get(self.identifier)
-        if short is None or isinstance(self.value, bytes):
-            return f"{short or self.identifier}=#{self.der.hex()}"
-        return f"{short}={_escaped(self.value)}"
+        return _written(self.identifier, self.name, self.value, self.der)
 
     def __str__(self) -> str:
         return self.rfc4514()
+
+
+# The fields of an attribute.
+_Parts = tuple[str, Optional[str], Union[str, bytes], bytes]
+
+
+def _written(identifier: str, _: Optional[str], value: Union[str, bytes], der: bytes) -> str:
+    """An attribute of these fields as text."""
+    short = _SHORT.get(identifier)
+    if short is None or isinstance(value, bytes):
+        return f"{short or identifier}=#{der.hex()}"
+    return f"{short}={_escaped(value)}"
 
 
 # The tags of strings whose characters are ASCII or UTF-8 (X.680, 41): UTF8String, NumericString, PrintableString, IA5String
@@ -132,23 +141,12 @@ def _plain(tag: int, content: bytes) -> Optional[str]:
         return None
 
 
-def _attribute_at(der: bytes, oid: int, oid_end: int, tag: int, at: int, end: int) -> Optional[Attribute]:
-    """The attribute that stands at these places; None where the report is asked what its value is."""
-    value = _plain(tag, der[at:end])
-    if value is None:
-        return None
-    identifier, name = _values.identifier(der[oid:oid_end])
-    found = object.__new__(Attribute)
-    # (the maker of a frozen dataclass takes three times as long)
-    found.__dict__.update(identifier=identifier, name=name, value=value, der=der[oid_end:end])
-    return found
-
-
-def _attribute(told: Any, der: Held) -> Attribute:
+def _parts(told: Any, der: Held) -> _Parts:
+    """The fields of the attribute that a report's node tells of."""
     start, end = told["at"]
     size = content_size(end - start) - _identifier_size(told["id"])
     value = _text_or_bytes(told["value"], size)
-    return Attribute(told["id"], told.get("name"), value, bytes(memoryview(der)[end - size : end]))
+    return told["id"], told.get("name"), value, bytes(memoryview(der)[end - size : end])
 
 
 class Name:
@@ -161,7 +159,9 @@ class Name:
         ['DE', 'Example GmbH', 'example.org']
     """
 
-    __slots__ = ("_content", "_sets")
+    __slots__ = ("_content", "_parts", "_sets")
+
+    _sets: Optional[tuple[tuple[Attribute, ...], ...]]
 
     def __init__(self, der: Data) -> None:
         """Reads a `Name` in DER. Raises `Refused`."""
@@ -175,20 +175,20 @@ class Name:
     def _at(cls, der: bytes, start: int, end: int, places: Iterable[tuple[int, ...]]) -> Name:
         """The name that stands from one byte to another, of attributes at these places."""
         content, last = der[inside(der, start)[0] : end], end
-        sets: list[list[Attribute]] = []
+        sets: list[list[_Parts]] = []
         for number, oid, oid_end, tag, at, last in places:
-            found = _attribute_at(der, oid, oid_end, tag, at, last)
-            if found is None:
+            value = _plain(tag, der[at:last])
+            if value is None:
                 return cls(element(0x30, content))
             # (a set may be empty)
             while number >= len(sets):
                 sets.append([])
-            sets[number].append(found)
+            sets[number].append((*_values.identifier(der[oid:oid_end]), value, der[oid_end:last]))
         if last != end or (content and not sets):
             # (and so may the last ones)
             return cls(element(0x30, content))
         name = cls.__new__(cls)
-        name._content, name._sets = content, tuple(map(tuple, sets))
+        name._content, name._parts, name._sets = content, tuple(map(tuple, sets)), None
         return name
 
     @classmethod
@@ -200,13 +200,16 @@ class Name:
 
     def _tell(self, told: Any, der: Held) -> None:
         sets = told["items"]
-        self._sets: tuple[tuple[Attribute, ...], ...] = tuple(tuple(_attribute(it, der) for it in one["items"]) for one in sets)
+        self._parts: tuple[tuple[_Parts, ...], ...] = tuple(tuple(_parts(it, der) for it in one["items"]) for one in sets)
+        self._sets = None
         # (a name under a tag begins behind that: with its first set)
         self._content: bytes = bytes(memoryview(der)[sets[0]["at"][0] : sets[-1]["at"][1]]) if sets else b""
 
     @property
     def sets(self) -> tuple[tuple[Attribute, ...], ...]:
         """The relative distinguished names, each a set of attributes, in the order of the encoding."""
+        if self._sets is None:
+            self._sets = tuple(tuple(Attribute(*it) for it in one) for one in self._parts)
         return self._sets
 
     @property
@@ -217,24 +220,25 @@ class Name:
     @property
     def common_name(self) -> Optional[str]:
         """The common name; of several the last, which is the most specific; None if there is none."""
-        found = [it.value for one in self._sets for it in one if it.identifier == COMMON_NAME]
+        found = [it[2] for one in self._parts for it in one if it[0] == COMMON_NAME]
         return str(found[-1]) if found else None
 
     def values(self, key: str) -> tuple[Union[str, bytes], ...]:
         """The values of the attributes of a type, by its identifier, as `2.5.4.10`, its name, as `organizationName`, or its
         short name in RFC 4514, as `O`."""
-        return tuple(it.value for it in self if key in (it.identifier, it.name, _SHORT.get(it.identifier)))
+        each = (it for one in self._parts for it in one)
+        return tuple(value for identifier, name, value, _ in each if key in (identifier, name, _SHORT.get(identifier)))
 
     def rfc4514(self) -> str:
         """The name as text (RFC 4514): the last set first, `CN=example.org,O=Example GmbH,C=DE`."""
-        return ",".join("+".join(it.rfc4514() for it in one) for one in reversed(self._sets))
+        return ",".join(["+".join([_written(*it) for it in one]) for one in reversed(self._parts)])
 
     def __iter__(self) -> Iterator[Attribute]:
-        return (it for one in self._sets for it in one)
+        return (it for one in self.sets for it in one)
 
     def __len__(self) -> int:
         """How many attributes there are."""
-        return sum(map(len, self._sets))
+        return sum(map(len, self._parts))
 
     def __str__(self) -> str:
         return self.rfc4514()

@@ -8,7 +8,7 @@ import struct
 from collections.abc import Callable
 from typing import Optional
 
-from ._library import BUFFER_TOO_SHORT, CALLS, OK, Room, given_back, items, taken
+from ._library import BUFFER_TOO_SHORT, CALLS, OK, given_back, taken
 
 # The numbers of two `struct cimaroly_time`, of `cimaroly_span`, `cimaroly_attribute` and `cimaroly_general_name`.
 _TIMES, _SPAN = struct.Struct("@qH5BxqH5Bx"), struct.Struct("@2N")
@@ -22,7 +22,21 @@ Numbers = list[tuple[int, ...]]
 
 
 _VALIDITY, _SERIAL_NUMBER = CALLS["cimaroly_validity"], CALLS["cimaroly_serial_number"]
-_FIND_EXTENSION = CALLS["cimaroly_find_extension"]
+_FIND_EXTENSION, _GENERAL_NAMES = CALLS["cimaroly_find_extension"], CALLS["cimaroly_general_names"]
+_SUBJECT, _ISSUER = CALLS["cimaroly_subject_attributes"], CALLS["cimaroly_issuer_attributes"]
+
+
+def _items(call: Callable[..., int], numbers: struct.Struct, given: bytes) -> tuple[int, Numbers]:
+    """The status of a call, and the items that it writes."""
+    room = taken()
+    while True:
+        status = call(given, len(given), room.items, room.size // numbers.size, room.count)
+        if status != BUFFER_TOO_SHORT:
+            break
+        room = room.larger(numbers.size)
+    found = room.listed(numbers, status)
+    given_back(room)
+    return status, found
 
 
 def times(certificate: bytes) -> tuple[tuple[int, ...], tuple[int, ...]]:
@@ -46,12 +60,12 @@ def serial_number(certificate: bytes) -> int:
 def subject_attributes(certificate: bytes) -> Numbers:
     """Where the attributes of the subject of a certificate stand: of each the number of its set, start and end of the
     identifier, the tag of the value, and start and end of what stands in that."""
-    return items("cimaroly_subject_attributes", _ATTRIBUTE, certificate)[1]
+    return _items(_SUBJECT, _ATTRIBUTE, certificate)[1]
 
 
 def issuer_attributes(certificate: bytes) -> Numbers:
     """The same of the issuer."""
-    return items("cimaroly_issuer_attributes", _ATTRIBUTE, certificate)[1]
+    return _items(_ISSUER, _ATTRIBUTE, certificate)[1]
 
 
 def extension(certificate: bytes, identifier: bytes) -> Optional[bytes]:
@@ -66,7 +80,7 @@ def extension(certificate: bytes, identifier: bytes) -> Optional[bytes]:
 def general_names(encoded: bytes) -> Optional[Numbers]:
     """Where the general names of a list stand: of each the tag, and start and end of what stands under it. None if the
     bytes encode no list of them."""
-    status, found = items("cimaroly_general_names", _GENERAL_NAME, encoded)
+    status, found = _items(_GENERAL_NAMES, _GENERAL_NAME, encoded)
     return found if status == OK else None
 
 
@@ -86,7 +100,7 @@ def _text(call: Callable[..., int], content: bytes) -> str:
     """What a call writes of an object identifier."""
     room = taken()
     while call(content, len(content), room.items, room.size, room.count) == BUFFER_TOO_SHORT:
-        room = Room(room.told())
-    text = str(room.front(room.told()), "ascii")
+        room = room.larger(1)
+    text = room.text()
     given_back(room)
     return text
