@@ -24,7 +24,7 @@ import sys
 
 from cryptography import x509
 from cryptography.hazmat.primitives import serialization
-from cryptography.hazmat.primitives.asymmetric import ec, ed25519, rsa
+from cryptography.hazmat.primitives.asymmetric import ed25519, rsa
 from cryptography.x509.oid import AuthorityInformationAccessOID, ExtendedKeyUsageOID, NameOID, ObjectIdentifier
 
 HERE = os.path.dirname(os.path.abspath(__file__))
@@ -45,6 +45,7 @@ sys.dont_write_bytecode = True
 make = module_at(f"{DATA}/make.py", "make")
 rows = module_at(f"{TESTS}/program_rows.py", "program_rows")
 by_hand = module_at(f"{HERE}/by_hand.py", "by_hand")
+asked = module_at(f"{HERE}/asked.py", "asked")
 
 COLUMNS = [
     "name",
@@ -372,52 +373,6 @@ def told_by_openssl(der):
     }
 
 
-# The types of attributes that have a short name (RFC 4514, 3).
-SHORT = {"CN", "L", "ST", "O", "OU", "C", "STREET", "DC", "UID"}
-
-
-def subject_by_rfc_4514(der):
-    """The subject as RFC 4514 writes it: what has no short name there by its identifier, and its encoding in hexadecimal."""
-    found = []
-    for options in ("RFC2253,-dn_rev,-esc_msb,utf8", "RFC2253,-dn_rev,oid,dump_all,dump_der"):
-        said = openssl("x509", "-inform", "DER", "-noout", "-subject", "-nameopt", options, data=der).decode()
-        found.append([re.split(r"(?<!\\)\+", it) for it in re.split(r"(?<!\\),", said.rstrip("\n").removeprefix("subject="))])
-    texts, digits = found
-    assert [*map(len, texts)] == [*map(len, digits)], found
-    sets = []
-    for text, other in zip(texts, digits):
-        both = zip(text, (it.partition("#") for it in other))
-        sets.append("+".join(one if one.split("=")[0] in SHORT else f"{kind}#{der.lower()}" for one, (kind, _, der) in both))
-    return ",".join(reversed(sets))
-
-
-def key_of(key):
-    """The algorithm of a key, its curve if it has one, and its size in bits."""
-    if isinstance(key, rsa.RSAPublicKey):
-        return f"RSA {key.key_size}"
-    if isinstance(key, ec.EllipticCurvePublicKey):
-        return f"EC {key.curve.name} {key.key_size}"
-    assert isinstance(key, ed25519.Ed25519PublicKey)
-    return "Ed25519 256"
-
-
-def asked_of(der):
-    """What people ask of a certificate first, by the package cryptography, and by OpenSSL how its subject is written."""
-    read = x509.load_der_x509_certificate(der)
-    common = read.subject.get_attributes_for_oid(NameOID.COMMON_NAME)
-    names = [it.value for it in read.extensions if isinstance(it.value, x509.SubjectAlternativeName)]
-    hosts = names[0].get_values_for_type(x509.DNSName) if names else []
-    times = (read.not_valid_before_utc, read.not_valid_after_utc)
-    return {
-        "common_name": common[-1].value if common else "none",
-        "serial_number": str(read.serial_number),
-        "unix_times": "..".join(str(int(it.timestamp())) for it in times),
-        "dns_names": " ".join(hosts) or "none",
-        "rfc4514": subject_by_rfc_4514(der) or "none",
-        "key": key_of(read.public_key()),
-    }
-
-
 def same_by_cryptography(der, kind, row):
     """Whether the package cryptography finds the same bytes signed, and the same extensions."""
     if kind == "certificate":
@@ -475,7 +430,7 @@ def rows_of_files():
         # (names that a terminal obeys are printed as other text, or aren't read)
         is_hostile = name.startswith("hostile")
         if kind == "certificate" and not is_hostile:
-            row |= told_by_openssl(der) | asked_of(der)
+            row |= told_by_openssl(der) | asked.asked_of(der)
         if kind in ("certificate", "request") and not is_hostile:
             same_by_cryptography(der, kind, row)
         if kind == "public-key":
@@ -508,7 +463,7 @@ def rows_by_cryptography():
     for name, kind, der in by_cryptography():
         row = row_of(name, kind, der.hex(), der, [], der)
         if kind == "certificate":
-            row |= told_by_openssl(der) | asked_of(der)
+            row |= told_by_openssl(der) | asked.asked_of(der)
         if kind in ("certificate", "request"):
             same_by_cryptography(der, kind, row)
         yield row

@@ -10,7 +10,8 @@ from typing import Any, NamedTuple, Optional, Union
 from . import _hosts, _library, _services, _values
 from ._armour import encoded
 from ._keys import Algorithm, PublicKey, signature_algorithm
-from ._names import COMMON_NAME, Address, AlternativeNames, Name, alternative_names, alternative_names_in, element, integer, octets
+from ._names import COMMON_NAME, Address, AlternativeNames, Name, alternative_names, alternative_names_in
+from ._names import element, integer, octets
 from ._services import Policy, Timestamp
 from ._structure import Extensions, Structure, inside, listed
 

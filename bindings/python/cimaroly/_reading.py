@@ -87,8 +87,8 @@ def _der(data: Data, kind: Kind) -> Held:
 def check(data: Data, kind: Kind = "certificate") -> Verdict:
     """Whether bytes encode a structure of a kind, and how they deviate from its DER encoding.
 
-    Of PEM the first block of the kind is taken; a text without blocks may be bare base64. Raises `Refused`, `PemError` if there is no such block or it can't be
-    decoded, `TypeError` for what isn't data, and `MemoryError`.
+    Of PEM the first block of the kind is taken; a text without blocks may be bare base64. Raises `Refused`, `PemError` if
+    there is no such block or it can't be decoded, `TypeError` for what isn't data, and `MemoryError`.
     """
     return checked(_der(data, kind), kind)
 

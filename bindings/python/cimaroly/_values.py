@@ -20,7 +20,6 @@ _SHORT = 64
 
 Numbers = list[tuple[int, ...]]
 
-
 _VALIDITY, _SERIAL_NUMBER = CALLS["cimaroly_validity"], CALLS["cimaroly_serial_number"]
 _FIND_EXTENSION, _GENERAL_NAMES = CALLS["cimaroly_find_extension"], CALLS["cimaroly_general_names"]
 _SUBJECT, _ISSUER = CALLS["cimaroly_subject_attributes"], CALLS["cimaroly_issuer_attributes"]

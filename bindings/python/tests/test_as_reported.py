@@ -34,8 +34,9 @@ def names() -> Iterator[bytes]:
     yield made.name((MAIL, 0x16, b"a@example.org"), ("2b060104018b3a00", 0x0C, b"long"))
     empty, one = element(0x31), made.name((COMMON, 0x0C, b"a"))[2:]
     two = element(0x31, made.name((COMMON, 0x0C, b"a"))[4:] + made.name((TITLE, 0x0C, b"b"))[4:])
-    for sets in ((), (empty,), (one, empty), (empty, one), (empty, empty, one, empty), (two, empty, one), (one, empty, empty, two)):
+    for sets in ((), (empty,), (one, empty), (empty, one), (empty, empty, one, empty), (two, empty, one)):
         yield made.sequence(*sets)
+    yield made.sequence(one, empty, empty, two)
 
 
 def certificates() -> Iterator[tuple[str, cimaroly.Certificate]]:
