@@ -17,14 +17,11 @@ def texts(name, table):
     return Region(KINDS, f"{name} = (", ")", [f'    "{it.text}",' for it in tables.rows_of(table)])
 
 
-def structure(kind):
-    """The fields of a `ctypes.Structure`."""
-    name = "_".join(tables.words_of(kind))
-    behind = f'class {tables.variant(kind)}(ctypes.Structure):\n    """`struct cimaroly_{name}`."""\n'
-    listed = [f'("{it.member}", Span)' for it in tables.fields(kind)]
-    line = f"    _fields_ = [{', '.join(listed)}]"
-    several = ["    _fields_ = [", *[f"        {it}," for it in listed], "    ]"]
-    return Region(LIBRARY, behind, "", [line] if len(line) <= 120 else several)
+def names_of(kind):
+    """The names of a kind's fields, in the order of its structure in the header."""
+    listed = [f'"{it.member}"' for it in tables.fields(kind)]
+    line = f'    "{kind}": ({", ".join(listed)}),'
+    return [line] if len(line) <= 120 else [f'    "{kind}": (', *[f"        {it}," for it in listed], "    ),"]
 
 
 def regions():
@@ -38,6 +35,5 @@ def regions():
     statuses = tables.rows_of("statuses")
     line = f"{', '.join(it.name for it in statuses)} = range({len(statuses)})"
     yield Region(LIBRARY, "# What a call answers.", "", [line])
-    yield from map(structure, tables.with_fields())
-    lines = [f'    "{it}": ("{tables.call_of(it)}", {tables.variant(it)}),' for it in tables.kinds_with_fields()]
-    yield Region(LIBRARY, "_FIELDS: dict[Kind, tuple[str, type[ctypes.Structure]]] = {", "}", lines)
+    lines = [line for it in tables.kinds_with_fields() for line in names_of(it)]
+    yield Region(LIBRARY, "FIELDS: dict[Kind, tuple[str, ...]] = {", "}", lines)
