@@ -3,5 +3,8 @@ pub mod Filling
 pub mod Telling
 pub mod TellingNames
 pub mod TellingGeneralNames
+pub mod TellingPurposes
 pub mod TellingExtensions
 pub mod TellingCertificates
+pub mod Hosting
+pub mod Usages

@@ -6,9 +6,12 @@ pub mod certificate;
 pub mod elements;
 pub mod extension;
 pub mod general_names;
+pub mod hosts;
 pub mod moment;
+pub mod purposes;
 mod put;
 mod times;
+pub mod usage;
 pub mod value;
 
 pub use crate::attributes::{AttributePlace, attributes_within};
@@ -18,5 +21,8 @@ pub use crate::certificate::{
 pub use crate::elements::content_within;
 pub use crate::extension::find_extension_within;
 pub use crate::general_names::{GeneralNamePlace, general_names_within};
+pub use crate::hosts::{host_matches, host_within};
 pub use crate::moment::Moment;
+pub use crate::purposes::purposes_within;
+pub use crate::usage::usage_bit_within;
 pub use crate::value::value_within;
