@@ -27,9 +27,9 @@ BUDGETS = [
     (16, ["x509_keys"]),
     (18, ["picky_asn1_x509_parts"]),
     (16, ["picky_asn1_x509"]),
-    (17, ["x509_tool_parts", "x509_callers", "refusing"]),
+    (15, ["x509_tool_parts", "x509_callers", "refusing"]),
     (17, ["x509_fields"]),
-    (13, ["x509_values"]),
+    (14, ["x509_values"]),
     (2, ["x509_oids_algorithms", "x509_oids_objects"]),
     (4, ["x509_outline_parts"]),
     (2, ["x509_outline"]),
@@ -41,9 +41,9 @@ BUDGETS = [
     (9, ["x509_report_parts"]),
     (3, ["x509_fingerprints"]),
     (1, ["x509_report_further"]),
-    (9, ["x509_oid_names", "x509_oid_text", "x509_report_fields", "x509_inspect_parts"]),
+    (8, ["x509_oid_names", "x509_oid_text", "x509_report_fields", "x509_inspect_parts"]),
     (17, ["x509_inspect", "cimaroly_work", "cimaroly_parts"]),
-    (42, ["lent_memory", "x509_flat", "x509_flat_report", "cimaroly_c"]),
+    (36, ["lent_memory", "x509_flat", "x509_flat_report", "cimaroly_c"]),
 ]
 
 

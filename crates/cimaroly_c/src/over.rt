@@ -5,12 +5,16 @@ ghost use Rattle.picky_asn1_x509.specs.Certificates.{signature_fields, certifica
 ghost use Rattle.picky_asn1_x509.specs.Requests.{request, request_info, request_parts};
 ghost use Rattle.picky_asn1_x509.specs.TbsCertificates.{tbs_certificate};
 ghost use Rattle.x509_flat.specs.Checks.{TellsOf};
+ghost use Rattle.x509_flat.specs.Constraints.{ConstraintsTold};
 ghost use Rattle.x509_flat.specs.Encodings.{EncodesOf};
 ghost use Rattle.x509_flat.specs.Extensions.{CarriedTold, ListTold};
 ghost use Rattle.x509_flat.specs.Fields.{CertificateTold, PrivateKeyTold, RequestTold};
+ghost use Rattle.x509_flat.specs.Hosts.{HostMatched};
 ghost use Rattle.x509_flat.specs.Places.{PlacesOf};
+ghost use Rattle.x509_flat.specs.Purposes.{PurposesFill};
 ghost use Rattle.x509_flat.specs.SignedParts.{SignedTold};
 ghost use Rattle.x509_flat.specs.Spans.{flat_span, flat_span_if};
+ghost use Rattle.x509_flat.specs.Usages.{UsageTold};
 ghost use Rattle.x509_flat.specs.Validities.{ValidityTold};
 ghost use Rattle.x509_flat.specs.Values.{GeneralNamesTold, NameFills, SpanTold};
 ghost use Rattle.x509_values.specs.Certificates.{ExtensionCarried, SerialCarried};
@@ -19,10 +23,12 @@ ghost use Rattle.cimaroly_c.specs.Exports.{Arena};
 
 use bumpalo::Bump;
 use lent_memory::{Lent, OneBlock};
+use x509_fields::Span;
 use x509_flat::certificate_fields::{
     FlatCertificate, certificate_fields as flat_certificate_fields,
 };
 use x509_flat::check::{Checked, check as flat_check};
+use x509_flat::constraints::{FlatConstraints, basic_constraints as flat_basic_constraints};
 use x509_flat::encode::encode as flat_encode;
 use x509_flat::extensions::{FlatExtension, of_certificate, of_extensions};
 use x509_flat::kind::Kind;
@@ -34,6 +40,7 @@ use x509_flat::request_fields::{FlatRequest, request_fields as flat_request_fiel
 use x509_flat::signed_part::{self, SignedAnswer};
 use x509_flat::span::FlatSpan;
 use x509_flat::status::{Answer, Sized};
+use x509_flat::usage::{FlatUsage, key_usage as flat_key_usage};
 use x509_flat::validity::{FlatValidity, validity as flat_validity};
 use x509_flat::values;
 use x509_flat_report::{Reporter, report as flat_report};
@@ -215,6 +222,46 @@ pub(crate) fn serial_number(bytes: &[u8]) -> Answer<FlatSpan>
     let block = OneBlock::from_mut(&mut nothing);
     let arena = Bump::new(&block);
     values::serial_number(&arena, bytes)
+}
+
+/// What basic constraints say.
+pub(crate) fn basic_constraints(octets: &[u8]) -> Answer<FlatConstraints>
+    ensures { ConstraintsTold octets.now result.status result.fields }
+{
+    let mut nothing = Lent::nothing();
+    let block = OneBlock::from_mut(&mut nothing);
+    let arena = Bump::new(&block);
+    flat_basic_constraints(&arena, octets)
+}
+
+/// The purposes of an extended key usage.
+pub(crate) fn purposes(octets: &[u8], out: &mut [Span]) -> Sized
+    ensures { PurposesFill octets.now out.old out.new result.status result.size }
+{
+    let mut nothing = Lent::nothing();
+    let block = OneBlock::from_mut(&mut nothing);
+    let arena = Bump::new(&block);
+    values::purposes(&arena, octets, out)
+}
+
+/// What a key usage says.
+pub(crate) fn key_usage(octets: &[u8]) -> Answer<FlatUsage>
+    ensures { UsageTold octets.now result.status result.fields }
+{
+    let mut nothing = Lent::nothing();
+    let block = OneBlock::from_mut(&mut nothing);
+    let arena = Bump::new(&block);
+    flat_key_usage(&arena, octets)
+}
+
+/// Whether a certificate is for a host.
+pub(crate) fn host_matches(bytes: &[u8], host: &[u8]) -> Answer<bool>
+    ensures { HostMatched Arena host.now bytes.now result.status result.fields }
+{
+    let mut nothing = Lent::nothing();
+    let block = OneBlock::from_mut(&mut nothing);
+    let arena = Bump::new(&block);
+    values::host_matches(&arena, bytes, host)
 }
 
 /// `report` of `x509_flat_report`.

@@ -1,14 +1,12 @@
 -- What is told of values.
-use Rattle.std.proofs.Common.{◌≡◌, ℕ, ◌+◌, ◌<◌, ◌≤◌, List, length, refl, sym, subst, arith, ◌⊎◌, inl, inr}
-use Rattle.x509_der.specs.Calls.{IsWhole, NoValue}
-use Rattle.x509_der.specs.Shape.{Shape, Lawful}
-use Rattle.x509_der.specs.Tally.{Tally}
+use Rattle.std.proofs.Common.{◌≡◌, ℕ, ◌+◌, List, length, sym, subst, arith, inl, inr}
+use Rattle.x509_der.specs.Calls.{NoValue}
+use Rattle.x509_der.specs.Shape.{Shape}
 use Rattle.x509_der.specs.Types.{ReadError}
-use Rattle.x509_der.specs.facts.Fields.{stands_whole}
-use Rattle.x509_fields.specs.Spans.{FieldIn, all_of}
+use Rattle.x509_fields.specs.Spans.{all_of}
 use Rattle.x509_flat.specs.Spans.{no_span}
 use Rattle.x509_flat.specs.Statuses.{IsStatusOf}
-use Rattle.x509_flat.specs.Values.{FrontFilled, FrontTold, SpanTold, ToldAs}
+use Rattle.x509_flat.specs.Values.{FrontFilled, FrontTold, SpanTold}
 use Rattle.x509_flat.specs.declared.span.FlatSpan.{FlatSpan}
 use Rattle.x509_flat.specs.declared.status.Status.{Status}
 use Rattle.x509_flat.specs.declared.status.Status.TheVariants as answer

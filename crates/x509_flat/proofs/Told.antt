@@ -6,7 +6,6 @@ use Rattle.x509_der.specs.Tally.{Mark}
 use Rattle.picky_asn1_x509.specs.Types.{ReadError, Refused}
 use Rattle.picky_asn1_x509.specs.Types.read_error as read_error
 use Rattle.x509_flat.specs.Checks.{Tells, verdict_of}
-use Rattle.x509_flat.specs.Encodings.{Untouched}
 use Rattle.x509_flat.specs.Places.{Places, PutsPlaces}
 use Rattle.x509_flat.specs.Statuses.{IsStatusOf}
 use Rattle.x509_flat.specs.declared.check.Verdict.{Verdict}

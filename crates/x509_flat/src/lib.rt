@@ -4,6 +4,7 @@
 
 pub mod certificate_fields;
 pub mod check;
+pub mod constraints;
 pub mod encode;
 pub mod extensions;
 pub mod kind;
@@ -13,5 +14,6 @@ pub mod request_fields;
 pub mod signed_part;
 pub mod span;
 pub mod status;
+pub mod usage;
 pub mod validity;
 pub mod values;

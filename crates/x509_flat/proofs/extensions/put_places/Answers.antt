@@ -1,4 +1,4 @@
-use Rattle.std.proofs.Common.{arith, refl, sym, ap, ◌∙◌}
+use Rattle.std.proofs.Common.{arith, refl, sym, ◌∙◌}
 use Rattle.x509_flat.proofs.ExtensionPlaces.{counted}
 use Rattle.x509_flat.proofs.extensions.put_places.Goals as goal
 

@@ -1,4 +1,4 @@
-use Rattle.std.proofs.Common.{◌≡◌, ◌+◌, ◌<◌, ◌≤◌, List, ◌∷◌, length, drop, arith, subst, sym, ap, ◌∙◌}
+use Rattle.std.proofs.Common.{◌+◌, ◌≤◌, List, length, drop, arith, subst}
 use Rattle.std.proofs.lemmas.List.{drop_all}
 use Rattle.picky_asn1_x509.specs.Extensions.{ExtensionFields}
 use Rattle.x509_flat.proofs.Counts.{sized_front}
