@@ -2,6 +2,8 @@
 #ifndef CIMAROLY_EXAMPLES_INPUT_H
 #define CIMAROLY_EXAMPLES_INPUT_H
 
+#include "cimaroly.h"
+
 #include <stdbool.h>
 #include <stddef.h>
 #include <stdint.h>
@@ -38,43 +40,25 @@ static inline uint8_t *read_file(const char *path, size_t *size)
     return NULL;
 }
 
-/* The value of a digit of base64, or -1. */
-static inline int base64_value(char digit)
+/* The first block of a PEM text with a label, or with any (RFC 7468), decoded in memory from malloc; or NULL. */
+static inline uint8_t *decode_pem(const uint8_t *text, size_t text_size, const char *label, size_t *size)
 {
-    static const char digits[] = "ABCDEFGHIJKLMNOPQRSTUVWXYZabcdefghijklmnopqrstuvwxyz0123456789+/";
-    const char *found = digit != '\0' ? strchr(digits, digit) : NULL;
-    return found != NULL ? (int)(found - digits) : -1;
-}
+    struct cimaroly_pem_block block = {{0, 0}, {0, 0}, 0, 0, 0, 0, 0};
+    uint32_t found = CIMAROLY_PEM_BLOCK;
+    bool is_it = false;
 
-/*
- * Decodes a PEM block of a text to the text's front, and tells how many bytes it has: the first block whose first line
- * begins so. False where there is none, or something else than base64 stands in it.
- */
-static inline bool decode_pem(uint8_t *text, const char *line, size_t *size)
-{
-    char *begin = strstr((char *)text, line);
-    char *body = begin != NULL ? strstr(begin + 11, "-----") : NULL;
-    char *end = body != NULL ? strstr(body + 5, "-----END ") : NULL;
-    unsigned bits = 0;
-    unsigned count = 0;
-
-    *size = 0;
-    if (end == NULL)
-        return false;
-    for (const char *at = body + 5; at < end && *at != '='; at++) {
-        if (*at == '\n' || *at == '\r' || *at == ' ' || *at == '\t')
-            continue;
-        int value = base64_value(*at);
-        if (value < 0)
-            return false;
-        bits = (bits << 6 | (unsigned)value) & 0xffff;
-        count += 6;
-        if (count >= 8) {
-            count -= 8;
-            text[(*size)++] = (uint8_t)(bits >> count & 0xff);
-        }
+    while (!is_it && found != CIMAROLY_PEM_NO_MORE) {
+        found = cimaroly_pem_next(text, text_size, block.next, block.next_line, &block);
+        size_t length = block.label.end - block.label.start;
+        is_it = found == CIMAROLY_PEM_BLOCK &&
+                (label == NULL || (length == strlen(label) && memcmp(text + block.label.start, label, length) == 0));
     }
-    return true;
+    uint8_t *der = is_it ? malloc(block.room + 1) : NULL;
+    if (der == NULL || cimaroly_pem_decode(text + block.text.start, block.text.end - block.text.start, der, block.room,
+                                           size) == CIMAROLY_OK)
+        return der;
+    free(der);
+    return NULL;
 }
 
 #endif

@@ -97,16 +97,20 @@ int main(int argc, char **argv)
 {
     size_t size = 0;
     uint8_t *bytes = argc == 2 ? read_file(argv[1], &size) : NULL;
+    uint8_t *der = bytes;
     int status = 2;
+    if (bytes != NULL && strstr((const char *)bytes, "-----BEGIN ") != NULL)
+        der = decode_pem(bytes, size, "CERTIFICATE", &size);
     if (argc != 2)
         fputs("usage: inspect FILE\n", stderr);
     else if (bytes == NULL)
         perror(argv[1]);
-    else if (strstr((const char *)bytes, "-----BEGIN ") != NULL &&
-             !decode_pem(bytes, "-----BEGIN CERTIFICATE-----", &size))
-        fputs("inspect: there is no certificate in PEM, or it is no base64 or has no end\n", stderr);
+    else if (der == NULL)
+        fputs("inspect: no certificate can be decoded from the PEM input\n", stderr);
     else
-        status = inspect(bytes, size);
+        status = inspect(der, size);
+    if (der != bytes)
+        free(der);
     free(bytes);
     return status;
 }

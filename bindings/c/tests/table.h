@@ -77,12 +77,10 @@ static inline uint8_t *read_input(const char *folder, const char *cell, size_t *
     uint8_t *text = read_file(path, size);
     if (text == NULL)
         stop("can't be read", path);
-    if (is_text(end, ".pem")) {
-        if (!decode_pem(text, "-----BEGIN ", size))
-            stop("has no PEM block", path);
-        return text;
-    }
-    uint8_t *bytes = decode_hex((const char *)text, size);
+    bool is_pem = is_text(end, ".pem");
+    uint8_t *bytes = is_pem ? decode_pem(text, *size, NULL, size) : decode_hex((const char *)text, size);
+    if (bytes == NULL)
+        stop("can't be decoded", path);
     free(text);
     return bytes;
 }
