@@ -35,6 +35,18 @@ impl Memory {
     }
 }
 
+/// How many uses `struct cimaroly_key_usage` tells.
+pub(crate) const USAGES: usize = 9;
+
+/// `struct cimaroly_basic_constraints`.
+#[derive(Default)]
+#[repr(C)]
+pub(crate) struct BasicConstraints {
+    pub(crate) is_ca: bool,
+    pub(crate) has_path_length: bool,
+    pub(crate) path_length: u8,
+}
+
 /// `struct cimaroly_span`.
 #[derive(Clone, Copy, Debug, Default)]
 #[repr(C)]
@@ -296,6 +308,23 @@ mod c {
             room: usize,
             count: *mut usize,
         ) -> u32;
+        pub(super) fn cimaroly_basic_constraints(
+            value: *const u8,
+            value_size: usize,
+            constraints: *mut BasicConstraints,
+        ) -> u32;
+        pub(super) fn cimaroly_key_usage(
+            value: *const u8,
+            value_size: usize,
+            usage: *mut [bool; USAGES],
+        ) -> u32;
+        pub(super) fn cimaroly_host_matches(
+            der: *const u8,
+            der_size: usize,
+            host: *const u8,
+            host_size: usize,
+            matches: *mut bool,
+        ) -> u32;
         pub(super) fn cimaroly_pem_next(
             text: *const u8,
             text_size: usize,
@@ -434,6 +463,21 @@ pub(crate) fn general_names(list: &[u8], out: &mut [GeneralNamePlace], count: &m
     let (at, room) = (out.as_mut_ptr(), out.len());
     // SAFETY: as above; `out` has room for `room` places, of which any numbers are one.
     unsafe { c::cimaroly_general_names(list.as_ptr(), list.len(), at, room, count) }
+}
+
+pub(crate) fn basic_constraints(value: &[u8], told: &mut BasicConstraints) -> u32 {
+    // SAFETY: as above; the call writes each field.
+    unsafe { c::cimaroly_basic_constraints(value.as_ptr(), value.len(), told) }
+}
+
+pub(crate) fn key_usage(value: &[u8], told: &mut [bool; USAGES]) -> u32 {
+    // SAFETY: as above; `struct cimaroly_key_usage` is so many `bool`.
+    unsafe { c::cimaroly_key_usage(value.as_ptr(), value.len(), told) }
+}
+
+pub(crate) fn host_matches(der: &[u8], host: &[u8], matches: &mut bool) -> u32 {
+    // SAFETY: as above.
+    unsafe { c::cimaroly_host_matches(der.as_ptr(), der.len(), host.as_ptr(), host.len(), matches) }
 }
 
 pub(crate) fn pem_next(text: &[u8], at: usize, line: u64, block: &mut FlatPemBlock) -> u32 {

@@ -1,5 +1,6 @@
 //! What the key of a certificate is for.
 
+use crate::library::{self, USAGES};
 use core::fmt;
 use core::ops::BitOr;
 
@@ -36,7 +37,7 @@ impl KeyUsage {
     pub const DECIPHER_ONLY: Self = KeyUsage(1 << 8);
 
     /// The names of the bits, from that of `digitalSignature` on.
-    const NAMES: [&'static str; 9] = [
+    const NAMES: [&'static str; USAGES] = [
         "digitalSignature",
         "nonRepudiation",
         "keyEncipherment",
@@ -48,11 +49,11 @@ impl KeyUsage {
         "decipherOnly",
     ];
 
-    /// The usage that the content of a BIT STRING says: a count of unused bits, and bits from the
-    /// highest of the first byte on.
-    pub(crate) fn of(content: &[u8]) -> Self {
-        let [first, second] = [1, 2].map(|index| content.get(index).copied().unwrap_or(0));
-        KeyUsage(u16::from(first.reverse_bits()) | u16::from(second.reverse_bits()) << 8)
+    /// The usage that the value of an extension encodes.
+    pub(crate) fn read(value: &[u8]) -> Self {
+        let mut uses = [false; USAGES];
+        library::key_usage(value, &mut uses);
+        KeyUsage(uses.into_iter().rev().fold(0, |bits, is_set| bits << 1 | u16::from(is_set)))
     }
 
     /// Whether each use of another is one of this.

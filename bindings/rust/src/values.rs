@@ -3,15 +3,11 @@
 use crate::elements::{first_in, Elements};
 use crate::fields::{Certificate, Extension, Request};
 use crate::general_names::GeneralNames;
-use crate::library::{self, Span};
+use crate::library::{self, BasicConstraints, Span};
 use crate::names::{Name, Source};
 use crate::oid::Oid;
 use crate::times::Time;
 use crate::usages::KeyUsage;
-
-const BOOLEAN: u8 = 1;
-
-const INTEGER: u8 = 2;
 
 /// The tag of `keyIdentifier` in an `authorityKeyIdentifier`.
 const KEY_IDENTIFIER: u8 = 0x80;
@@ -75,7 +71,7 @@ impl<'a> Certificate<'a> {
     /// What its key may be used for; `None` without a `keyUsage` (RFC 5280, 4.2.1.3).
     #[must_use]
     pub fn key_usage(&self) -> Option<KeyUsage> {
-        self.extension(Oid::KEY_USAGE).map(|value| KeyUsage::of(first_in(value)))
+        self.extension(Oid::KEY_USAGE).map(KeyUsage::read)
     }
 
     /// Purposes of its key, of which there are none without an `extKeyUsage` (RFC 5280, 4.2.1.12).
@@ -87,20 +83,33 @@ impl<'a> Certificate<'a> {
     /// Whether it is that of an authority: `cA` of `basicConstraints` (RFC 5280, 4.2.1.9).
     #[must_use]
     pub fn is_ca(&self) -> bool {
-        self.constraint(BOOLEAN).is_some_and(|content| content == [0xFF])
+        self.constraints().is_ca
     }
 
     /// `pathLenConstraint` of `basicConstraints` (RFC 5280, 4.2.1.9).
     #[must_use]
     pub fn path_length(&self) -> Option<u8> {
-        // (the library reads none above 255)
-        self.constraint(INTEGER)?.last().copied()
+        let constraints = self.constraints();
+        constraints.has_path_length.then_some(constraints.path_length)
     }
 
-    /// The field of `basicConstraints` with a tag.
-    fn constraint(&self, tag: u8) -> Option<&'a [u8]> {
-        let mut fields = Elements(first_in(self.extension(Oid::BASIC_CONSTRAINTS)?));
-        fields.find(|it| it.tag == tag).map(|it| it.content)
+    /// What `basicConstraints` says, or nothing without it.
+    fn constraints(&self) -> BasicConstraints {
+        let mut constraints = BasicConstraints::default();
+        if let Some(value) = self.extension(Oid::BASIC_CONSTRAINTS) {
+            library::basic_constraints(value, &mut constraints);
+        }
+        constraints
+    }
+
+    /// Whether it is for a host: a DNS name in ASCII, or an address, of version 6 with or without
+    /// brackets (RFC 9525). It goes by the first `subjectAltName` alone, where `*` may be the whole
+    /// left-most label, and says nothing of the signature, the chain or the time.
+    #[must_use]
+    pub fn matches_host(&self, host: &str) -> bool {
+        let mut matches = false;
+        library::host_matches(self.whole.bytes(), host.as_bytes(), &mut matches);
+        matches
     }
 
     /// What `subjectKeyIdentifier` holds (RFC 5280, 4.2.1.2).

@@ -253,3 +253,34 @@ fn usages() {
         assert_eq!(certificate.authority_key_identifier(), None);
     });
 }
+
+#[test]
+fn hosts() {
+    of_row("certificate_rsa", |certificate| {
+        let own = [
+            "example.org",
+            "EXAMPLE.org",
+            "www.example.org.",
+            "192.0.2.7",
+            "2001:db8::1",
+            "[2001:DB8:0::1]",
+        ];
+        for host in own {
+            assert!(certificate.matches_host(host), "{host}");
+        }
+        let others = [
+            "example.com",
+            "a.www.example.org",
+            "*.example.org",
+            "192.0.2.8",
+            "2001:db8::2",
+            "org",
+            "",
+            "é",
+        ];
+        for host in others {
+            assert!(!certificate.matches_host(host), "{host}");
+        }
+    });
+    of_row("deviation_5_version", |certificate| assert!(!certificate.matches_host("example.org")));
+}
