@@ -224,6 +224,26 @@ struct cimaroly_general_name {
     struct cimaroly_span content; /* what stands under the tag */
 };
 
+/* What basic constraints say (RFC 5280, 4.2.1.9). */
+struct cimaroly_basic_constraints {
+    bool is_ca;           /* false where cA is absent */
+    bool has_path_length; /* whether pathLenConstraint is there */
+    uint8_t path_length;  /* 0 where it isn't */
+};
+
+/* What a key may be used for (RFC 5280, 4.2.1.3). */
+struct cimaroly_key_usage {
+    bool digital_signature;
+    bool content_commitment; /* nonRepudiation */
+    bool key_encipherment;
+    bool data_encipherment;
+    bool key_agreement;
+    bool key_cert_sign;
+    bool crl_sign;
+    bool encipher_only;
+    bool decipher_only;
+};
+
 /* Where a block of a PEM text stands. */
 struct cimaroly_pem_block {
     struct cimaroly_span label; /* what stands between `-----BEGIN ` and `-----` */
@@ -344,6 +364,48 @@ uint32_t cimaroly_find_extension(const uint8_t *der, size_t der_size, const uint
  */
 uint32_t cimaroly_general_names(const uint8_t *list, size_t list_size, struct cimaroly_general_name *names, size_t room,
                                 size_t *count);
+
+/*
+ * What basic constraints say (RFC 5280, 4.2.1.9), whose value is that of the extension 55 1D 13. It takes no memory.
+ *
+ * CIMAROLY_OK.
+ * CIMAROLY_REFUSED: the input encodes no basic constraints; a path length above 255 is refused too.
+ */
+uint32_t cimaroly_basic_constraints(const uint8_t *value, size_t value_size,
+                                    struct cimaroly_basic_constraints *constraints);
+
+/*
+ * What a key usage says (RFC 5280, 4.2.1.3), whose value is that of the extension 55 1D 0F. It takes no memory.
+ *
+ * CIMAROLY_OK.
+ * CIMAROLY_REFUSED: the input encodes no key usage.
+ */
+uint32_t cimaroly_key_usage(const uint8_t *value, size_t value_size, struct cimaroly_key_usage *usage);
+
+/*
+ * Writes where the purposes of an extended key usage stand (RFC 5280, 4.2.1.12), whose value is that of the extension
+ * 55 1D 25, to the front of `purposes`, which has room for `room` of them, in order: the contents of their identifiers,
+ * as cimaroly_oid_text and cimaroly_oid_name take them. It takes no memory.
+ *
+ * CIMAROLY_OK: *count is how many there are.
+ * CIMAROLY_BUFFER_TOO_SHORT: so too, and as many are written as there is room for.
+ * CIMAROLY_REFUSED: the input encodes no such list.
+ */
+uint32_t cimaroly_purposes(const uint8_t *value, size_t value_size, struct cimaroly_span *purposes, size_t room,
+                           size_t *count);
+
+/*
+ * Whether a certificate is for a host, which is a DNS name in ASCII, or an address of version 4 or 6, the latter with or
+ * without brackets (RFC 9525, 6). It is where one of the names of its first subjectAltName is the host's: a dNSName, in
+ * any case of letters and with `*` for the whole left-most label, or an iPAddress of the same bytes. The common name is
+ * never looked at, nor are names in a form that deviates from DER. It takes no memory, and is no check of a signature or
+ * of a chain.
+ *
+ * CIMAROLY_OK: *matches is false too where `host` is neither a DNS name nor an address.
+ * CIMAROLY_REFUSED: the input encodes no certificate, and *matches is false.
+ */
+uint32_t cimaroly_host_matches(const uint8_t *der, size_t der_size, const uint8_t *host, size_t host_size,
+                               bool *matches);
 
 /*
  * Writes where each extension stands, in the order of the input, to the front of `extensions`, which has room for
