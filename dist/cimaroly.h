@@ -225,14 +225,14 @@ struct cimaroly_general_name {
 };
 
 /* What basic constraints say (RFC 5280, 4.2.1.9). */
-struct cimaroly_basic_constraints {
+struct cimaroly_constraints {
     bool is_ca;           /* false where cA is absent */
     bool has_path_length; /* whether pathLenConstraint is there */
     uint8_t path_length;  /* 0 where it isn't */
 };
 
 /* What a key may be used for (RFC 5280, 4.2.1.3). */
-struct cimaroly_key_usage {
+struct cimaroly_usage {
     bool digital_signature;
     bool content_commitment; /* nonRepudiation */
     bool key_encipherment;
@@ -372,7 +372,7 @@ uint32_t cimaroly_general_names(const uint8_t *list, size_t list_size, struct ci
  * CIMAROLY_REFUSED: the input encodes no basic constraints; a path length above 255 is refused too.
  */
 uint32_t cimaroly_basic_constraints(const uint8_t *value, size_t value_size,
-                                    struct cimaroly_basic_constraints *constraints);
+                                    struct cimaroly_constraints *constraints);
 
 /*
  * What a key usage says (RFC 5280, 4.2.1.3), whose value is that of the extension 55 1D 0F. It takes no memory.
@@ -380,7 +380,7 @@ uint32_t cimaroly_basic_constraints(const uint8_t *value, size_t value_size,
  * CIMAROLY_OK.
  * CIMAROLY_REFUSED: the input encodes no key usage.
  */
-uint32_t cimaroly_key_usage(const uint8_t *value, size_t value_size, struct cimaroly_key_usage *usage);
+uint32_t cimaroly_key_usage(const uint8_t *value, size_t value_size, struct cimaroly_usage *usage);
 
 /*
  * Writes where the purposes of an extended key usage stand (RFC 5280, 4.2.1.12), whose value is that of the extension

@@ -35,10 +35,10 @@ impl Memory {
     }
 }
 
-/// How many uses `struct cimaroly_key_usage` tells.
+/// How many uses `struct cimaroly_usage` tells.
 pub(crate) const USAGES: usize = 9;
 
-/// `struct cimaroly_basic_constraints`.
+/// `struct cimaroly_constraints`.
 #[derive(Default)]
 #[repr(C)]
 pub(crate) struct BasicConstraints {
@@ -195,8 +195,8 @@ pub(crate) mod status {
 
 mod c {
     use super::{
-        AttributePlace, Certificate, ExtensionPlaces, FlatPemBlock, GeneralNamePlace, Memory,
-        Place, PrivateKey, Request, Signed, Span, Time, Verdict,
+        AttributePlace, BasicConstraints, Certificate, ExtensionPlaces, FlatPemBlock,
+        GeneralNamePlace, Memory, Place, PrivateKey, Request, Signed, Span, Time, Verdict, USAGES,
     };
 
     extern "C" {
@@ -471,7 +471,7 @@ pub(crate) fn basic_constraints(value: &[u8], told: &mut BasicConstraints) -> u3
 }
 
 pub(crate) fn key_usage(value: &[u8], told: &mut [bool; USAGES]) -> u32 {
-    // SAFETY: as above; `struct cimaroly_key_usage` is so many `bool`.
+    // SAFETY: as above; `struct cimaroly_usage` is so many `bool`.
     unsafe { c::cimaroly_key_usage(value.as_ptr(), value.len(), told) }
 }
 
