@@ -1,0 +1,4 @@
+pub mod CertificateLists
+pub mod Revoked
+pub mod TbsCertLists
+pub mod facts
