@@ -33,7 +33,7 @@ BUDGETS = [
     (2, ["x509_oids_algorithms", "x509_oids_objects"]),
     (4, ["x509_outline_parts"]),
     (2, ["x509_outline"]),
-    (2, ["x509_list_outlines"]),
+    (4, ["x509_more_outlines", "x509_list_outlines"]),
     (3, ["x509_make"]),
     (3, ["x509_hosts"]),
     (3, ["x509_more_extensions"]),

@@ -1,0 +1,4 @@
+pub mod PrivateKeys
+pub mod PublicBits
+pub mod Requests
+pub mod facts
