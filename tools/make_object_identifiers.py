@@ -1,7 +1,8 @@
 #!/usr/bin/env python3
 """Writes the two tables of object identifiers from object_identifiers.tsv, and the names of these and of further_names.tsv.
 
-A further identifier is one more line there; then run tools/make_tables.py, which this is a part of.
+A further identifier is one more line there; then run tools/make_tables.py, which this is a part of. What names stand for is
+written of these two and of short_names.tsv.
 """
 import csv
 import pathlib
@@ -149,11 +150,45 @@ def tests_text(rows):
     return text + "}\n"
 
 
+BY_NAME_HEAD = """//! {title}
+//!
+//! This file is written by `tools/make_object_identifiers.py`.
+
+use crate::table::Table;
+"""
+
+BY_NAME_TITLES = {
+    "algorithms": "What the names of algorithms and curves stand for.",
+    "objects": "What the names of attributes, extensions, key purposes and other objects stand for.",
+    "further": "What further names stand for, and short ones.",
+}
+
+
+def by_name_texts(parted):
+    """The tables of what names stand for, by module: a constant for so many lines, and one for all of these."""
+    texts = {}
+    for module, rows in parted.items():
+        parts = [sorted(rows, key=lambda row: row["name"])[at : at + LINES] for at in range(0, len(rows), LINES)]
+        text = BY_NAME_HEAD.format(title=BY_NAME_TITLES[module])
+        for number, part in enumerate(parts, 1):
+            text += f"\n/// From `{part[0]['name']}` to `{part[-1]['name']}`.\n"
+            text += f"const NAMES_{number}: Table = &[\n"
+            for row in part:
+                text += pair(f'"{row["name"]}"', f'&[{", ".join(row["arcs"].split("."))}]')
+            text += "];\n"
+        names = ", ".join(f"NAMES_{number}" for number in range(1, len(parts) + 1))
+        text += f"\n/// All of them.\npub const TABLES: &'static [Table] = &[{names}];\n"
+        texts[path_of("x509_oids_by_name", f"{module}.rt")] = text
+    return texts
+
+
 def made():
     """The text of each file that is written, by its path."""
     rows = rows_of("object_identifiers.tsv")
     texts = {path_of(crate): identifiers(crate, rows) for crate in TITLES}
     texts |= names_texts(rows + rows_of("further_names.tsv"))
+    parted = {it.removeprefix("x509_oids_"): [row for row in rows if row["crate"] == it] for it in TITLES}
+    texts |= by_name_texts({**parted, "further": rows_of("further_names.tsv") + rows_of("short_names.tsv")})
     return {**texts, "crates/x509_report_tests/src/tests/names.rt": tests_text(rows)}
 
 

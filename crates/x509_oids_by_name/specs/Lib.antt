@@ -1,0 +1,2 @@
+-- What names stand for.
+pub mod Names
