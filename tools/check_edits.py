@@ -35,7 +35,7 @@ BUDGETS = [
     (2, ["x509_outline"]),
     (4, ["x509_more_outlines", "x509_list_outlines"]),
     (3, ["x509_make"]),
-    (2, ["x509_oids_by_name"]),
+    (4, ["x509_make_parts", "x509_oids_by_name"]),
     (3, ["x509_hosts"]),
     (3, ["x509_more_extensions"]),
     (16, ["x509_policies", "x509_distribution_points", "x509_qualified", "x509_timestamps", "x509_further_extensions"]),
