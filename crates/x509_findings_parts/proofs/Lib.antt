@@ -1,0 +1,2 @@
+-- Lemmas about what the rules ask.
+pub mod NumberFacts

@@ -1,0 +1,4 @@
+-- What the rules ask, each from its clause.
+pub mod Numbers
+pub mod Times
+pub mod Keys
