@@ -1,2 +1,4 @@
 -- Lemmas about what the rules ask.
 pub mod NumberFacts
+pub mod OtherViews
+pub mod FirstFeature

@@ -2,3 +2,5 @@
 pub mod Numbers
 pub mod Times
 pub mod Keys
+pub mod Extensions
+pub mod Features

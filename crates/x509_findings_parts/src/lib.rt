@@ -1,11 +1,13 @@
-//! What is wrong with parts of certificates, by RFC 5280 and RFC 8017: numbers, times and keys. Each call
-//! answers whether a rule is broken, and takes no memory.
+//! What is wrong with parts of certificates, by RFC 5280 and RFC 8017: numbers, times, keys and lists of extensions. Each
+//! call answers whether a rule is broken, and takes no memory.
 #![tactic(auto)]
 
+pub mod extension;
 pub mod key;
 pub mod number;
 pub mod time;
 
+pub use crate::extension::{Feature, some_have};
 pub use crate::key::{
     has_even_exponent, has_even_modulus, has_low_exponent, has_low_modulus, has_short_modulus,
 };

@@ -1,0 +1,90 @@
+-- What another view lends isn't what a rule looks for.
+use Rattle.std.proofs.Common.{◌≡◌, false, refl}
+use Rattle.picky_asn1_x509_parts.specs.Extensions.{viewed}
+use Rattle.picky_asn1_x509_parts.specs.declared.extension_view.ExtensionView.{ExtensionView}
+use Rattle.picky_asn1_x509_parts.specs.declared.extension_view.ExtensionView.TheVariants as view
+use Rattle.x509_findings_parts.specs.Extensions.{allows_signing, has_no_purpose, limits_no_path, makes_authority, names_no_issuer, names_no_subject, names_subject}
+
+-- what another view lends makes no authority
+pub other-makes_authority : {A : Type 0} (v : ExtensionView A) → ((x : _) → v ≡ view.BasicConstraints x → ⊥) → makes_authority (viewed v) ≡ false
+other-makes_authority (view.AuthorityKeyIdentifier x) h = refl
+other-makes_authority (view.SubjectKeyIdentifier x) h = refl
+other-makes_authority (view.KeyUsage x) h = refl
+other-makes_authority (view.SubjectAltName x) h = refl
+other-makes_authority (view.IssuerAltName x) h = refl
+other-makes_authority (view.BasicConstraints x) h = absurd (h x refl)
+other-makes_authority (view.ExtendedKeyUsage x) h = refl
+other-makes_authority (view.Generic x) h = refl
+other-makes_authority (view.CrlNumber x) h = refl
+
+-- what another view lends limits no path
+pub other-limits_no_path : {A : Type 0} (v : ExtensionView A) → ((x : _) → v ≡ view.BasicConstraints x → ⊥) → limits_no_path (viewed v) ≡ false
+other-limits_no_path (view.AuthorityKeyIdentifier x) h = refl
+other-limits_no_path (view.SubjectKeyIdentifier x) h = refl
+other-limits_no_path (view.KeyUsage x) h = refl
+other-limits_no_path (view.SubjectAltName x) h = refl
+other-limits_no_path (view.IssuerAltName x) h = refl
+other-limits_no_path (view.BasicConstraints x) h = absurd (h x refl)
+other-limits_no_path (view.ExtendedKeyUsage x) h = refl
+other-limits_no_path (view.Generic x) h = refl
+other-limits_no_path (view.CrlNumber x) h = refl
+
+-- what another view lends allows no signing
+pub other-allows_signing : {A : Type 0} (v : ExtensionView A) → ((x : _) → v ≡ view.KeyUsage x → ⊥) → allows_signing (viewed v) ≡ false
+other-allows_signing (view.AuthorityKeyIdentifier x) h = refl
+other-allows_signing (view.SubjectKeyIdentifier x) h = refl
+other-allows_signing (view.KeyUsage x) h = absurd (h x refl)
+other-allows_signing (view.SubjectAltName x) h = refl
+other-allows_signing (view.IssuerAltName x) h = refl
+other-allows_signing (view.BasicConstraints x) h = refl
+other-allows_signing (view.ExtendedKeyUsage x) h = refl
+other-allows_signing (view.Generic x) h = refl
+other-allows_signing (view.CrlNumber x) h = refl
+
+-- what another view lends names no subject
+pub other-names_subject : {A : Type 0} (v : ExtensionView A) → ((x : _) → v ≡ view.SubjectAltName x → ⊥) → names_subject (viewed v) ≡ false
+other-names_subject (view.AuthorityKeyIdentifier x) h = refl
+other-names_subject (view.SubjectKeyIdentifier x) h = refl
+other-names_subject (view.KeyUsage x) h = refl
+other-names_subject (view.SubjectAltName x) h = absurd (h x refl)
+other-names_subject (view.IssuerAltName x) h = refl
+other-names_subject (view.BasicConstraints x) h = refl
+other-names_subject (view.ExtendedKeyUsage x) h = refl
+other-names_subject (view.Generic x) h = refl
+other-names_subject (view.CrlNumber x) h = refl
+
+-- what another view lends is no list of the subject's names
+pub other-names_no_subject : {A : Type 0} (v : ExtensionView A) → ((x : _) → v ≡ view.SubjectAltName x → ⊥) → names_no_subject (viewed v) ≡ false
+other-names_no_subject (view.AuthorityKeyIdentifier x) h = refl
+other-names_no_subject (view.SubjectKeyIdentifier x) h = refl
+other-names_no_subject (view.KeyUsage x) h = refl
+other-names_no_subject (view.SubjectAltName x) h = absurd (h x refl)
+other-names_no_subject (view.IssuerAltName x) h = refl
+other-names_no_subject (view.BasicConstraints x) h = refl
+other-names_no_subject (view.ExtendedKeyUsage x) h = refl
+other-names_no_subject (view.Generic x) h = refl
+other-names_no_subject (view.CrlNumber x) h = refl
+
+-- what another view lends is no list of the issuer's names
+pub other-names_no_issuer : {A : Type 0} (v : ExtensionView A) → ((x : _) → v ≡ view.IssuerAltName x → ⊥) → names_no_issuer (viewed v) ≡ false
+other-names_no_issuer (view.AuthorityKeyIdentifier x) h = refl
+other-names_no_issuer (view.SubjectKeyIdentifier x) h = refl
+other-names_no_issuer (view.KeyUsage x) h = refl
+other-names_no_issuer (view.SubjectAltName x) h = refl
+other-names_no_issuer (view.IssuerAltName x) h = absurd (h x refl)
+other-names_no_issuer (view.BasicConstraints x) h = refl
+other-names_no_issuer (view.ExtendedKeyUsage x) h = refl
+other-names_no_issuer (view.Generic x) h = refl
+other-names_no_issuer (view.CrlNumber x) h = refl
+
+-- what another view lends is no list of purposes
+pub other-has_no_purpose : {A : Type 0} (v : ExtensionView A) → ((x : _) → v ≡ view.ExtendedKeyUsage x → ⊥) → has_no_purpose (viewed v) ≡ false
+other-has_no_purpose (view.AuthorityKeyIdentifier x) h = refl
+other-has_no_purpose (view.SubjectKeyIdentifier x) h = refl
+other-has_no_purpose (view.KeyUsage x) h = refl
+other-has_no_purpose (view.SubjectAltName x) h = refl
+other-has_no_purpose (view.IssuerAltName x) h = refl
+other-has_no_purpose (view.BasicConstraints x) h = refl
+other-has_no_purpose (view.ExtendedKeyUsage x) h = absurd (h x refl)
+other-has_no_purpose (view.Generic x) h = refl
+other-has_no_purpose (view.CrlNumber x) h = refl

@@ -1,0 +1,38 @@
+-- What is asked of the extensions of a certificate (RFC 5280, 4.2.1).
+use Rattle.std.specs.Prelude.{Bool, true, false, not, ◌&&◌, is_some, slice_index_or, unwrap_or}
+use Rattle.x509_der.specs.Items.{no_items}
+use Rattle.picky_asn1_x509_parts.specs.declared.extension_value.ExtensionValue.{ExtensionValue}
+use Rattle.picky_asn1_x509_parts.specs.declared.extension_value.ExtensionValue.TheVariants as value
+
+-- basic constraints that say that the subject is an authority: cA is FALSE by default (4.2.1.9)
+abbrev pub makes_authority : {A : Type 0} → ExtensionValue A → Bool
+makes_authority (value.BasicConstraints constraints) = unwrap_or constraints.ca false
+makes_authority v = false
+
+-- basic constraints with a path length, where the subject is no authority (4.2.1.9)
+abbrev pub limits_no_path : {A : Type 0} → ExtensionValue A → Bool
+limits_no_path (value.BasicConstraints constraints) = is_some constraints.pathlen && not (unwrap_or constraints.ca false)
+limits_no_path v = false
+
+-- a key usage with keyCertSign, the bit 5 (4.2.1.3)
+abbrev pub allows_signing : {A : Type 0} → ExtensionValue A → Bool
+allows_signing (value.KeyUsage bits) = slice_index_or bits 5 false
+allows_signing v = false
+
+-- further names of the subject (4.2.1.6)
+abbrev pub names_subject : {A : Type 0} → ExtensionValue A → Bool
+names_subject (value.SubjectAltName names) = true
+names_subject v = false
+
+-- lists that have one item at least: GeneralNames (4.2.1.6, 4.2.1.7) and ExtKeyUsageSyntax (4.2.1.12), SEQUENCE SIZE (1..MAX)
+abbrev pub names_no_subject : {A : Type 0} → ExtensionValue A → Bool
+names_no_subject (value.SubjectAltName names) = no_items names
+names_no_subject v = false
+
+abbrev pub names_no_issuer : {A : Type 0} → ExtensionValue A → Bool
+names_no_issuer (value.IssuerAltName names) = no_items names
+names_no_issuer v = false
+
+abbrev pub has_no_purpose : {A : Type 0} → ExtensionValue A → Bool
+has_no_purpose (value.ExtendedKeyUsage purposes) = no_items purposes
+has_no_purpose v = false
