@@ -30,6 +30,7 @@ BUDGETS = [
     (15, ["x509_tool_parts", "x509_callers", "refusing"]),
     (17, ["x509_fields"]),
     (14, ["x509_values"]),
+    (3, ["x509_findings_parts"]),
     (2, ["x509_oids_algorithms", "x509_oids_objects"]),
     (4, ["x509_outline_parts"]),
     (2, ["x509_outline"]),
@@ -45,7 +46,7 @@ BUDGETS = [
     (1, ["x509_report_further"]),
     (8, ["x509_oid_names", "x509_oid_text", "x509_report_fields", "x509_inspect_parts"]),
     (17, ["x509_inspect", "cimaroly_work", "cimaroly_parts"]),
-    (36, ["lent_memory", "x509_flat", "x509_flat_report", "cimaroly_c"]),
+    (35, ["lent_memory", "x509_flat", "x509_flat_report", "cimaroly_c"]),
 ]
 
 
