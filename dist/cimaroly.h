@@ -1,21 +1,23 @@
 /* SPDX-License-Identifier: MIT OR Apache-2.0 */
 /*
- * cimaroly.h: check, encode and look into X.509 structures in DER.
+ * cimaroly.h: check, encode, look into and make X.509 structures in DER.
  *
- * Every call but those for PEM reads the whole of its input as one structure of a kind, and answers a status. What the
- * calls promise is proved (docs/PROVED.md). Tested, not proved: that a call leaves memory->at and memory->size as they
- * were, and what the text of cimaroly_report says. Measured: the sizes of memory and of the stack that are given here.
+ * Every call that looks reads the whole of its input as one structure of a kind, and answers a status, and so do those
+ * that make. What the calls promise is proved (docs/PROVED.md). Tested, not proved: that a call leaves memory->block
+ * and memory->size as they were, what the texts of cimaroly_report and cimaroly_why_not_made say, and that what
+ * cimaroly_make makes says what the description does. Measured: the sizes of memory and of the stack that are given
+ * here.
  *
  * Rules for every call:
  *
- * - No pointer may be NULL, even if the size beside it is 0; only memory->at may, if memory->size is 0.
+ * - No pointer may be NULL, even if the size beside it is 0; only memory->block may, if memory->size is 0.
  * - What is written may overlap neither the input nor anything else that the call is given.
  * - Nothing is kept between calls, so any number of threads may call at once, each with memory of its own.
- * - A call never calls malloc. It works in the memory that it is lent (struct cimaroly_memory), which is the caller's
- *   again when it returns. Only cimaroly_encode, cimaroly_report and, if the input has deviations, cimaroly_places
- *   need any: for the others { NULL, 0 } will do, or they are lent none, and they never answer CIMAROLY_OUT_OF_MEMORY.
- *   cimaroly_check takes less than 2 KB of the stack, whatever the size of the input. The forms whose names end in
- *   _malloc take the memory that is needed from malloc, ask for more if it was too little, and free it.
+ * - A call never calls malloc. Calls that only look take no memory: cimaroly_check works in less than 2 KB of the stack,
+ *   whatever the size of the input. Calls that make, cimaroly_encode, cimaroly_report and, if the input has deviations,
+ *   cimaroly_places work in memory that they are lent (struct cimaroly_memory), which is the caller's again when they
+ *   return. Where the environment is hosted, their forms whose names end in _malloc take what is needed from malloc, ask
+ *   for more if it was too little, and free it.
  * - A result, a size or a count is written whatever the status, and is all zeros unless stated otherwise. A buffer is
  *   written with CIMAROLY_OK alone; with every other status it is unchanged, unless stated otherwise.
  * - Places count bytes of the input from 0. A span covers the bytes start..end, without the one at end.
@@ -29,7 +31,9 @@
 #include <stdbool.h>
 #include <stddef.h>
 #include <stdint.h>
+#if __STDC_HOSTED__
 #include <stdlib.h>
+#endif
 
 /* The version of this header, by Semantic Versioning; cimaroly_version() answers that of the library. */
 #define CIMAROLY_VERSION "0.1.0"
@@ -55,7 +59,9 @@ enum cimaroly_kind {
     CIMAROLY_NAME = 8,            /* Name (RFC 5280, 4.1.2.4) */
     CIMAROLY_EXTENSIONS = 9,      /* Extensions (RFC 5280, 4.1) */
     CIMAROLY_ALGORITHM = 10,      /* AlgorithmIdentifier (RFC 5280, 4.1.1.2), of an algorithm that is known */
-    CIMAROLY_RAW_ALGORITHM = 11   /* AlgorithmIdentifier with any parameters */
+    CIMAROLY_RAW_ALGORITHM = 11,  /* AlgorithmIdentifier with any parameters */
+    CIMAROLY_REQUEST_INFO = 12,   /* CertificationRequestInfo (RFC 2986, 4.1) */
+    CIMAROLY_TBS_CERTIFICATE = 13 /* TBSCertificate (RFC 5280, 4.1.2) */
 };
 
 /* What a call answers. */
@@ -111,13 +117,13 @@ enum cimaroly_pem {
 };
 
 /*
- * Memory that a call works in. `at` is aligned to 16, as what malloc returns. `size` is in bytes; those past the last
- * multiple of 16 aren't used. The call writes both fields, and restores them before it returns. A certificate needs
+ * Memory that a call works in. `block` is aligned to 16, as what malloc returns. `size` is in bytes; those past the
+ * last multiple of 16 aren't used. The call writes both fields, and restores them before it returns. A certificate needs
  * some 15 times its size and a few thousand bytes, a list of many small items up to 120 times its size, and
  * cimaroly_report up to three times as much.
  */
 struct cimaroly_memory {
-    void *at;
+    void *block;
     size_t size;
 };
 
@@ -268,8 +274,7 @@ uint32_t cimaroly_version(void);
  * counts are 0.
  * CIMAROLY_UNKNOWN_KIND.
  */
-uint32_t cimaroly_check(struct cimaroly_memory *memory, uint32_t kind, const uint8_t *der, size_t der_size,
-                        struct cimaroly_verdict *verdict);
+uint32_t cimaroly_check(uint32_t kind, const uint8_t *der, size_t der_size, struct cimaroly_verdict *verdict);
 
 /*
  * Writes the DER encoding of the value that the input encodes to the front of `out`, which has room for `out_size`
@@ -298,19 +303,16 @@ uint32_t cimaroly_places(struct cimaroly_memory *memory, uint32_t kind, const ui
  * CIMAROLY_OK, CIMAROLY_REFUSED.
  * CIMAROLY_UNKNOWN_KIND: `kind` is neither CIMAROLY_CERTIFICATE nor CIMAROLY_REQUEST.
  */
-uint32_t cimaroly_signed_part(struct cimaroly_memory *memory, uint32_t kind, const uint8_t *der, size_t der_size,
-                              struct cimaroly_signed *part);
+uint32_t cimaroly_signed_part(uint32_t kind, const uint8_t *der, size_t der_size, struct cimaroly_signed *part);
 
 /*
  * Where the fields of a certificate, a request or a private key stand.
  *
  * CIMAROLY_OK, CIMAROLY_REFUSED.
  */
-uint32_t cimaroly_certificate_fields(struct cimaroly_memory *memory, const uint8_t *der, size_t der_size,
-                                     struct cimaroly_certificate *fields);
-uint32_t cimaroly_request_fields(struct cimaroly_memory *memory, const uint8_t *der, size_t der_size,
-                                 struct cimaroly_request *fields);
-uint32_t cimaroly_private_key_fields(struct cimaroly_memory *memory, const uint8_t *der, size_t der_size,
+uint32_t cimaroly_certificate_fields(const uint8_t *der, size_t der_size, struct cimaroly_certificate *fields);
+uint32_t cimaroly_request_fields(const uint8_t *der, size_t der_size, struct cimaroly_request *fields);
+uint32_t cimaroly_private_key_fields(const uint8_t *der, size_t der_size,
                                      struct cimaroly_private_key *fields);
 
 /*
@@ -415,8 +417,8 @@ uint32_t cimaroly_host_matches(const uint8_t *der, size_t der_size, const uint8_
  * CIMAROLY_REFUSED.
  * CIMAROLY_UNKNOWN_KIND: `kind` is neither CIMAROLY_CERTIFICATE nor CIMAROLY_EXTENSIONS.
  */
-uint32_t cimaroly_extensions(struct cimaroly_memory *memory, uint32_t kind, const uint8_t *der, size_t der_size,
-                             struct cimaroly_extension *extensions, size_t room, size_t *count);
+uint32_t cimaroly_extensions(uint32_t kind, const uint8_t *der, size_t der_size, struct cimaroly_extension *extensions,
+                             size_t room, size_t *count);
 
 /*
  * Writes what stands in the input to the front of `out`, which has room for `out_size` bytes: one JSON object in UTF-8,
@@ -451,6 +453,78 @@ uint32_t cimaroly_pem_next(const uint8_t *text, size_t text_size, size_t at, uin
  * set behind the last byte. The buffer may hold bytes of the text before.
  */
 uint32_t cimaroly_pem_decode(const uint8_t *text, size_t text_size, uint8_t *out, size_t out_size, size_t *size);
+
+/*
+ * Makes the structure that a description says, to the front of `out`, which has room for `out_size` bytes. The
+ * description is JSON in UTF-8 (docs/MAKE.md); most are of the part of a request or certificate that is to be signed.
+ * What is made is the DER encoding of a value of the type that the description names, with no deviation.
+ *
+ * CIMAROLY_OK, CIMAROLY_BUFFER_TOO_SHORT: *size is the encoding's.
+ * CIMAROLY_REFUSED: nothing is made; cimaroly_why_not_made says why.
+ * CIMAROLY_OUT_OF_MEMORY.
+ */
+uint32_t cimaroly_make(struct cimaroly_memory *memory, const uint8_t *text, size_t text_size, uint8_t *out,
+                       size_t out_size, size_t *size);
+
+/*
+ * Writes why nothing is made of a description to the front of `out`: a line in UTF-8 without a line feed or a zero
+ * behind it, which says where in the description and why, and shows at most 40 characters of what stands there, nothing
+ * of a private key.
+ *
+ * CIMAROLY_OK, CIMAROLY_BUFFER_TOO_SHORT: *size is the line's.
+ * CIMAROLY_REFUSED: something is made.
+ * CIMAROLY_OUT_OF_MEMORY.
+ */
+uint32_t cimaroly_why_not_made(struct cimaroly_memory *memory, const uint8_t *text, size_t text_size, uint8_t *out,
+                               size_t out_size, size_t *size);
+
+/*
+ * Puts a certificate or a request together, to the front of `out`: of `part`, the TBSCertificate or
+ * CertificationRequestInfo that was signed, which stands in the result byte for byte, of the AlgorithmIdentifier of the
+ * signature, and of the signature's bytes. Whether the signature is right isn't looked at.
+ *
+ * CIMAROLY_OK, CIMAROLY_BUFFER_TOO_SHORT: *size is the structure's.
+ * CIMAROLY_REFUSED: `part` or `algorithm` isn't read, the latter isn't in DER, or the signature of ECDSA isn't a
+ * SEQUENCE of two INTEGERs (RFC 3279, 2.2.3).
+ * CIMAROLY_OUT_OF_MEMORY, CIMAROLY_TOO_LONG.
+ * CIMAROLY_UNKNOWN_KIND: `kind` is neither CIMAROLY_CERTIFICATE nor CIMAROLY_REQUEST.
+ */
+uint32_t cimaroly_assemble(struct cimaroly_memory *memory, uint32_t kind, const uint8_t *part, size_t part_size,
+                           const uint8_t *algorithm, size_t algorithm_size, const uint8_t *signature,
+                           size_t signature_size, uint8_t *out, size_t out_size, size_t *size);
+
+/*
+ * Writes the AlgorithmIdentifier of a signature algorithm to the front of `out`, by its name or in dotted form: as
+ * ecdsa-with-SHA256, sha256WithRSAEncryption or Ed25519, with the parameters that it has.
+ *
+ * CIMAROLY_OK, CIMAROLY_BUFFER_TOO_SHORT: *size is the encoding's.
+ * CIMAROLY_REFUSED: no signature algorithm has this name, or its parameters don't follow from it, as of RSASSA-PSS.
+ * CIMAROLY_OUT_OF_MEMORY.
+ */
+uint32_t cimaroly_signature_algorithm(struct cimaroly_memory *memory, const uint8_t *name, size_t name_size,
+                                      uint8_t *out, size_t out_size, size_t *size);
+
+/*
+ * Writes a signature of ECDSA in DER to the front of `out` (RFC 3279, 2.2.3), of r and s as two numbers of equal
+ * length, one behind the other, as PKCS #11 and the Web Cryptography API give them.
+ *
+ * CIMAROLY_OK, CIMAROLY_BUFFER_TOO_SHORT: *size is the signature's.
+ * CIMAROLY_REFUSED: there are no bytes, or an odd number of them.
+ * CIMAROLY_OUT_OF_MEMORY, CIMAROLY_TOO_LONG.
+ */
+uint32_t cimaroly_ecdsa_signature(struct cimaroly_memory *memory, const uint8_t *raw, size_t raw_size, uint8_t *out,
+                                  size_t out_size, size_t *size);
+
+/*
+ * Writes bytes as PEM to the front of `out` (RFC 7468), with a label such as CERTIFICATE, which is written as it is:
+ * lines of 64 symbols, each with a line feed, without a zero behind them.
+ *
+ * CIMAROLY_OK, CIMAROLY_BUFFER_TOO_SHORT: *size is the text's.
+ * CIMAROLY_REFUSED: the label isn't UTF-8.
+ * CIMAROLY_OUT_OF_MEMORY.
+ */
+uint32_t cimaroly_pem_encode(struct cimaroly_memory *memory, const uint8_t *label, size_t label_size,
+                             const uint8_t *der, size_t der_size, uint8_t *out, size_t out_size, size_t *size);
 
 /*
  * Writes the text of an object identifier to the front of `out`, which has room for `out_size` bytes: its arcs in
@@ -515,9 +589,10 @@ static inline const char *cimaroly_deviation_name(size_t deviation)
     return names[deviation < sizeof names / sizeof *names ? deviation : 0];
 }
 
+#if __STDC_HOSTED__
 /*
  * Frees what `memory` has, and takes more from malloc, for a call on `der_size` bytes. False if malloc fails, and then
- * `memory` has none. Begin with { NULL, 0 }, and end with free(memory->at).
+ * `memory` has none. Begin with { NULL, 0 }, and end with free(memory->block).
  */
 static inline bool cimaroly_more_memory(struct cimaroly_memory *memory, size_t der_size)
 {
@@ -526,10 +601,10 @@ static inline bool cimaroly_more_memory(struct cimaroly_memory *memory, size_t d
         size = memory->size <= SIZE_MAX / 8 ? 4 * memory->size : 0;
     else if (der_size <= SIZE_MAX / 64)
         size = 16 * der_size + 16384;
-    free(memory->at);
-    memory->at = size > 0 ? malloc(size) : NULL;
-    memory->size = memory->at != NULL ? size : 0;
-    return memory->at != NULL;
+    free(memory->block);
+    memory->block = size > 0 ? malloc(size) : NULL;
+    memory->size = memory->block != NULL ? size : 0;
+    return memory->block != NULL;
 }
 
 /*
@@ -542,7 +617,7 @@ static inline bool cimaroly_more_memory(struct cimaroly_memory *memory, size_t d
     uint32_t status = CIMAROLY_OUT_OF_MEMORY;                                                                        \
     while (status == CIMAROLY_OUT_OF_MEMORY && cimaroly_more_memory(memory, der_size))                               \
         status = call;                                                                                               \
-    free(lent.at);                                                                                                   \
+    free(lent.block);                                                                                                \
     return status
 
 /* The same for a call that may need none. */
@@ -552,14 +627,8 @@ static inline bool cimaroly_more_memory(struct cimaroly_memory *memory, size_t d
     uint32_t status = call;                                                                                          \
     while (status == CIMAROLY_OUT_OF_MEMORY && cimaroly_more_memory(memory, der_size))                               \
         status = call;                                                                                               \
-    free(lent.at);                                                                                                   \
+    free(lent.block);                                                                                                \
     return status
-
-static inline uint32_t cimaroly_check_malloc(uint32_t kind, const uint8_t *der, size_t der_size,
-                                             struct cimaroly_verdict *verdict)
-{
-    CIMAROLY_WHERE_NEEDED(der_size, cimaroly_check(memory, kind, der, der_size, verdict));
-}
 
 static inline uint32_t cimaroly_encode_malloc(uint32_t kind, const uint8_t *der, size_t der_size, uint8_t *out,
                                               size_t out_size, size_t *size)
@@ -573,44 +642,54 @@ static inline uint32_t cimaroly_places_malloc(uint32_t kind, const uint8_t *der,
     CIMAROLY_WHERE_NEEDED(der_size, cimaroly_places(memory, kind, der, der_size, places, room, count));
 }
 
-static inline uint32_t cimaroly_signed_part_malloc(uint32_t kind, const uint8_t *der, size_t der_size,
-                                                   struct cimaroly_signed *part)
-{
-    CIMAROLY_WHERE_NEEDED(der_size, cimaroly_signed_part(memory, kind, der, der_size, part));
-}
-
-static inline uint32_t cimaroly_certificate_fields_malloc(const uint8_t *der, size_t der_size,
-                                                          struct cimaroly_certificate *fields)
-{
-    CIMAROLY_WHERE_NEEDED(der_size, cimaroly_certificate_fields(memory, der, der_size, fields));
-}
-
-static inline uint32_t cimaroly_request_fields_malloc(const uint8_t *der, size_t der_size,
-                                                      struct cimaroly_request *fields)
-{
-    CIMAROLY_WHERE_NEEDED(der_size, cimaroly_request_fields(memory, der, der_size, fields));
-}
-
-static inline uint32_t cimaroly_private_key_fields_malloc(const uint8_t *der, size_t der_size,
-                                                          struct cimaroly_private_key *fields)
-{
-    CIMAROLY_WHERE_NEEDED(der_size, cimaroly_private_key_fields(memory, der, der_size, fields));
-}
-
-static inline uint32_t cimaroly_extensions_malloc(uint32_t kind, const uint8_t *der, size_t der_size,
-                                                  struct cimaroly_extension *extensions, size_t room, size_t *count)
-{
-    CIMAROLY_WHERE_NEEDED(der_size, cimaroly_extensions(memory, kind, der, der_size, extensions, room, count));
-}
-
 static inline uint32_t cimaroly_report_malloc(uint32_t kind, const uint8_t *der, size_t der_size, bool secrets,
                                               uint8_t *out, size_t out_size, size_t *size)
 {
     CIMAROLY_OVER_MALLOC(der_size, cimaroly_report(memory, kind, der, der_size, secrets, out, out_size, size));
 }
 
+static inline uint32_t cimaroly_make_malloc(const uint8_t *text, size_t text_size, uint8_t *out, size_t out_size,
+                                            size_t *size)
+{
+    CIMAROLY_OVER_MALLOC(text_size, cimaroly_make(memory, text, text_size, out, out_size, size));
+}
+
+static inline uint32_t cimaroly_why_not_made_malloc(const uint8_t *text, size_t text_size, uint8_t *out,
+                                                    size_t out_size, size_t *size)
+{
+    CIMAROLY_OVER_MALLOC(text_size, cimaroly_why_not_made(memory, text, text_size, out, out_size, size));
+}
+
+static inline uint32_t cimaroly_assemble_malloc(uint32_t kind, const uint8_t *part, size_t part_size,
+                                                const uint8_t *algorithm, size_t algorithm_size,
+                                                const uint8_t *signature, size_t signature_size, uint8_t *out,
+                                                size_t out_size, size_t *size)
+{
+    CIMAROLY_OVER_MALLOC(part_size, cimaroly_assemble(memory, kind, part, part_size, algorithm, algorithm_size,
+                                                      signature, signature_size, out, out_size, size));
+}
+
+static inline uint32_t cimaroly_signature_algorithm_malloc(const uint8_t *name, size_t name_size, uint8_t *out,
+                                                           size_t out_size, size_t *size)
+{
+    CIMAROLY_OVER_MALLOC(name_size, cimaroly_signature_algorithm(memory, name, name_size, out, out_size, size));
+}
+
+static inline uint32_t cimaroly_ecdsa_signature_malloc(const uint8_t *raw, size_t raw_size, uint8_t *out,
+                                                       size_t out_size, size_t *size)
+{
+    CIMAROLY_OVER_MALLOC(raw_size, cimaroly_ecdsa_signature(memory, raw, raw_size, out, out_size, size));
+}
+
+static inline uint32_t cimaroly_pem_encode_malloc(const uint8_t *label, size_t label_size, const uint8_t *der,
+                                                  size_t der_size, uint8_t *out, size_t out_size, size_t *size)
+{
+    CIMAROLY_OVER_MALLOC(der_size, cimaroly_pem_encode(memory, label, label_size, der, der_size, out, out_size, size));
+}
+
 #undef CIMAROLY_OVER_MALLOC
 #undef CIMAROLY_WHERE_NEEDED
+#endif
 
 #ifdef __cplusplus
 }

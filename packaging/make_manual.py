@@ -18,7 +18,7 @@ STATUS = {
     0: "Everything is in DER.",
     1: "Something was refused.",
     2: "Wrong usage.",
-    3: "Something has deviations.",
+    3: "Something has deviations or findings.",
     4: "Input or output failed.",
     5: "Out of memory.",
 }
@@ -29,7 +29,10 @@ EXAMPLES = (
     "cimaroly show --fields subject,notAfter,sha256 certs.pem",
     "cimaroly check --at 2026-12-31T23:59:59Z certs.pem",
     "cimaroly match cert.pem key.pem",
+    "cimaroly lint --ignore modulus-short certs.pem",
     "cimaroly der --pem cert.pem > strict.pem",
+    "cimaroly request --subject CN=example.org --dns example.org --key key.pub -o request.tbs",
+    "cimaroly assemble request.tbs request.sig --algorithm ecdsa-with-SHA256 --pem > request.pem",
 )
 
 

@@ -168,7 +168,8 @@ case ${1-} in
     artifacts | while read -r _name crate file; do
         if [ "$file" = "crates/$crate/out/$crate" ] && [ -f "$file" ]; then record "$crate" "$file" >"$file.sources"; fi
     done
-    groups | STOOD=$stood xargs -P "$(nproc)" -L 1 tools/dist.sh --build >/dev/null || true
+    # (two at a time: a build takes some 4 GB, and edits are tried beside it)
+    groups | STOOD=$stood xargs -P 2 -L 1 tools/dist.sh --build >/dev/null || true
     compare --check
     ;;
 --build)

@@ -7,7 +7,7 @@ import pathlib
 import re
 
 ROOT = pathlib.Path(__file__).resolve().parent.parent
-MODULES = ("core", "der", "digests", "directory", "hosts", "keys", "names", "pem", "services", "values")
+MODULES = ("core", "der", "digests", "directory", "hosts", "keys", "making", "names", "pem", "services", "values")
 HEAD = "// This file is written by tools/make_commonjs.py from web/{}.\n\n"
 
 IMPORT = re.compile(r'^import (\{[^}]*\}) from "\./(\w+)\.mjs";$', re.M)

@@ -177,7 +177,9 @@ def by_name_texts(parted):
                 text += pair(f'"{row["name"]}"', f'&[{", ".join(row["arcs"].split("."))}]')
             text += "];\n"
         names = ", ".join(f"NAMES_{number}" for number in range(1, len(parts) + 1))
-        text += f"\n/// All of them.\npub const TABLES: &'static [Table] = &[{names}];\n"
+        line = f"pub const TABLES: &'static [Table] = &[{names}];"
+        wrapped = f"pub const TABLES: &'static [Table] = &[\n    {names},\n];"
+        text += f"\n/// All of them.\n{line if len(line) <= 100 else wrapped}\n"
         texts[path_of("x509_oids_by_name", f"{module}.rt")] = text
     return texts
 

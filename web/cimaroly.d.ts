@@ -12,7 +12,9 @@ export type Kind =
   | "name"
   | "extensions"
   | "algorithm"
-  | "raw-algorithm";
+  | "raw-algorithm"
+  | "request-info"
+  | "tbs-certificate";
 
 /** DER, or PEM or bare base64 as text or bytes; of PEM the first block of the type is read. */
 export type Input = Uint8Array | ArrayBuffer | string;
@@ -142,6 +144,8 @@ export interface Report {
   Name?: ReportNode;
   Extensions?: ReportNode;
   AlgorithmIdentifier?: ReportNode;
+  CertificationRequestInfo?: ReportNode;
+  TBSCertificate?: ReportNode;
 }
 
 export interface ReportOptions {
@@ -324,6 +328,8 @@ export interface ValuesByKind {
   extensions: ExtensionValues;
   algorithm: {};
   "raw-algorithm": {};
+  "request-info": {};
+  "tbs-certificate": {};
 }
 
 /** A value of a type; of one that isn't known before the program runs, of any. */
@@ -456,3 +462,34 @@ export function reportText(data: Input, kind?: Kind, options?: ReportOptions): s
 
 /** Parses a report's JSON. A value too large for an exact JavaScript number, such as a salt length, becomes a BigInt. */
 export function parseReport(text: string): Report;
+
+/** Nothing is made of a description: where in it, and why. */
+export class NotMade extends Error {}
+
+/**
+ * Makes the DER encoding of what a description says (docs/MAKE.md): an object, or JSON text.
+ * @throws {NotMade} Something is wrong with it.
+ */
+export function make(description: string | object): Uint8Array;
+
+/**
+ * Returns the AlgorithmIdentifier of a signature algorithm in DER, by a name such as `ecdsa-with-SHA256`, or in dotted form.
+ * @throws {RangeError} No signature algorithm whose parameters are known has it.
+ */
+export function signatureAlgorithm(name: string): Uint8Array;
+
+/**
+ * Puts a certificate or a request together: of the bytes that were signed, which stand in it as they are, the algorithm, by
+ * its name or in DER, and the signature. With `rawEcdsa`, this is r and s, as Web Cryptography gives them.
+ * @throws {RangeError} Part, algorithm or signature isn't in its form.
+ */
+export function assemble(
+  kind: "certificate" | "request",
+  part: Uint8Array,
+  algorithm: string | Uint8Array,
+  signature: Uint8Array,
+  options?: { rawEcdsa?: boolean },
+): Uint8Array;
+
+/** Returns bytes as PEM (RFC 7468), with a label such as `CERTIFICATE REQUEST`. */
+export function pem(label: string, der: Uint8Array): string;

@@ -17,6 +17,7 @@ export {
   report,
   reportText,
 } from "./core.mjs";
+export { NotMade, assemble, make, pem, signatureAlgorithm } from "./making.mjs";
 
 // (bundlers find files that are named in this way)
 const file = isLowered ? new URL("cimaroly32.wasm", import.meta.url) : new URL("cimaroly.wasm", import.meta.url);

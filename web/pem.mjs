@@ -13,6 +13,8 @@ export const KINDS = Object.freeze([
   "extensions",
   "algorithm",
   "raw-algorithm",
+  "request-info",
+  "tbs-certificate",
 ]);
 
 // The label that is written comes first (RFC 7468, 4; the others are OpenSSL's).

@@ -5,14 +5,15 @@
 
 import { Identifier, Name, alternativeName, bytesOf, hexadecimal } from "./directory.mjs";
 import { digestOf } from "./digests.mjs";
-import { isForHost } from "./hosts.mjs";
+import { hostText, isForHost } from "./hosts.mjs";
 import { publicKeyIn } from "./keys.mjs";
 import { toBase64 } from "./pem.mjs";
 import { ISSUERS, OCSP, addressesOf, pointAddresses, policiesOf, timestampsOf } from "./services.mjs";
 
 // The members of a report that have the fields of each type.
 const ROOTS = ["Certificate", "CertificationRequest", "PrivateKeyInfo", "SubjectPublicKeyInfo", "RSAPrivateKey"];
-ROOTS.push("RSAPublicKey", "ECPrivateKey", "Name", "Extensions", "AlgorithmIdentifier");
+ROOTS.push("RSAPublicKey", "ECPrivateKey", "Name", "Extensions", "AlgorithmIdentifier", "CertificationRequestInfo");
+ROOTS.push("TBSCertificate");
 
 const EXTENSION_REQUEST = "1.2.840.113549.1.9.14";
 const SUBJECT_KEY = "2.5.29.14";
@@ -92,7 +93,10 @@ export class Values {
   #extensions;
   #publicKey;
 
-  /** `encoded(bytes, kind)` gives the DER encoding of bytes, and `extensionsOf(bytes, kind)` where their extensions stand. */
+  /**
+   * `encoded(bytes, kind)` gives the DER encoding of bytes, `extensionsOf(bytes, kind)` where their extensions stand, and
+   * `isForHostText(bytes, text)` whether a certificate is for a host.
+   */
   constructor(calls) {
     this.#calls = calls;
   }
@@ -264,6 +268,8 @@ export class Values {
 
   /** Whether one of its alternative names is that of a host (RFC 9525, 6). */
   matchesHost(host) {
+    const text = hostText(host);
+    if (this.kind === "certificate") return text !== null && this.#calls.isForHostText(this.der, text);
     return isForHost(this.alternativeNames ?? [], host);
   }
 

@@ -71,7 +71,7 @@ static struct told told_by(const struct call *call, uint32_t kind, const uint8_t
     struct given given = {kind, der, der_size, buffer, buffer_size};
     struct told told;
     ask(call, &memory, given, &told);
-    must(memory.at == lent.at && memory.size == PLENTY, "the memory is given back");
+    must(memory.block == lent.at && memory.size == PLENTY, "the memory is given back");
     return told;
 }
 
@@ -165,7 +165,7 @@ static void memory_is_kept_to(uint32_t kind, const uint8_t *der, size_t der_size
     ask(&calls[CHECK], &memory, given, &told);
     must(told.status == status || told.status == CIMAROLY_OUT_OF_MEMORY, "the answer with less memory");
     must(told.status != CIMAROLY_OUT_OF_MEMORY || told.of.verdict.error == CIMAROLY_ERROR_OUT_OF_MEMORY, "its error");
-    must(memory.at == less.at && memory.size == size, "less memory is given back");
+    must(memory.block == less.at && memory.size == size, "less memory is given back");
     must(is_front_whole(less), "bytes in front of the memory");
 }
 

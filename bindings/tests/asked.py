@@ -38,6 +38,19 @@ def key_of(key):
     return "Ed25519 256"
 
 
+def identifiers_of(extensions):
+    """The octets that identify the subject's key, and those that identify the issuer's, in hexadecimal."""
+    own = [it.value.digest.hex() for it in extensions if isinstance(it.value, x509.SubjectKeyIdentifier)]
+    others = [it.value.key_identifier for it in extensions if isinstance(it.value, x509.AuthorityKeyIdentifier)]
+    return " ".join([own[0] if own else "none", others[0].hex() if others and others[0] is not None else "none"])
+
+
+def signature_of(read):
+    """The algorithm of a signature by its identifier, and the digest."""
+    digest = read.signature_hash_algorithm
+    return f"{read.signature_algorithm_oid.dotted_string} {'none' if digest is None else digest.name}"
+
+
 def asked_of(der):
     """What people ask of a certificate first, by the package cryptography, and by OpenSSL how its subject is written."""
     read = x509.load_der_x509_certificate(der)
@@ -52,4 +65,6 @@ def asked_of(der):
         "dns_names": " ".join(hosts) or "none",
         "rfc4514": subject_by_rfc_4514(der) or "none",
         "key": key_of(read.public_key()),
+        "signature": signature_of(read),
+        "key_identifiers": identifiers_of(read.extensions),
     }

@@ -69,6 +69,8 @@ COLUMNS = [
     "dns_names",
     "rfc4514",
     "key",
+    "signature",
+    "key_identifiers",
 ]
 
 # Steps to an element: the number of a part, from 0, or into the content of an OCTET STRING.
@@ -245,8 +247,11 @@ def by_cryptography():
     late, never = datetime.datetime(2050, 1, 1), datetime.datetime(9999, 12, 31, 23, 59, 59)
     numbers = rsa.RSAPublicNumbers(65537, 2**2047 + 1)
     public = numbers.public_key()
+    certificate = certificate_by_cryptography(first, last, extensions_by_cryptography())
     return [
-        ("many_extensions", "certificate", certificate_by_cryptography(first, last, extensions_by_cryptography())),
+        ("many_extensions", "certificate", certificate),
+        ("tbs_certificate", "tbs-certificate", x509.load_der_x509_certificate(certificate).tbs_certificate_bytes),
+        ("request_info", "request-info", x509.load_der_x509_csr(request_by_cryptography()).tbs_certrequest_bytes),
         ("generalized_times", "certificate", certificate_by_cryptography(late, never, [])),
         ("request_with_extensions", "request", request_by_cryptography()),
         (

@@ -39,7 +39,7 @@ def names():
 
 def core():
     statuses = [f"{tables.member(it.name)}: {it.number}" for it in tables.rows_of("statuses")]
-    yield constant("core.mjs", "// What a call answers.", [f"const STATUS = {{ {', '.join(statuses)} }};"], "")
+    yield constant("making.mjs", "/** What a call answers. */", [f"export const STATUS = {{ {', '.join(statuses)} }};"], "")
     lines = []
     for kind in tables.kinds_with_fields():
         lines += [f"  {key(kind)}: {{", f'    call: "{tables.call_of(kind)}",']

@@ -25,7 +25,13 @@ def list_of(path, behind, constant, items, indent):
 def arms(path, ensures, pairs, value="self"):
     """The arms of a match of a value, which is the whole body of a method: its head ends in the line of what it ensures."""
     behind = f"        {ensures}\n    {{\n        match {value} {{"
-    return Region(path, behind, "        }", [f"            {pattern} => {answer}," for pattern, answer in pairs])
+    return Region(path, behind, "        }", [line for pattern, answer in pairs for line in arm(pattern, answer)])
+
+
+def arm(pattern, answer):
+    """The lines of an arm of a match, of which one may have 100 columns."""
+    line = f"            {pattern} => {answer},"
+    return [line] if len(line) <= 100 else line.replace(" | ", "\n            | ").split("\n")
 
 
 def kind_enum(path):
@@ -151,6 +157,39 @@ def errors():
     yield arms(path, "ensures { result.now ≡ error_name self }", names)
 
 
+def rules():
+    """What may be wrong with certificates."""
+    path, texts, rows = "crates/x509_rules/src/rule.rt", "crates/x509_rules/src/texts.rt", tables.named("rules")
+    yield enum(path, "Rule", [(it.variant, tables.sentence(f"{it.clause}: {it.text}")) for it in rows])
+    variants = [f"Rule::{it.variant}" for it in rows]
+    yield list_of(path, "    /// All rules, in the order of the places that they name.", "pub const ALL: [Rule; {}]", variants, "    ")
+    names = [(f"Rule::{it.variant}", f'"{it.name}"') for it in rows]
+    yield arms(path, "ensures { result.now ≡ rule_name self }", names)
+    found = [(f'"{it.name}"', f"Some(Rule::{it.variant})") for it in rows] + [("_", "None")]
+    none = "ensures none { IfNone result ((rule : Rule) → name.now ≡ rule_name rule → ⊥) }"
+    yield arms(path, none, found, value="name")
+    parts = {it.name: tables.variant(it.member) for it in tables.fields("certificate")}
+    yield arms(path, "ensures { result ≡ part_of self }", [(f"Rule::{it.variant}", f"Part::{parts[it.where]}") for it in rows])
+    for method, answer in (
+        ("severity(self) -> Severity", lambda it: f"Severity::{it.severity.capitalize()}"),
+        ("clause(self) -> &'static str", lambda it: f'"{it.clause}"'),
+        ("text(self) -> &'static str", lambda it: f'"{it.text}"'),
+        ("reason(self) -> &'static str", lambda it: f'"{tables.sentence(it.reason)}"'),
+    ):
+        behind = f"    pub fn {method} {{\n        match self {{"
+        lines = [line for it in rows for line in laid_out(f"            Rule::{it.variant} =>", answer(it))]
+        yield Region(texts, behind, "        }", lines)
+
+
+def laid_out(pattern, answer, width=100):
+    """An arm of a match, with the answer on a line of its own where it is too long."""
+    line = f"{pattern} {answer},"
+    if len(line) <= width:
+        return [line]
+    indent = " " * (len(pattern) - len(pattern.lstrip()))
+    return [f"{pattern} {{", f"{indent}    {answer}", f"{indent}}}"]
+
+
 def content(identifier):
     """The content of an object identifier with dots, as a list of bytes (X.690, 8.19)."""
     first, second, *rest = map(int, identifier.split("."))
@@ -189,4 +228,5 @@ def regions():
     yield from served()
     yield from deviations()
     yield from errors()
+    yield from rules()
     yield from in_reports()

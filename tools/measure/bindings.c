@@ -26,30 +26,21 @@ static struct cimaroly_memory lent(void)
 
 static bool check(void)
 {
-    struct cimaroly_memory memory = lent();
     struct cimaroly_verdict verdict;
-    return cimaroly_check(&memory, CIMAROLY_CERTIFICATE, der, der_size, &verdict) == CIMAROLY_OK;
-}
-
-static bool check_malloc(void)
-{
-    struct cimaroly_verdict verdict;
-    return cimaroly_check_malloc(CIMAROLY_CERTIFICATE, der, der_size, &verdict) == CIMAROLY_OK;
+    return cimaroly_check(CIMAROLY_CERTIFICATE, der, der_size, &verdict) == CIMAROLY_OK;
 }
 
 static bool fields(void)
 {
-    struct cimaroly_memory memory = lent();
     struct cimaroly_certificate found;
-    return cimaroly_certificate_fields(&memory, der, der_size, &found) == CIMAROLY_OK;
+    return cimaroly_certificate_fields(der, der_size, &found) == CIMAROLY_OK;
 }
 
 static bool extensions(void)
 {
-    struct cimaroly_memory memory = lent();
     struct cimaroly_extension found[64];
     size_t count;
-    return cimaroly_extensions(&memory, CIMAROLY_CERTIFICATE, der, der_size, found, 64, &count) == CIMAROLY_OK;
+    return cimaroly_extensions(CIMAROLY_CERTIFICATE, der, der_size, found, 64, &count) == CIMAROLY_OK;
 }
 
 static bool encode(void)
@@ -99,7 +90,6 @@ static const struct {
     long share;
 } calls[] = {
     {"`cimaroly_check`", check, 1},
-    {"`cimaroly_check_malloc`", check_malloc, 1},
     {"`cimaroly_certificate_fields`", fields, 1},
     {"`cimaroly_extensions`", extensions, 1},
     {"`cimaroly_encode`", encode, 1},

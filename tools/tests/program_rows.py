@@ -1,5 +1,7 @@
 """What the program is run on and what it must print, from the grammar, README and docs/PROGRAMS.md, and never from its own output."""
 
+from der import element
+
 NONE = "0 0 0 0 0 0 0 0 0 0"
 
 # The parts of a certificate of 78 bytes: an empty subject and issuer, an Ed25519 key without bits, and RSA without its NULL.
@@ -95,13 +97,6 @@ USAGE = [
     ([b"\xc3\x28"], "3000"),
     ([b"name", b"\xff"], "3000"),
 ]
-
-
-def element(tag, content):
-    """An element with its length in the fewest bytes (X.690, 8.1.3 and 10.1)."""
-    length = len(content)
-    digits = length.to_bytes((length.bit_length() + 7) // 8, "big")
-    return bytes([tag, length] if length < 128 else [tag, 0x80 | len(digits), *digits]) + content
 
 
 def long_list(size, spelled=b""):

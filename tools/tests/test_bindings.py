@@ -190,10 +190,10 @@ class Rust(BindingTest):
         self.cargo("doc", "--quiet", RUSTDOCFLAGS="-D warnings")
 
 
-def snippet(language):
-    """The first code of a language in docs/BINDINGS.md."""
+def snippet(language, number=0):
+    """A code of a language in docs/BINDINGS.md, the first or one behind it."""
     with open(f"{ROOT}/docs/BINDINGS.md", encoding="utf-8") as file:
-        return re.search(rf"^```{language}\n(.*?)^```$", file.read(), re.DOTALL | re.MULTILINE).group(1)
+        return re.findall(rf"^```{language}\n(.*?)^```$", file.read(), re.DOTALL | re.MULTILINE)[number]
 
 
 class Snippets(BindingTest):
@@ -226,6 +226,12 @@ class Snippets(BindingTest):
         places = "RSA parameters absent 13 26\nRSA parameters absent 106 119\n"
         values = " 1 2022-10-16 17:41:28+00:00\nEd25519 256 False\n"
         self.assertEqual(printed, f"{values}{places}3000 deviations\n")
+
+    def test_python_that_makes(self):
+        program = f"import cimaroly\ncertificate = cimaroly.read(open('cert.pem', 'rb').read())\n{snippet('python', 2)}"
+        self.write("main.py", program.encode())
+        printed = self.ran(sys.executable, "main.py", folder=self.place, PYTHONPATH=f"{BINDINGS}/python")
+        self.assertEqual(printed, "CN=example.org\n")
 
     def test_javascript(self):
         self.needs("node")
@@ -267,7 +273,7 @@ class Table(unittest.TestCase):
         rows = table()
         numbers = {it.split("@")[0] for row in rows for it in row["deviations"].split() if "@" in it}
         self.assertEqual(numbers, set(map(str, range(1, 11))))
-        self.assertEqual(len({row["kind"] for row in rows if row["result"] != "refused"}), 11)
+        self.assertEqual(len({row["kind"] for row in rows if row["result"] != "refused"}), 13)
 
 
 if __name__ == "__main__":

@@ -78,7 +78,7 @@ class Program(unittest.TestCase):
         self.assertRegex(first, r"^cimaroly: -:1: certificate: refused: malformed time at byte \d+ \(in tbsCertificate, validity,")
         self.assertRegex(second, r"^cimaroly: -:\d+: DH PARAMETERS: passed over: ")
         for data, why, status in (
-            (b"no certificate\n", b"refused: no PEM, DER or hexadecimal", 1),
+            (b"no certificate\n", b"refused: no PEM, DER, hexadecimal or base64", 1),
             (b"-----BEGIN CERTIFICATE-----\nMAA=\n", b"refused: the block has no END line", 1),
             (bad, b"refused: malformed time", 1),
             (read("algorithm.hex"), b"could be algorithm or raw-algorithm: choose with --type", 2),

@@ -81,11 +81,8 @@ def made_files(room):
     encrypt = ["pkcs8", "-topk8", "-in", key, "-passout", "pass:x"]
     sign = ["cms", "-sign", "-stream", "-signer", mine, "-inkey", key, "-in", mine]
     openssl("req", "-x509", "-newkey", "rsa:2048", "-nodes", "-keyout", key, "-out", mine, "-subj", "/CN=x")
-    with open(f"{room}/ca", "w", encoding="utf-8") as file:
-        file.write(f"[ca]\ndefault_ca=d\n[d]\ndatabase={room}/index\ndefault_md=sha256\ndefault_crl_days=3\n")
     with open(f"{room}/index", "wb"):
         pass
-    openssl("ca", "-config", f"{room}/ca", "-gencrl", "-keyfile", key, "-cert", mine, "-out", f"{room}/crl.pem")
     asked = ["ocsp", "-index", f"{room}/index", "-CA", mine, "-rsigner", mine, "-rkey", key]
     openssl("ocsp", "-issuer", mine, "-cert", mine, "-reqout", f"{room}/request")
     openssl(*asked, "-reqin", f"{room}/request", "-respout", f"{room}/response.der")
@@ -94,7 +91,6 @@ def made_files(room):
         end = form.lower()
         openssl("crl2pkcs7", "-nocrl", "-certfile", mine, "-outform", form, "-out", f"{room}/cms.{end}")
         openssl(*encrypt, "-outform", form, "-out", f"{room}/encrypted.{end}")
-    openssl("crl", "-in", f"{room}/crl.pem", "-outform", "DER", "-out", f"{room}/crl.der")
     openssl(*sign, "-outform", "DER", "-out", f"{room}/ber.der")
     openssl("pkcs12", "-export", "-in", mine, "-inkey", key, "-passout", "pass:x", "-out", f"{room}/pkcs12.der")
     openssl(*encrypt, "-v1", "PBE-SHA1-3DES", "-outform", "DER", "-out", f"{room}/old.der")
@@ -102,7 +98,6 @@ def made_files(room):
         "PKCS #7 or CMS": ["cms.der", "cms.pem", "ber.der"],
         "PKCS #12": ["pkcs12.der"],
         "an encrypted private key": ["encrypted.der", "encrypted.pem", "old.der"],
-        "a CRL": ["crl.der", "crl.pem"],
         "an OCSP response": ["response.der"],
     }
 
@@ -151,7 +146,7 @@ class PassedOver(unittest.TestCase):
                 with open(f"{room}/{name}", "wb") as file:
                     file.write(data)
             good = f"{room}/a.pem:1: certificate: ok\n"
-            bad = [f"{room}/{it}: refused: no PEM, DER or hexadecimal that can be read\n" for it in files]
+            bad = [f"{room}/{it}: refused: no PEM, DER, hexadecimal or base64 that can be read\n" for it in files]
             out, error, status = run("check", room)
             self.assertEqual((out.decode(), status), (good, 0))
             self.assertEqual(error, b"1 structure: 1 in DER, 0 with deviations, 0 refused; 3 passed over\n")

@@ -4,13 +4,7 @@ import json
 import unittest
 
 from cimaroly_program import NEEDS_PROGRAM, run
-
-
-def element(tag, *parts):
-    content = b"".join(parts)
-    if len(content) < 128:
-        return bytes([tag, len(content)]) + content
-    return bytes([tag, 0x82, *len(content).to_bytes(2, "big")]) + content
+from der import element
 
 
 def sequence(*parts):

@@ -75,7 +75,7 @@ class Pages(unittest.TestCase):
         for section, name, words in (
             (1, "cimaroly", ["--progress", "ec-private-key", "Exit status".upper()]),
             (1, "x509_tool", ["raw-algorithm", "10", "salt length too large"]),
-            (3, "cimaroly", ["cimaroly_check(struct cimaroly_memory *memory, uint32_t kind,", "cimaroly_report_malloc("]),
+            (3, "cimaroly", ["cimaroly_check(uint32_t kind,", "cimaroly_report_malloc("]),
         ):
             with self.subTest(name):
                 environment = {**os.environ, "LC_ALL": "C.UTF-8", "MANWIDTH": "100"}

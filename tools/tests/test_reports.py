@@ -9,6 +9,7 @@ import subprocess
 import unittest
 
 from cimaroly_program import CERTIFICATES, DATA, NEEDS_OPENSSL, NEEDS_PROGRAM, STORE, name_of, openssl, read, run, shown
+from der import element
 
 USAGES = {
     "Digital Signature": "digitalSignature",
@@ -252,13 +253,6 @@ class Texts(unittest.TestCase):
                 self.assertEqual([node for node in wanted if node in found], found)
                 for start, end in {place for _, place in wanted}:
                     self.assertTrue(any(a <= start and end <= b for _, (a, b) in found))
-
-
-def element(tag, content):
-    """An element in DER of fewer than 65,536 bytes."""
-    size = len(content)
-    length = [size] if size < 128 else [0x81, size] if size < 256 else [0x82, size >> 8, size & 255]
-    return bytes([tag, *length]) + content
 
 
 def integer(number):

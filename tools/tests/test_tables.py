@@ -61,7 +61,7 @@ class Tables(unittest.TestCase):
 
     def test_nothing_stands_twice(self):
         columns = {"kinds": "name", "deviations": "name rattle text", "errors": "name text", "statuses": "name rattle"}
-        for name, listed in {**columns, "attributes": "id short", "keys": "id", "unread": "name"}.items():
+        for name, listed in {**columns, "attributes": "id short", "keys": "id", "unread": "name", "rules": "name text"}.items():
             for column in listed.split():
                 found = [getattr(it, column) for it in tables.rows_of(name)]
                 self.assertEqual(len(set(found)), len(found), (name, column))
@@ -114,6 +114,19 @@ class ByHand(unittest.TestCase):
         self.assertEqual(stated(f"{parts}/Deviations.antt", "kind_name"), {it.rattle: it.text for it in DEVIATIONS})
         numbers = {it.rattle: str(int(it.number) - 1) for it in DEVIATIONS}
         self.assertEqual(stated(f"{parts}/Deviations.antt", "kind_index"), numbers)
+
+    def test_rules(self):
+        path, rows = "crates/x509_rules/specs/Rules.antt", tables.named("rules")
+        self.assertEqual(stated(path, "rule_name"), {it.variant: it.name for it in rows})
+        members = {it.name: tables.variant(it.member) for it in tables.fields("certificate")}
+        parts = {rule: part.partition(".")[2] for rule, part in stated(path, "part_of").items()}
+        self.assertEqual(parts, {it.variant: members[it.where] for it in rows})
+        places = [it.name for it in tables.fields("certificate")]
+        at = [places.index(it.where) for it in rows]
+        self.assertEqual(at, sorted(at))
+        listed = re.search(r"^all_rules =\n(.*?)$\n*\Z", text_of(path), re.S | re.M).group(1)
+        self.assertEqual(re.findall(r"rule\.(\w+)", listed), [it.variant for it in rows])
+        self.assertEqual({it.severity for it in rows}, {"error", "warning"})
 
     def test_deviations(self):
         body = re.search(r"^pub enum Deviation \{\n(.*?)^}", text_of("crates/x509_der_parts/src/deviation.rt"), re.S | re.M)

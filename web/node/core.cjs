@@ -6,12 +6,10 @@
 // The calls of Cimaroly in JavaScript, over the module that an entry (cimaroly.mjs, node/index.cjs) has loaded: cimaroly.wasm,
 // or cimaroly32.wasm where there are no 64-bit memories, with the calls of bindings/c/cimaroly.h.
 
+const { STATUS, useRoom } = require("./making.cjs");
 const { DEVIATIONS, ERRORS } = require("./names.cjs");
 const { KINDS, fromBase64, isSequence, isUtf16, kindOfLabel, pemBlocks, use } = require("./pem.cjs");
 const { Values } = require("./values.cjs");
-
-// What a call answers.
-const STATUS = { ok: 0, refused: 1, outOfMemory: 2, bufferTooShort: 3, unknownKind: 4, tooLong: 5 };
 
 const FIELDS = {
   certificate: {
@@ -52,7 +50,6 @@ const FIELDS = {
 
 // What the search for a PEM block answers where there is no more.
 const NO_MORE = 1;
-
 const PAGE = 65536;
 // Where the module's memory goes on being used for inputs, it is given back above this size.
 const LARGE = 1 << 26;
@@ -116,13 +113,13 @@ class Room {
     this.view.setBigUint64(this.lent + 8, BigInt(workSize), true);
   }
 
-  /** Calls an export that is lent memory; numbers that stand for places and sizes go in as BigInt. */
-  call(name, ...words) {
-    return this.callAlone(name, BigInt(this.lent), ...words);
+  /** Calls an export that is lent memory. */
+  callLent(name, ...words) {
+    return this.call(name, BigInt(this.lent), ...words);
   }
 
-  /** Calls one that is lent none. */
-  callAlone(name, ...words) {
+  /** Calls an export; numbers that stand for places and sizes go in as BigInt. */
+  call(name, ...words) {
     try {
       return instance.exports[name](...words) >>> 0;
     } catch (error) {
@@ -176,12 +173,14 @@ function grow(memory, size) {
   throw new RangeError("out of memory");
 }
 
+// How much memory a call is lent at first.
+const workSizeFor = (der) => aligned(16 * der.length + 16384);
+
 /**
  * Makes a call on an input, with more memory where it was too little, and hands its room to `take`.
- * `call` answers a status; a room has at first `outSize` bytes for what is written.
+ * `call` answers a status; a room has at first `outSize` bytes for what is written, and `workSize` that are lent.
  */
-function run(kind, der, outSize, call, take) {
-  let workSize = aligned(16 * der.length + 16384);
+function run(kind, der, outSize, call, take, workSize = 0) {
   for (;;) {
     const room = new Room(der, outSize, workSize);
     const status = call(room);
@@ -205,7 +204,7 @@ function numberOf(kind) {
 // The bytes of base64 text that stands so many bytes behind the front of a room's input, or null.
 function decodedIn(room, start, end) {
   const symbols = [BigInt(room.der + start), BigInt(end - start)];
-  const status = room.callAlone("cimaroly_pem_decode", ...symbols, ...room.output);
+  const status = room.call("cimaroly_pem_decode", ...symbols, ...room.output);
   return status === STATUS.ok ? room.bytes.slice(room.out, room.out + room.word(0)) : null;
 }
 
@@ -213,7 +212,7 @@ function decodedIn(room, start, end) {
 function* blocksIn(room) {
   let [at, line] = [0, 0];
   for (;;) {
-    const answer = room.callAlone("cimaroly_pem_next", ...room.input, BigInt(at), BigInt(line), BigInt(room.result));
+    const answer = room.call("cimaroly_pem_next", ...room.input, BigInt(at), BigInt(line), BigInt(room.result));
     if (answer === NO_MORE) return;
     const [label, text] = [room.span(0), room.span(1)];
     const [, first, last, next, nextLine] = room.words(4, 5);
@@ -232,6 +231,7 @@ function withText(text, act) {
   }
 }
 
+useRoom(Room);
 use({
   blocks: (text) => withText(text, (room) => [...blocksIn(room)]),
   decoded: (text) => withText(text, (room) => decodedIn(room, 0, text.length)),
@@ -290,18 +290,13 @@ function derOfText(text, kind) {
 }
 
 function verdictOf(der, kind) {
-  const number = numberOf(kind);
-  let workSize = aligned(16 * der.length + 16384);
-  for (;;) {
-    const room = new Room(der, 0, workSize);
-    const status = room.call("cimaroly_check", number, ...room.input, BigInt(room.result));
-    const [error, at] = [room.word(11), room.word(12)];
-    const verdict = { counts: room.words(0, 10), headers: room.word(10) };
-    room.leave();
-    if (status === STATUS.ok) return verdict;
-    if (status === STATUS.refused) throw new Refused(kind, error, at, refusedIn(der, kind));
-    workSize *= 4;
-  }
+  const room = new Room(der, 0, 0);
+  const status = room.call("cimaroly_check", numberOf(kind), ...room.input, BigInt(room.result));
+  const [error, at] = [room.word(11), room.word(12)];
+  const verdict = { counts: room.words(0, 10), headers: room.word(10) };
+  room.leave();
+  if (status !== STATUS.ok) throw new Refused(kind, error, at, refusedIn(der, kind));
+  return verdict;
 }
 
 function placesOf(der, kind, total) {
@@ -310,15 +305,15 @@ function placesOf(der, kind, total) {
     room.unit = 24;
     const [out, , result] = room.output;
     const count = BigInt(Math.floor(room.outSize / 24));
-    return room.call("cimaroly_places", numberOf(kind), ...room.input, out, count, result);
+    return room.callLent("cimaroly_places", numberOf(kind), ...room.input, out, count, result);
   };
-  return run(kind, der, 24 * total, call, (room) =>
+  const take = (room) =>
     Array.from({ length: room.word(0) }, (_, index) => {
       const at = room.out + 24 * index;
       const number = room.word(0, at);
       return { name: DEVIATIONS[number - 1], number, start: room.word(1, at), end: room.word(2, at) };
-    }),
-  );
+    });
+  return run(kind, der, 24 * total, call, take, workSizeFor(der));
 }
 
 function checked(der, kind) {
@@ -328,17 +323,17 @@ function checked(der, kind) {
 }
 
 function encoded(der, kind) {
-  const call = (room) => room.call("cimaroly_encode", numberOf(kind), ...room.input, ...room.output);
-  return run(kind, der, der.length + 64, call, (room) => room.bytes.slice(room.out, room.out + room.word(0)));
+  const call = (room) => room.callLent("cimaroly_encode", numberOf(kind), ...room.input, ...room.output);
+  return run(kind, der, der.length + 64, call, (room) => room.bytes.slice(room.out, room.out + room.word(0)), workSizeFor(der));
 }
 
 function told(der, kind, secrets, outSize = 12 * der.length + 4096) {
   const call = (room) => {
     room.unit = 1;
-    return room.call("cimaroly_report", numberOf(kind), ...room.input, secrets ? 1 : 0, ...room.output);
+    return room.callLent("cimaroly_report", numberOf(kind), ...room.input, secrets ? 1 : 0, ...room.output);
   };
   const take = (room) => new TextDecoder().decode(room.bytes.subarray(room.out, room.out + room.word(0)));
-  return run(kind, der, outSize, call, take);
+  return run(kind, der, outSize, call, take, workSizeFor(der));
 }
 
 // The field in which an input is refused: the report of one is short.
@@ -380,6 +375,17 @@ function extensionsOf(der, kind) {
       return { whole, extnID, critical: critical.end > 0 ? critical : null, extnValue };
     }),
   );
+}
+
+/** Whether a certificate is for a host, which is a domain name in ASCII or an IP address. */
+function isForHostText(der, host) {
+  const text = new TextEncoder().encode(host);
+  const room = new Room(der, aligned(text.length), 0);
+  room.bytes.set(text, room.out);
+  room.call("cimaroly_host_matches", ...room.input, BigInt(room.out), BigInt(text.length), BigInt(room.result));
+  const matches = room.bytes[room.result] !== 0;
+  room.leave();
+  return matches;
 }
 
 // A number, and one that JSON.parse may not tell exactly. (In a string the quotation marks would stand behind backslashes.)
@@ -430,7 +436,7 @@ class Structure extends Values {
   #fields;
 
   constructor(der, kind) {
-    super({ encoded, extensionsOf });
+    super({ encoded, extensionsOf, isForHostText });
     this.#der = der;
     Object.assign(this, { kind }, checked(der, kind));
   }

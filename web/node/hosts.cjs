@@ -82,9 +82,14 @@ function isNameOf(asked, presented) {
 
 const areSame = (one, two) => one.length === two.length && one.every((it, index) => it === two[index]);
 
+/** A host as the library takes it: an IP address, or a domain name in ASCII; null where a text is neither. */
+function hostText(host) {
+  if (typeof host !== "string") throw new TypeError("the host must be a string");
+  return addressOf(host) !== null ? host : (askedFor(host)?.join(".") ?? null);
+}
+
 /** Whether one of the alternative names is that of a host: a domain name, or an IP address. */
 function isForHost(names, host) {
-  if (typeof host !== "string") throw new TypeError("the host must be a string");
   const address = addressOf(host);
   if (address !== null) return names.some((it) => it.type === "iPAddress" && areSame(it.bytes, address));
   const asked = askedFor(host);
@@ -93,5 +98,6 @@ function isForHost(names, host) {
 
 module.exports = {
   addressOf,
+  hostText,
   isForHost,
 };

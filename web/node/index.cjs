@@ -13,4 +13,5 @@ const compiled = new WebAssembly.Module(readFileSync(file));
 core.start(compiled, new WebAssembly.Instance(compiled, {}));
 
 const { start, ...library } = core;
-module.exports = library;
+const { STATUS, useRoom, ...making } = require("./making.cjs");
+module.exports = { ...library, ...making };

@@ -7,13 +7,18 @@ import library from "./index.cjs";
 export const {
   DEVIATIONS,
   KINDS,
+  NotMade,
   Refused,
   Structure,
+  assemble,
   check,
   encode,
   isLowered,
+  make,
   parseReport,
+  pem,
   read,
   report,
   reportText,
+  signatureAlgorithm,
 } = library;

@@ -17,6 +17,8 @@ const KINDS = Object.freeze([
   "extensions",
   "algorithm",
   "raw-algorithm",
+  "request-info",
+  "tbs-certificate",
 ]);
 
 // The label that is written comes first (RFC 7468, 4; the others are OpenSSL's).

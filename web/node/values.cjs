@@ -8,14 +8,15 @@
 
 const { Identifier, Name, alternativeName, bytesOf, hexadecimal } = require("./directory.cjs");
 const { digestOf } = require("./digests.cjs");
-const { isForHost } = require("./hosts.cjs");
+const { hostText, isForHost } = require("./hosts.cjs");
 const { publicKeyIn } = require("./keys.cjs");
 const { toBase64 } = require("./pem.cjs");
 const { ISSUERS, OCSP, addressesOf, pointAddresses, policiesOf, timestampsOf } = require("./services.cjs");
 
 // The members of a report that have the fields of each type.
 const ROOTS = ["Certificate", "CertificationRequest", "PrivateKeyInfo", "SubjectPublicKeyInfo", "RSAPrivateKey"];
-ROOTS.push("RSAPublicKey", "ECPrivateKey", "Name", "Extensions", "AlgorithmIdentifier");
+ROOTS.push("RSAPublicKey", "ECPrivateKey", "Name", "Extensions", "AlgorithmIdentifier", "CertificationRequestInfo");
+ROOTS.push("TBSCertificate");
 
 const EXTENSION_REQUEST = "1.2.840.113549.1.9.14";
 const SUBJECT_KEY = "2.5.29.14";
@@ -95,7 +96,10 @@ class Values {
   #extensions;
   #publicKey;
 
-  /** `encoded(bytes, kind)` gives the DER encoding of bytes, and `extensionsOf(bytes, kind)` where their extensions stand. */
+  /**
+   * `encoded(bytes, kind)` gives the DER encoding of bytes, `extensionsOf(bytes, kind)` where their extensions stand, and
+   * `isForHostText(bytes, text)` whether a certificate is for a host.
+   */
   constructor(calls) {
     this.#calls = calls;
   }
@@ -267,6 +271,8 @@ class Values {
 
   /** Whether one of its alternative names is that of a host (RFC 9525, 6). */
   matchesHost(host) {
+    const text = hostText(host);
+    if (this.kind === "certificate") return text !== null && this.#calls.isForHostText(this.der, text);
     return isForHost(this.alternativeNames ?? [], host);
   }
 

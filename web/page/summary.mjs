@@ -19,6 +19,8 @@ const TITLES = new Map([
   ["extensions", "Extensions"],
   ["algorithm", "Algorithm identifier"],
   ["raw-algorithm", "Algorithm identifier with any parameters"],
+  ["request-info", "Certification request information"],
+  ["tbs-certificate", "To-be-signed certificate"],
 ]);
 
 // Attributes by the short names that names are written with (RFC 4514, 3; OpenSSL).
@@ -113,7 +115,7 @@ function serialLine(value) {
   return `${value} (${BigInt.asIntN(8 * count, BigInt(`0x${value.replaceAll(":", "")}`))})`;
 }
 
-function certificateRows({ tbsCertificate: fields }, bytes) {
+function certificateRows(fields, bytes) {
   const subject = nameLine(fields.subject, bytes);
   const issuer = nameLine(fields.issuer, bytes);
   const { notBefore, notAfter } = fields.validity;
@@ -178,7 +180,7 @@ function requested({ attributes }) {
   return lists.flatMap((it) => it.items ?? []);
 }
 
-function requestRows({ certificationRequestInfo: fields }, bytes) {
+function requestRows(fields, bytes) {
   const key = fields.subjectPKInfo;
   const extensions = requested(fields);
   const names = extensions.find((it) => it.id === "2.5.29.17");
@@ -197,8 +199,8 @@ function extensionsRows(list, bytes) {
 }
 
 const ROWS = {
-  Certificate: certificateRows,
-  CertificationRequest: requestRows,
+  Certificate: (it, bytes) => certificateRows(it.tbsCertificate, bytes),
+  CertificationRequest: (it, bytes) => requestRows(it.certificationRequestInfo, bytes),
   PrivateKeyInfo: (it) => [["key", privateLine(it.privateKeyAlgorithm, it.privateKey), it.privateKeyAlgorithm]],
   SubjectPublicKeyInfo: (it) => [["key", publicLine(it.algorithm, it.subjectPublicKey), it]],
   RSAPrivateKey: (it) => [["key", rsaLine(it.modulus), it.modulus]],
@@ -206,6 +208,8 @@ const ROWS = {
   ECPrivateKey: (it) => [["key", ecLine(it), it]],
   Name: (it, bytes) => [["name", nameLine(it, bytes), it]],
   Extensions: extensionsRows,
+  CertificationRequestInfo: requestRows,
+  TBSCertificate: certificateRows,
   AlgorithmIdentifier: (it) => [["algorithm", valueOf("", it.algorithm, new Uint8Array(1)).whole, it]],
 };
 

@@ -81,6 +81,14 @@ function assertAsked(row, { subject, serialNumber, notBefore, notAfter, alternat
   assert.equal([publicKey.algorithm, publicKey.curve, publicKey.bits].filter((it) => it !== null).join(" "), row.key);
 }
 
+// Its signature's algorithm, and which keys it names.
+function assertKeys(row, { signatureAlgorithm, subjectKeyIdentifier, authorityKeyIdentifier }) {
+  assert.equal(signatureAlgorithm.id, row.signature.split(" ")[0]);
+  const identifiers = [subjectKeyIdentifier, authorityKeyIdentifier];
+  const told = identifiers.map((it) => (it === null ? "none" : Buffer.from(it).toString("hex")));
+  assert.equal(told.join(" "), row.key_identifiers);
+}
+
 // The same as properties of what is read.
 function assertValues(row, reading) {
   const seconds = (date) => date.toISOString().replace(".000Z", "Z");
@@ -91,6 +99,7 @@ function assertValues(row, reading) {
     assert.deepEqual(reading.extensions.map((it) => it.id), row.extensions.split(" ").map((it) => it.split("=")[0]));
   }
   if (row.serial_number !== "-") assertAsked(row, reading);
+  if (row.key_identifiers !== "-") assertKeys(row, reading);
   if (row.values === "-") return;
   const { serialNumber, ...names } = JSON.parse(row.values);
   if (serialNumber) assert.equal(reading.serialNumber, numberOf(serialNumber));
@@ -164,7 +173,7 @@ test("bytes are taken from every view of a buffer", () => {
 
 test("a type that isn't there is told", () => {
   assert.throws(() => check(new Uint8Array(0), "crl"), TypeError);
-  assert.equal(KINDS.length, 11);
+  assert.equal(KINDS.length, 13);
 });
 
 test("a reading keeps its bytes", () => {

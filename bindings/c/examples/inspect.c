@@ -82,7 +82,7 @@ static int inspect(const uint8_t *der, size_t size)
     struct cimaroly_verdict verdict;
     struct cimaroly_time first;
     struct cimaroly_time last;
-    uint32_t status = cimaroly_check_malloc(CIMAROLY_CERTIFICATE, der, size, &verdict);
+    uint32_t status = cimaroly_check(CIMAROLY_CERTIFICATE, der, size, &verdict);
     if (status == CIMAROLY_REFUSED)
         printf("refused     %s at byte %zu\n", cimaroly_error_name(verdict.error), verdict.at);
     if (status != CIMAROLY_OK || cimaroly_validity(der, size, &first, &last) != CIMAROLY_OK)

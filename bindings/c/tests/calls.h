@@ -31,8 +31,8 @@ struct told {
 
 enum { ANY_KIND = 0, SIGNED_KINDS = 100, EXTENSIONS_KINDS = 101 };
 
-/* A call over lent memory, its form over malloc, the size of what its buffer takes, or 0, that of what it writes beside a
- * buffer, or 0, and which kind it is for. */
+/* A call over lent memory, its form over malloc, or NULL for a call that takes no memory, the size of what its buffer takes,
+ * or 0, that of what it writes beside a buffer, or 0, and which kind it is for. */
 struct call {
     const char *name;
     uint32_t (*lent)(struct cimaroly_memory *memory, struct given given, struct told *told);
@@ -55,30 +55,38 @@ struct call {
         return cimaroly_##name##_malloc(__VA_ARGS__);                                                                \
     }
 
-DEFINE_CALL(check, GIVEN_KIND_AND_INPUT, &told->of.verdict)
+#define DEFINE_LOOK(name, ...)                                                                                       \
+    static inline uint32_t lent_##name(struct cimaroly_memory *memory, struct given given, struct told *told)        \
+    {                                                                                                                \
+        (void)memory;                                                                                                \
+        return cimaroly_##name(__VA_ARGS__);                                                                         \
+    }
+
+DEFINE_LOOK(check, GIVEN_KIND_AND_INPUT, &told->of.verdict)
 DEFINE_CALL(encode, GIVEN_KIND_AND_INPUT, GIVEN_BUFFER(uint8_t))
 DEFINE_CALL(places, GIVEN_KIND_AND_INPUT, GIVEN_BUFFER(struct cimaroly_place))
-DEFINE_CALL(signed_part, GIVEN_KIND_AND_INPUT, &told->of.part)
-DEFINE_CALL(certificate_fields, GIVEN_INPUT, &told->of.certificate)
-DEFINE_CALL(request_fields, GIVEN_INPUT, &told->of.request)
-DEFINE_CALL(private_key_fields, GIVEN_INPUT, &told->of.private_key)
-DEFINE_CALL(extensions, GIVEN_KIND_AND_INPUT, GIVEN_BUFFER(struct cimaroly_extension))
+DEFINE_LOOK(signed_part, GIVEN_KIND_AND_INPUT, &told->of.part)
+DEFINE_LOOK(certificate_fields, GIVEN_INPUT, &told->of.certificate)
+DEFINE_LOOK(request_fields, GIVEN_INPUT, &told->of.request)
+DEFINE_LOOK(private_key_fields, GIVEN_INPUT, &told->of.private_key)
+DEFINE_LOOK(extensions, GIVEN_KIND_AND_INPUT, GIVEN_BUFFER(struct cimaroly_extension))
 DEFINE_CALL(report, GIVEN_KIND_AND_INPUT, false, GIVEN_BUFFER(uint8_t))
 
 #define CALL(name, unit, result, kind) {#name, lent_##name, malloc_##name, unit, result, kind}
+#define LOOK(name, unit, result, kind) {#name, lent_##name, NULL, unit, result, kind}
 
 enum call_number { CHECK, ENCODE, PLACES, SIGNED_PART, CERTIFICATE_FIELDS, REQUEST_FIELDS, PRIVATE_KEY_FIELDS,
                    EXTENSION_PLACES, REPORT, CALLS };
 
 static const struct call calls[CALLS] = {
-    CALL(check, 0, sizeof(struct cimaroly_verdict), ANY_KIND),
+    LOOK(check, 0, sizeof(struct cimaroly_verdict), ANY_KIND),
     CALL(encode, 1, 0, ANY_KIND),
     CALL(places, sizeof(struct cimaroly_place), 0, ANY_KIND),
-    CALL(signed_part, 0, sizeof(struct cimaroly_signed), SIGNED_KINDS),
-    CALL(certificate_fields, 0, sizeof(struct cimaroly_certificate), CIMAROLY_CERTIFICATE),
-    CALL(request_fields, 0, sizeof(struct cimaroly_request), CIMAROLY_REQUEST),
-    CALL(private_key_fields, 0, sizeof(struct cimaroly_private_key), CIMAROLY_PRIVATE_KEY),
-    CALL(extensions, sizeof(struct cimaroly_extension), 0, EXTENSIONS_KINDS),
+    LOOK(signed_part, 0, sizeof(struct cimaroly_signed), SIGNED_KINDS),
+    LOOK(certificate_fields, 0, sizeof(struct cimaroly_certificate), CIMAROLY_CERTIFICATE),
+    LOOK(request_fields, 0, sizeof(struct cimaroly_request), CIMAROLY_REQUEST),
+    LOOK(private_key_fields, 0, sizeof(struct cimaroly_private_key), CIMAROLY_PRIVATE_KEY),
+    LOOK(extensions, sizeof(struct cimaroly_extension), 0, EXTENSIONS_KINDS),
     CALL(report, 1, 0, ANY_KIND),
 };
 

@@ -9,7 +9,7 @@ int main()
     uint8_t out[sizeof name];
     size_t size = 0;
     cimaroly_verdict verdict;
-    if (cimaroly_check_malloc(CIMAROLY_NAME, name, sizeof name, &verdict) != CIMAROLY_OK)
+    if (cimaroly_check(CIMAROLY_NAME, name, sizeof name, &verdict) != CIMAROLY_OK)
         return 1;
     if (cimaroly_encode_malloc(CIMAROLY_NAME, name, sizeof name, out, sizeof out, &size) != CIMAROLY_OK)
         return 2;

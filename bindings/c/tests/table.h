@@ -20,7 +20,10 @@ enum column {
     SERIAL_NUMBER,
     UNIX_TIMES,
     DNS_NAMES,
-    COLUMNS = 21
+    KEY = 20,
+    SIGNATURE,
+    KEY_IDENTIFIERS,
+    COLUMNS
 };
 
 /* A row: its cells, the number of its kind, and its input. */
@@ -46,7 +49,8 @@ static inline void stop(const char *what, const char *which)
 static inline uint32_t kind_of_name(const char *name)
 {
     static const char *const names[] = {"certificate", "request", "private-key", "public-key", "rsa-private-key",
-        "rsa-public-key", "ec-private-key", "name", "extensions", "algorithm", "raw-algorithm"};
+        "rsa-public-key", "ec-private-key", "name", "extensions", "algorithm", "raw-algorithm",
+        "request-info", "tbs-certificate"};
     for (uint32_t i = 0; i < sizeof names / sizeof *names; i++)
         if (is_text(name, names[i]))
             return i + 1;

@@ -14,6 +14,9 @@ all are: it has fields, deviations, signed part, DER encoding and report. `read_
 raises `Refused`, which says why, at which byte and in which field. `read_each` gives what came of each PEM block, and goes on
 behind those that are refused.
 
+`RequestBuilder` and `CertificateBuilder` build what is to be signed, any signer signs it, and `with_signature` puts both
+together. `make` makes structures of descriptions. What can't be made raises `NotMade`, which says why.
+
 Each thread has memory of its own, and other threads run during a call. What a call on a private key leaves in that memory is
 overwritten, and no `repr` shows the bytes of a field.
 """
@@ -21,6 +24,7 @@ overwritten, and no `repr` shows the bytes of a field.
 from ._certificates import Certificate, Request
 from ._keys import Algorithm, PrivateKey, PublicKey
 from ._kinds import KINDS, Deviation, Kind, Reason, Refused
+from ._making import CertificateBuilder, NotMade, RequestBuilder, ToBeSigned, make, signature_algorithm
 from ._names import AlternativeNames, Attribute, EdiPartyName, GeneralName, Name, OtherName
 from ._pem import Block, Data, PemError, pem_blocks
 from ._reading import Outcome, check, read, read_all, read_each
@@ -36,6 +40,7 @@ __all__ = [
     "Attribute",
     "Block",
     "Certificate",
+    "CertificateBuilder",
     "Data",
     "Deviation",
     "EdiPartyName",
@@ -45,6 +50,7 @@ __all__ = [
     "GeneralName",
     "Kind",
     "Name",
+    "NotMade",
     "OtherName",
     "Outcome",
     "PemError",
@@ -55,13 +61,17 @@ __all__ = [
     "Reason",
     "Refused",
     "Request",
+    "RequestBuilder",
     "SignedPart",
     "Structure",
     "Timestamp",
+    "ToBeSigned",
     "Verdict",
     "check",
+    "make",
     "pem_blocks",
     "read",
     "read_all",
     "read_each",
+    "signature_algorithm",
 ]

@@ -110,7 +110,7 @@ class _Signed(Structure):
         """The node of an extension, or None. Raises `ValueError` if there are several."""
         found = [it for it in self._nodes if it["id"] == identifier]
         if len(found) > 1:
-            raise ValueError(f"{len(found)} extensions {found[0].get('name')}: RFC 5280, 4.2 allows for one")
+            raise ValueError(f"{len(found)} extensions {found[0].get('name')}: RFC 5280, 4.2 allows only one")
         return found[0] if found else None
 
     def _names(self, identifier: str) -> AlternativeNames:
@@ -302,6 +302,14 @@ class Certificate(_Signed):
         """What names the issuer's key (RFC 5280, 4.2.1.1)."""
         told = self._told_of(_AUTHORITY_KEY)
         return octets(told["keyIdentifier"]["value"]) if told is not None and "keyIdentifier" in told else None
+
+    def matches_host(self, host: Union[str, Address]) -> bool:
+        # (by the library, which looks at the first list of names: of two, neither counts)
+        if self.der.count(_NAMES[_SUBJECT_NAMES]) > 1:
+            self._told_of(_SUBJECT_NAMES)
+        return _values.is_for(self.der, _hosts.text(host))
+
+    matches_host.__doc__ = _Signed.matches_host.__doc__
 
     def _names(self, identifier: str) -> AlternativeNames:
         der, sought = self.der, _NAMES[identifier]

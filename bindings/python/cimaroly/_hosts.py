@@ -53,6 +53,15 @@ def _is_for(presented: str, labels: list[str]) -> bool:
     return _labels(_lower(presented)) == labels
 
 
+def text(host: Union[str, Address]) -> bytes:
+    """A host as the library takes it. Raises `ValueError` for what is none."""
+    reference = _reference(host)
+    if isinstance(reference, list):
+        return ".".join(reference).encode("ascii")
+    # (without the zone of an address of version 6: RFC 4007, 11)
+    return str(type(reference)(reference.packed)).encode("ascii")
+
+
 def matches(names: AlternativeNames, host: Union[str, Address]) -> bool:
     """Whether one of these names is for a host."""
     reference = _reference(host)

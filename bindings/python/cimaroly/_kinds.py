@@ -20,10 +20,12 @@ Kind = Literal[
     "extensions",
     "algorithm",
     "raw-algorithm",
+    "request-info",
+    "tbs-certificate",
 ]
 """What bytes can be read as: `Certificate`, `CertificationRequest`, `PrivateKeyInfo`, `SubjectPublicKeyInfo`, `RSAPrivateKey`,
-`RSAPublicKey`, `ECPrivateKey`, `Name`, `Extensions`, `AlgorithmIdentifier` of a known algorithm, or one with any
-parameters."""
+`RSAPublicKey`, `ECPrivateKey`, `Name`, `Extensions`, `AlgorithmIdentifier` of a known algorithm, one with any parameters, or
+what signatures cover: `CertificationRequestInfo` or `TBSCertificate`."""
 
 KINDS: tuple[Kind, ...] = get_args(Kind)
 """Every kind, in the order of the library's numbers, from 1."""

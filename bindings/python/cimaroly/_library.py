@@ -31,8 +31,8 @@ _NUMBERS = {kind: number for number, kind in enumerate(KINDS, 1)}
 _KEPT = 1 << 20
 _ITEMS = 64
 _BYTES = 8192
-# The words of room before its items: memory, and a count.
-_FRONT = 3
+# The bytes of room before its items: their count.
+_FRONT = 8
 # More bytes than a report of what is refused has.
 _SHORT = 512
 
@@ -72,7 +72,7 @@ class PemBlock(ctypes.Structure):
 class Memory(ctypes.Structure):
     """`struct cimaroly_memory`."""
 
-    _fields_ = [("at", c_void_p), ("size", c_size_t)]
+    _fields_ = [("block", c_void_p), ("size", c_size_t)]
 
 
 # The kinds that have fields, with the names of these in the order of their structure in the header.
@@ -127,27 +127,35 @@ def _load() -> dict[str, Callable[..., int]]:
         builds = "there are builds for Linux on x86-64 and aarch64, and the WebAssembly module in web/ runs anywhere"
         raise ImportError(f"the shared object of cimaroly can't be loaded ({builds}): {error}", path=path) from error
     given, buffer = (c_void_p, c_size_t), (c_void_p, c_size_t, c_void_p)
-    of_a_kind = (c_void_p, c_uint32, *given)
+    making = (c_void_p, *given, *buffer)
+    of_a_kind = (c_uint32, *given)
+    lent = (c_void_p, *of_a_kind)
     calls: dict[str, tuple[Any, ...]] = {
         "cimaroly_check": (*of_a_kind, c_void_p),
-        "cimaroly_encode": (*of_a_kind, *buffer),
-        "cimaroly_places": (*of_a_kind, *buffer),
+        "cimaroly_encode": (*lent, *buffer),
+        "cimaroly_places": (*lent, *buffer),
         "cimaroly_signed_part": (*of_a_kind, c_void_p),
         "cimaroly_extensions": (*of_a_kind, *buffer),
-        "cimaroly_report": (*of_a_kind, c_bool, *buffer),
-        "cimaroly_certificate_fields": (c_void_p, *given, c_void_p),
-        "cimaroly_request_fields": (c_void_p, *given, c_void_p),
-        "cimaroly_private_key_fields": (c_void_p, *given, c_void_p),
+        "cimaroly_report": (*lent, c_bool, *buffer),
+        "cimaroly_certificate_fields": (*given, c_void_p),
+        "cimaroly_request_fields": (*given, c_void_p),
+        "cimaroly_private_key_fields": (*given, c_void_p),
         "cimaroly_validity": (*given, c_void_p, c_void_p),
         "cimaroly_serial_number": (*given, c_void_p),
         "cimaroly_subject_attributes": (*given, *buffer),
         "cimaroly_issuer_attributes": (*given, *buffer),
         "cimaroly_find_extension": (*given, *given, c_void_p),
         "cimaroly_general_names": (*given, *buffer),
+        "cimaroly_host_matches": (*given, *given, c_void_p),
         "cimaroly_oid_text": (*given, *buffer),
         "cimaroly_oid_name": (*given, *buffer),
         "cimaroly_pem_next": (*given, c_size_t, c_uint64, c_void_p),
         "cimaroly_pem_decode": (*given, *buffer),
+        "cimaroly_make": making,
+        "cimaroly_why_not_made": making,
+        "cimaroly_signature_algorithm": making,
+        "cimaroly_ecdsa_signature": making,
+        "cimaroly_assemble": (c_void_p, c_uint32, *given, *given, *given, *buffer),
     }
     loaded: dict[str, Callable[..., int]] = {}
     for name, arguments in calls.items():
@@ -166,39 +174,38 @@ _FIELDS_OF = {
 
 
 class Room:
-    """Room for what a call answers, behind a `struct cimaroly_memory` of no bytes, for calls that need none.
+    """Room for what a call answers: a count, and items behind it.
 
     A call takes some that is free, and gives it back when the answer has been taken out: so neither another thread nor the
     handler of a signal writes to it meanwhile.
     """
 
-    __slots__ = ("size", "words", "bytes", "memory", "count", "items")
+    __slots__ = ("size", "words", "bytes", "count", "items")
 
     def __init__(self, size: int = _BYTES) -> None:
-        words = (c_uint64 * (_FRONT + size // 8 + 1))()
+        words = (c_uint64 * (size // 8 + 2))()
         self.size = size
         self.bytes = memoryview(words).cast("B")
         self.words = self.bytes.cast("Q")
-        self.memory = ctypes.addressof(words)
-        self.count = self.memory + ctypes.sizeof(Memory)
-        self.items = self.memory + 8 * _FRONT
+        self.count = ctypes.addressof(words)
+        self.items = self.count + _FRONT
 
     def item(self, numbers: struct.Struct) -> tuple[int, ...]:
         """The numbers of the first item."""
-        return numbers.unpack_from(self.bytes, 8 * _FRONT)
+        return numbers.unpack_from(self.bytes, _FRONT)
 
     def listed(self, numbers: struct.Struct, status: int) -> list[tuple[int, ...]]:
         """The numbers of the items that a call has written, by its status."""
-        end = 8 * _FRONT + (self.words[_FRONT - 1] * numbers.size if status == OK else 0)
-        return list(numbers.iter_unpack(self.bytes[8 * _FRONT : end]))
+        end = _FRONT + (self.words[0] * numbers.size if status == OK else 0)
+        return list(numbers.iter_unpack(self.bytes[_FRONT : end]))
 
     def text(self) -> str:
         """The text that a call has written."""
-        return str(self.bytes[8 * _FRONT : 8 * _FRONT + self.words[_FRONT - 1]], "ascii")
+        return str(self.bytes[_FRONT : _FRONT + self.words[0]], "ascii")
 
     def larger(self, numbers: int) -> Room:
         """Room for as many items as a call tells, of so many bytes."""
-        return Room(self.words[_FRONT - 1] * numbers)
+        return Room(self.words[0] * numbers)
 
 
 _FREE: list[Room] = []
@@ -232,7 +239,7 @@ class _Lent:
     def overwrite(self) -> None:
         """Puts zeros in the place of what a call has left. What isn't kept goes back to the system as it is."""
         if self.size <= _KEPT:
-            ctypes.memset(self.of_library.at, 0, self.size)
+            ctypes.memset(self.of_library.block, 0, self.size)
 
 
 class _Kept(threading.local):
@@ -276,6 +283,34 @@ def _asked(name: str, kind: Kind, der: Held, *arguments: Any) -> int:
         size = 4 * lent.size
 
 
+def made(name: str, *given: Any) -> Optional[bytes]:
+    """What a call makes of bytes, and of the number before them if it takes one; None if they are refused."""
+    words: list[Any] = []
+    for it in given:
+        words += [it] if isinstance(it, int) else [it, len(it)]
+    room = sum(len(it) for it in given if not isinstance(it, int)) + _BYTES
+    size, count = 16 * room, c_size_t()
+    while True:
+        lent, out = _lent(size), ctypes.create_string_buffer(room)
+        status = CALLS[name](byref(lent.of_library), *words, out, room, byref(count))
+        lent.overwrite()
+        if status == OK:
+            return out.raw[: count.value]
+        if status == OUT_OF_MEMORY:
+            size = 4 * lent.size
+        elif status == BUFFER_TOO_SHORT:
+            room = count.value
+        elif status == TOO_LONG:
+            raise OverflowError("the encoding has 2^64 bytes or more")
+        else:
+            return None
+
+
+def kind_number(kind: Kind) -> int:
+    """The number of a kind."""
+    return _NUMBERS[kind]
+
+
 def pem_blocks(text: Held) -> Iterator[tuple[int, PemBlock]]:
     """What the search for PEM blocks answers, one behind the other, and where each block stands."""
     at = line = 0
@@ -303,7 +338,7 @@ def check(kind: Kind, der: Held) -> tuple[int, ...]:
     """What a check finds: how often there is each of the ten deviations, and how many headers were decoded. Raises
     `Refused`."""
     room = taken()
-    status = _CHECK(room.memory, _NUMBERS[kind], der if type(der) is bytes else input_at(der), len(der), room.items)
+    status = _CHECK(_NUMBERS[kind], der if type(der) is bytes else input_at(der), len(der), room.items)
     found = room.item(_VERDICT)
     given_back(room)
     if status == REFUSED:
@@ -373,7 +408,7 @@ def extensions(kind: Kind, der: Held) -> list[tuple[int, ...]]:
     call, given, room = CALLS["cimaroly_extensions"], input_at(der), taken()
     while True:
         most = room.size // _EXTENSION.size
-        status = call(room.memory, _NUMBERS[kind], given, len(der), room.items, most, room.count)
+        status = call(_NUMBERS[kind], given, len(der), room.items, most, room.count)
         if status != BUFFER_TOO_SHORT:
             break
         room = room.larger(_EXTENSION.size)
@@ -386,7 +421,7 @@ def extensions(kind: Kind, der: Held) -> list[tuple[int, ...]]:
 def signed_part(kind: Kind, der: Held) -> Signed:
     """What the signature covers."""
     part = Signed()
-    _is_ok(_asked("cimaroly_signed_part", kind, der, byref(part)), kind, der)
+    _is_ok(CALLS["cimaroly_signed_part"](_NUMBERS[kind], input_at(der), len(der), byref(part)), kind, der)
     return part
 
 
@@ -396,7 +431,7 @@ def fields(kind: Kind, der: Held) -> tuple[int, ...]:
         raise ValueError(f"not for a {kind}")
     call, numbers = _FIELDS_OF[kind]
     room = taken()
-    status = call(room.memory, input_at(der), len(der), room.items)
+    status = call(input_at(der), len(der), room.items)
     found = room.item(numbers)
     given_back(room)
     if status != OK:

@@ -96,7 +96,7 @@ class Extensions(tuple[Extension, ...]):
         """The extension of an identifier or a name, or None. Raises `ValueError` if there are several."""
         found = [it for it in self if it.is_called(key)]
         if len(found) > 1:
-            raise ValueError(f"{len(found)} extensions {key}: RFC 5280, 4.2 allows for one")
+            raise ValueError(f"{len(found)} extensions {key}: RFC 5280, 4.2 allows only one")
         return found[0] if found else None
 
     def __contains__(self, key: object) -> bool:

@@ -10,10 +10,11 @@ from typing import Optional
 
 from ._library import BUFFER_TOO_SHORT, CALLS, OK, given_back, taken
 
-# The numbers of two `struct cimaroly_time`, of `cimaroly_span`, `cimaroly_attribute` and `cimaroly_general_name`.
+# The numbers of two `struct cimaroly_time`, of `cimaroly_span`, `cimaroly_attribute` and `cimaroly_general_name`; a bool.
 _TIMES, _SPAN = struct.Struct("@qH5BxqH5Bx"), struct.Struct("@2N")
 _ATTRIBUTE, _GENERAL_NAME = struct.Struct("@3NB2N"), struct.Struct("@B2N")
 _ONE_TIME = _TIMES.size // 2
+_FLAG = struct.Struct("@?")
 
 # Longer identifiers than these aren't kept.
 _SHORT = 64
@@ -23,6 +24,7 @@ Numbers = list[tuple[int, ...]]
 _VALIDITY, _SERIAL_NUMBER = CALLS["cimaroly_validity"], CALLS["cimaroly_serial_number"]
 _FIND_EXTENSION, _GENERAL_NAMES = CALLS["cimaroly_find_extension"], CALLS["cimaroly_general_names"]
 _SUBJECT, _ISSUER = CALLS["cimaroly_subject_attributes"], CALLS["cimaroly_issuer_attributes"]
+_HOST_MATCHES = CALLS["cimaroly_host_matches"]
 
 
 def _items(call: Callable[..., int], numbers: struct.Struct, given: bytes) -> tuple[int, Numbers]:
@@ -74,6 +76,15 @@ def extension(certificate: bytes, identifier: bytes) -> Optional[bytes]:
     start, end = room.item(_SPAN)
     given_back(room)
     return certificate[start:end] if end > 0 else None
+
+
+def is_for(certificate: bytes, host: bytes) -> bool:
+    """Whether a certificate is for a host, which is a DNS name in ASCII or an address."""
+    room = taken()
+    _HOST_MATCHES(certificate, len(certificate), host, len(host), room.items)
+    (found,) = room.item(_FLAG)
+    given_back(room)
+    return bool(found)
 
 
 def general_names(encoded: bytes) -> Optional[Numbers]:

@@ -28,6 +28,10 @@ class Asked(unittest.TestCase):
             "dns_names": " ".join(it.alternative_names.dns_names) or "none",
             "rfc4514": it.subject.rfc4514() or "none",
             "key": " ".join(str(part) for part in (key.algorithm, key.curve, key.bits) if part is not None),
+            "signature": f"{it.signature_algorithm.identifier} {it.signature_algorithm.digest}".replace("None", "none"),
+            "key_identifiers": " ".join(
+                "none" if octets is None else octets.hex() for octets in (it.subject_key_identifier, it.authority_key_identifier)
+            ),
         }
         self.assertEqual(told, {name: row[name] for name in told})
 

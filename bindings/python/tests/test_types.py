@@ -55,7 +55,7 @@ ERRORS = (
     '"PublicKey" has no attribute "sice"',
     '"Request" has no attribute "serial_number"',
     'No overload variant of "read" matches',
-    'Argument 1 to "matches_host" of "_Signed" has incompatible type "int"',
+    'Argument 1 to "matches_host" of "Certificate" has incompatible type "int"',
     'Property "serial_number" defined in "Certificate" is read-only',
 )
 

@@ -28,11 +28,15 @@ pub enum Kind {
     Algorithm = 10,
     /// `AlgorithmIdentifier` with any parameters.
     RawAlgorithm = 11,
+    /// `CertificationRequestInfo` (RFC 2986, 4.1).
+    RequestInfo = 12,
+    /// `TBSCertificate` (RFC 5280, 4.1.2).
+    TbsCertificate = 13,
 }
 
 impl Kind {
     /// Every kind, in the order of their numbers.
-    pub const ALL: [Kind; 11] = [
+    pub const ALL: [Kind; 13] = [
         Kind::Certificate,
         Kind::Request,
         Kind::PrivateKey,
@@ -44,6 +48,8 @@ impl Kind {
         Kind::Extensions,
         Kind::Algorithm,
         Kind::RawAlgorithm,
+        Kind::RequestInfo,
+        Kind::TbsCertificate,
     ];
 
     /// The name, as reports have it.
@@ -61,6 +67,8 @@ impl Kind {
             Kind::Extensions => "extensions",
             Kind::Algorithm => "algorithm",
             Kind::RawAlgorithm => "raw-algorithm",
+            Kind::RequestInfo => "request-info",
+            Kind::TbsCertificate => "tbs-certificate",
         }
     }
 

@@ -49,6 +49,8 @@ mod fields;
 mod general_names;
 mod kind;
 mod library;
+#[cfg(feature = "alloc")]
+mod making;
 mod names;
 mod oid;
 mod pem;
@@ -69,6 +71,11 @@ pub use crate::fields::{Certificate, Extension, Field, PrivateKey, Request};
 pub use crate::general_names::{GeneralName, GeneralNames};
 pub use crate::kind::{Deviation, Kind};
 pub use crate::library::{Block, ExtensionPlaces};
+#[cfg(feature = "alloc")]
+pub use crate::making::{
+    assemble, certificate_signed_by, ecdsa_signature, make, pem_encode, request_signed_by,
+    signature_algorithm, NotMade,
+};
 pub use crate::names::{Attribute, Attributes, Name};
 pub use crate::oid::Oid;
 pub use crate::pem::{decode_base64, pem_blocks, PemBlock, PemBlocks, PemError, PemFault};

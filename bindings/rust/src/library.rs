@@ -6,6 +6,9 @@
 //! overlaps nothing else; and the library keeps no pointer.
 #![allow(unsafe_code)]
 
+#[cfg(feature = "alloc")]
+pub(crate) mod making;
+
 use core::mem::{size_of_val, MaybeUninit};
 
 use crate::times::Time;
@@ -25,13 +28,13 @@ impl Block {
 /// `struct cimaroly_memory`.
 #[repr(C)]
 struct Memory {
-    at: *mut Block,
+    block: *mut Block,
     size: usize,
 }
 
 impl Memory {
     fn of(blocks: &mut [Block]) -> Self {
-        Memory { at: blocks.as_mut_ptr(), size: size_of_val(blocks) }
+        Memory { block: blocks.as_mut_ptr(), size: size_of_val(blocks) }
     }
 }
 
@@ -201,7 +204,6 @@ mod c {
 
     extern "C" {
         pub(super) fn cimaroly_check(
-            memory: *mut Memory,
             kind: u32,
             der: *const u8,
             der_size: usize,
@@ -226,32 +228,27 @@ mod c {
             count: *mut usize,
         ) -> u32;
         pub(super) fn cimaroly_signed_part(
-            memory: *mut Memory,
             kind: u32,
             der: *const u8,
             der_size: usize,
             part: *mut Signed,
         ) -> u32;
         pub(super) fn cimaroly_certificate_fields(
-            memory: *mut Memory,
             der: *const u8,
             der_size: usize,
             fields: *mut Certificate,
         ) -> u32;
         pub(super) fn cimaroly_request_fields(
-            memory: *mut Memory,
             der: *const u8,
             der_size: usize,
             fields: *mut Request,
         ) -> u32;
         pub(super) fn cimaroly_private_key_fields(
-            memory: *mut Memory,
             der: *const u8,
             der_size: usize,
             fields: *mut PrivateKey,
         ) -> u32;
         pub(super) fn cimaroly_extensions(
-            memory: *mut Memory,
             kind: u32,
             der: *const u8,
             der_size: usize,
@@ -342,10 +339,9 @@ mod c {
     }
 }
 
-pub(crate) fn check(memory: &mut [Block], kind: u32, der: &[u8], told: &mut Verdict) -> u32 {
-    let mut memory = Memory::of(memory);
+pub(crate) fn check(kind: u32, der: &[u8], told: &mut Verdict) -> u32 {
     // SAFETY: the head of this module says why.
-    unsafe { c::cimaroly_check(&mut memory, kind, der.as_ptr(), der.len(), told) }
+    unsafe { c::cimaroly_check(kind, der.as_ptr(), der.len(), told) }
 }
 
 pub(crate) fn encode(
@@ -374,41 +370,35 @@ pub(crate) fn places(
     unsafe { c::cimaroly_places(&mut memory, kind, der.as_ptr(), der.len(), at, room, count) }
 }
 
-pub(crate) fn signed_part(memory: &mut [Block], kind: u32, der: &[u8], told: &mut Signed) -> u32 {
-    let mut memory = Memory::of(memory);
+pub(crate) fn signed_part(kind: u32, der: &[u8], told: &mut Signed) -> u32 {
     // SAFETY: as above.
-    unsafe { c::cimaroly_signed_part(&mut memory, kind, der.as_ptr(), der.len(), told) }
+    unsafe { c::cimaroly_signed_part(kind, der.as_ptr(), der.len(), told) }
 }
 
-pub(crate) fn certificate(memory: &mut [Block], der: &[u8], told: &mut Certificate) -> u32 {
-    let mut memory = Memory::of(memory);
+pub(crate) fn certificate(der: &[u8], told: &mut Certificate) -> u32 {
     // SAFETY: as above.
-    unsafe { c::cimaroly_certificate_fields(&mut memory, der.as_ptr(), der.len(), told) }
+    unsafe { c::cimaroly_certificate_fields(der.as_ptr(), der.len(), told) }
 }
 
-pub(crate) fn request(memory: &mut [Block], der: &[u8], told: &mut Request) -> u32 {
-    let mut memory = Memory::of(memory);
+pub(crate) fn request(der: &[u8], told: &mut Request) -> u32 {
     // SAFETY: as above.
-    unsafe { c::cimaroly_request_fields(&mut memory, der.as_ptr(), der.len(), told) }
+    unsafe { c::cimaroly_request_fields(der.as_ptr(), der.len(), told) }
 }
 
-pub(crate) fn private_key(memory: &mut [Block], der: &[u8], told: &mut PrivateKey) -> u32 {
-    let mut memory = Memory::of(memory);
+pub(crate) fn private_key(der: &[u8], told: &mut PrivateKey) -> u32 {
     // SAFETY: as above.
-    unsafe { c::cimaroly_private_key_fields(&mut memory, der.as_ptr(), der.len(), told) }
+    unsafe { c::cimaroly_private_key_fields(der.as_ptr(), der.len(), told) }
 }
 
 pub(crate) fn extensions(
-    memory: &mut [Block],
     kind: u32,
     der: &[u8],
     out: &mut [ExtensionPlaces],
     count: &mut usize,
 ) -> u32 {
-    let mut memory = Memory::of(memory);
     let (at, room) = (out.as_mut_ptr(), out.len());
     // SAFETY: as above; `out` has room for `room` items, of which any numbers are one.
-    unsafe { c::cimaroly_extensions(&mut memory, kind, der.as_ptr(), der.len(), at, room, count) }
+    unsafe { c::cimaroly_extensions(kind, der.as_ptr(), der.len(), at, room, count) }
 }
 
 pub(crate) fn report(

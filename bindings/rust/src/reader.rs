@@ -44,7 +44,7 @@ impl<'m> Reader<'m> {
     /// [`Error::Refused`] and [`Error::OutOfMemory`].
     pub fn check(&mut self, kind: Kind, der: &[u8]) -> Result<Verdict, Error> {
         let mut told = library::Verdict::default();
-        let status = library::check(self.memory, kind as u32, der, &mut told);
+        let status = library::check(kind as u32, der, &mut told);
         match (status, Reason::from_number(told.error)) {
             (status::OK, _) => Ok(Verdict { counts: told.counts, headers: told.headers }),
             (status::REFUSED, Some(reason)) => {
@@ -95,7 +95,7 @@ impl<'m> Reader<'m> {
     /// [`Error::Refused`], [`Error::OutOfMemory`]; [`Error::WrongKind`] of another kind.
     pub fn signed_part<'a>(&mut self, kind: Kind, der: &'a [u8]) -> Result<SignedPart<'a>, Error> {
         let mut told = library::Signed::default();
-        let status = library::signed_part(self.memory, kind as u32, der, &mut told);
+        let status = library::signed_part(kind as u32, der, &mut told);
         self.done(status, kind, der, 0)?;
         Ok(SignedPart { part: field(der, told.part), inside: told.inside, outside: told.outside })
     }
@@ -106,7 +106,7 @@ impl<'m> Reader<'m> {
     /// [`Error::Refused`] and [`Error::OutOfMemory`].
     pub fn certificate<'a>(&mut self, der: &'a [u8]) -> Result<Certificate<'a>, Error> {
         let mut told = library::Certificate::default();
-        let status = library::certificate(self.memory, der, &mut told);
+        let status = library::certificate(der, &mut told);
         self.done(status, Kind::Certificate, der, 0)?;
         Ok(Certificate {
             tbs_certificate: field(der, told.tbs_certificate),
@@ -132,7 +132,7 @@ impl<'m> Reader<'m> {
     /// [`Error::Refused`] and [`Error::OutOfMemory`].
     pub fn request<'a>(&mut self, der: &'a [u8]) -> Result<Request<'a>, Error> {
         let mut told = library::Request::default();
-        let status = library::request(self.memory, der, &mut told);
+        let status = library::request(der, &mut told);
         self.done(status, Kind::Request, der, 0)?;
         Ok(Request {
             certification_request_info: field(der, told.certification_request_info),
@@ -151,7 +151,7 @@ impl<'m> Reader<'m> {
     /// [`Error::Refused`] and [`Error::OutOfMemory`].
     pub fn private_key<'a>(&mut self, der: &'a [u8]) -> Result<PrivateKey<'a>, Error> {
         let mut told = library::PrivateKey::default();
-        let status = library::private_key(self.memory, der, &mut told);
+        let status = library::private_key(der, &mut told);
         self.done(status, Kind::PrivateKey, der, 0)?;
         Ok(PrivateKey {
             version: field(der, told.version),
@@ -175,7 +175,7 @@ impl<'m> Reader<'m> {
         out: &'o mut [ExtensionPlaces],
     ) -> Result<Extensions<'a, 'o>, Error> {
         let mut count = 0;
-        let status = library::extensions(self.memory, kind as u32, der, out, &mut count);
+        let status = library::extensions(kind as u32, der, out, &mut count);
         self.done(status, kind, der, count)?;
         let places = out.get(..count).unwrap_or_default().iter();
         Ok(Extensions { der, places })

@@ -22,7 +22,7 @@ fn main(rt: HostRuntime) -> ExitCode {
         Err(stop) => {
             if let Some(error) = &stop.error {
                 // Standard error is the last resort: where it fails too, the status alone tells.
-                let _ = eprintln!(rt; "cimaroly: {error}");
+                let _ = eprintln!(rt; "cimaroly: {error:#}");
             }
             stop.status
         }

@@ -16,8 +16,10 @@ ghost use Rattle.x509_flat.specs.Validities.{ValidityTold};
 ghost use Rattle.x509_flat_report.specs.Reports.{Reported};
 ghost use Rattle.cimaroly_c.specs.Exports.{Answers, AnswersFor, Arena, IsKind};
 
+mod making;
 mod oids;
 mod over;
+mod over_making;
 mod pem;
 mod values;
 mod version;
@@ -37,12 +39,7 @@ use x509_flat_report::{Lines, Reporter};
 
 /// Whether the input encodes a value of the kind, and how it deviates from the value's DER encoding.
 #[unsafe(no_mangle)]
-pub extern "C" fn cimaroly_check(
-    memory: &mut Lent,
-    kind: u32,
-    der: &[u8],
-    verdict: &mut Verdict,
-) -> u32
+pub extern "C" fn cimaroly_check(kind: u32, der: &[u8], verdict: &mut Verdict) -> u32
     ensures known { IsKind kind → AnswersFor kind result (λ k status. TellsOf Arena k der.now status verdict.new) }
     ensures bound { verdict.new.headers ≤ length der.now / 2 + 1 }
     ensures unknown { (IsKind kind → ⊥) → (result ≡ 4) × (verdict.new ≡ no_verdict) }
@@ -51,9 +48,7 @@ pub extern "C" fn cimaroly_check(
         *verdict = Verdict::none();
         return Status::UnknownKind.number();
     };
-    let block = OneBlock::from_mut(memory);
-    let checked = over::check(&block, known, der);
-    block.give_back(memory);
+    let checked = over::check(known, der);
     *verdict = checked.verdict;
     checked.status.number()
 }
@@ -106,12 +101,7 @@ pub extern "C" fn cimaroly_places(
 
 /// What the signature of a certificate, kind 1, or of a request, kind 2, covers.
 #[unsafe(no_mangle)]
-pub extern "C" fn cimaroly_signed_part(
-    memory: &mut Lent,
-    kind: u32,
-    der: &[u8],
-    part: &mut FlatSigned,
-) -> u32
+pub extern "C" fn cimaroly_signed_part(kind: u32, der: &[u8], part: &mut FlatSigned) -> u32
     ensures certificate { kind ≡ 1 → Answers result (λ status. SignedTold (certificate {A = Arena}) certificate_parts tbs_certificate signature_fields der.now status part.new) }
     ensures request { kind ≡ 2 → Answers result (λ status. SignedTold (request {A = Arena}) request_parts request_info signature_fields der.now status part.new) }
     ensures unknown { (kind ≡ 1 → ⊥) → (kind ≡ 2 → ⊥) → (result ≡ 4) × (part.new ≡ no_signed) }
@@ -120,61 +110,41 @@ pub extern "C" fn cimaroly_signed_part(
         *part = FlatSigned::none();
         return Status::UnknownKind.number();
     }
-    let block = OneBlock::from_mut(memory);
     let answer = if kind == 1 {
-        over::certificate_signed_part(&block, der)
+        over::certificate_signed_part(der)
     } else {
-        over::request_signed_part(&block, der)
+        over::request_signed_part(der)
     };
-    block.give_back(memory);
     *part = answer.signed;
     answer.status.number()
 }
 
 /// Where the fields of a certificate stand.
 #[unsafe(no_mangle)]
-pub extern "C" fn cimaroly_certificate_fields(
-    memory: &mut Lent,
-    der: &[u8],
-    fields: &mut FlatCertificate,
-) -> u32
+pub extern "C" fn cimaroly_certificate_fields(der: &[u8], fields: &mut FlatCertificate) -> u32
     ensures { Answers result (λ status. CertificateTold Arena der.now status fields.new) }
 {
-    let block = OneBlock::from_mut(memory);
-    let answer = over::certificate_fields(&block, der);
-    block.give_back(memory);
+    let answer = over::certificate_fields(der);
     *fields = answer.fields;
     answer.status.number()
 }
 
 /// Where the fields of a request stand.
 #[unsafe(no_mangle)]
-pub extern "C" fn cimaroly_request_fields(
-    memory: &mut Lent,
-    der: &[u8],
-    fields: &mut FlatRequest,
-) -> u32
+pub extern "C" fn cimaroly_request_fields(der: &[u8], fields: &mut FlatRequest) -> u32
     ensures { Answers result (λ status. RequestTold Arena der.now status fields.new) }
 {
-    let block = OneBlock::from_mut(memory);
-    let answer = over::request_fields(&block, der);
-    block.give_back(memory);
+    let answer = over::request_fields(der);
     *fields = answer.fields;
     answer.status.number()
 }
 
 /// Where the fields of a private key stand.
 #[unsafe(no_mangle)]
-pub extern "C" fn cimaroly_private_key_fields(
-    memory: &mut Lent,
-    der: &[u8],
-    fields: &mut FlatPrivateKey,
-) -> u32
+pub extern "C" fn cimaroly_private_key_fields(der: &[u8], fields: &mut FlatPrivateKey) -> u32
     ensures { Answers result (λ status. PrivateKeyTold Arena der.now status fields.new) }
 {
-    let block = OneBlock::from_mut(memory);
-    let answer = over::private_key_fields(&block, der);
-    block.give_back(memory);
+    let answer = over::private_key_fields(der);
     *fields = answer.fields;
     answer.status.number()
 }
@@ -182,7 +152,6 @@ pub extern "C" fn cimaroly_private_key_fields(
 /// Writes where each extension of a certificate, kind 1, or of a list, kind 9, stands to the front of a buffer.
 #[unsafe(no_mangle)]
 pub extern "C" fn cimaroly_extensions(
-    memory: &mut Lent,
     kind: u32,
     der: &[u8],
     extensions: &mut [FlatExtension],
@@ -196,13 +165,11 @@ pub extern "C" fn cimaroly_extensions(
         *count = 0;
         return Status::UnknownKind.number();
     }
-    let block = OneBlock::from_mut(memory);
     let sized = if kind == 1 {
-        over::certificate_extensions(&block, der, extensions)
+        over::certificate_extensions(der, extensions)
     } else {
-        over::list_extensions(&block, der, extensions)
+        over::list_extensions(der, extensions)
     };
-    block.give_back(memory);
     *count = sized.size;
     sized.status.number()
 }

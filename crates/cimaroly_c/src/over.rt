@@ -72,19 +72,21 @@ fn capacity(size: usize) -> usize
 }
 
 /// An arena over a block: one chunk that is as large as fits.
-fn arena(block: &OneBlock) -> Bump<&OneBlock> {
+pub(crate) fn arena(block: &OneBlock) -> Bump<&OneBlock> {
     match Bump::try_with_capacity(block, capacity(block.size())) {
         Ok(arena) => arena,
         Err(_) => Bump::new(block),
     }
 }
 
-/// `check` of `x509_flat`. As all calls that build no value, it asks its arena for nothing, so that none is set up.
-pub(crate) fn check(block: &OneBlock, kind: Kind, bytes: &[u8]) -> Checked
+/// `check` of `x509_flat`. As all calls that build no value, it asks its arena for nothing, and so is lent none.
+pub(crate) fn check(kind: Kind, bytes: &[u8]) -> Checked
     ensures told { TellsOf Arena kind bytes.now result.status result.verdict }
     ensures bound { result.verdict.headers ≤ length bytes.now / 2 + 1 }
 {
-    let arena = Bump::new(block);
+    let mut nothing = Lent::nothing();
+    let block = OneBlock::from_mut(&mut nothing);
+    let arena = Bump::new(&block);
     flat_check(&arena, kind, bytes)
 }
 
@@ -105,66 +107,76 @@ pub(crate) fn places(block: &OneBlock, kind: Kind, bytes: &[u8], out: &mut [Flat
 }
 
 /// The signed part of a certificate.
-pub(crate) fn certificate_signed_part(block: &OneBlock, bytes: &[u8]) -> SignedAnswer
+pub(crate) fn certificate_signed_part(bytes: &[u8]) -> SignedAnswer
     ensures { SignedTold (certificate {A = Arena}) certificate_parts tbs_certificate signature_fields bytes.now result.status result.signed }
 {
-    let arena = Bump::new(block);
+    let mut nothing = Lent::nothing();
+    let block = OneBlock::from_mut(&mut nothing);
+    let arena = Bump::new(&block);
     signed_part::of_certificate(&arena, bytes)
 }
 
 /// The signed part of a request.
-pub(crate) fn request_signed_part(block: &OneBlock, bytes: &[u8]) -> SignedAnswer
+pub(crate) fn request_signed_part(bytes: &[u8]) -> SignedAnswer
     ensures { SignedTold (request {A = Arena}) request_parts request_info signature_fields bytes.now result.status result.signed }
 {
-    let arena = Bump::new(block);
+    let mut nothing = Lent::nothing();
+    let block = OneBlock::from_mut(&mut nothing);
+    let arena = Bump::new(&block);
     signed_part::of_request(&arena, bytes)
 }
 
 /// The fields of a certificate.
-pub(crate) fn certificate_fields(block: &OneBlock, bytes: &[u8]) -> Answer<FlatCertificate>
+pub(crate) fn certificate_fields(bytes: &[u8]) -> Answer<FlatCertificate>
     ensures { CertificateTold Arena bytes.now result.status result.fields }
 {
-    let arena = Bump::new(block);
+    let mut nothing = Lent::nothing();
+    let block = OneBlock::from_mut(&mut nothing);
+    let arena = Bump::new(&block);
     flat_certificate_fields(&arena, bytes)
 }
 
 /// The fields of a request.
-pub(crate) fn request_fields(block: &OneBlock, bytes: &[u8]) -> Answer<FlatRequest>
+pub(crate) fn request_fields(bytes: &[u8]) -> Answer<FlatRequest>
     ensures { RequestTold Arena bytes.now result.status result.fields }
 {
-    let arena = Bump::new(block);
+    let mut nothing = Lent::nothing();
+    let block = OneBlock::from_mut(&mut nothing);
+    let arena = Bump::new(&block);
     flat_request_fields(&arena, bytes)
 }
 
 /// The fields of a private key.
-pub(crate) fn private_key_fields(block: &OneBlock, bytes: &[u8]) -> Answer<FlatPrivateKey>
+pub(crate) fn private_key_fields(bytes: &[u8]) -> Answer<FlatPrivateKey>
     ensures { PrivateKeyTold Arena bytes.now result.status result.fields }
 {
-    let arena = Bump::new(block);
+    let mut nothing = Lent::nothing();
+    let block = OneBlock::from_mut(&mut nothing);
+    let arena = Bump::new(&block);
     flat_private_key_fields(&arena, bytes)
 }
 
 /// The extensions of a certificate.
-pub(crate) fn certificate_extensions(
-    block: &OneBlock,
-    bytes: &[u8],
-    out: &mut [FlatExtension],
-) -> Sized
+pub(crate) fn certificate_extensions(bytes: &[u8], out: &mut [FlatExtension]) -> Sized
     ensures { CarriedTold Arena bytes.now out.old out.new result.status result.size }
 {
-    let arena = Bump::new(block);
+    let mut nothing = Lent::nothing();
+    let block = OneBlock::from_mut(&mut nothing);
+    let arena = Bump::new(&block);
     of_certificate(&arena, bytes, out)
 }
 
 /// The extensions of a list.
-pub(crate) fn list_extensions(block: &OneBlock, bytes: &[u8], out: &mut [FlatExtension]) -> Sized
+pub(crate) fn list_extensions(bytes: &[u8], out: &mut [FlatExtension]) -> Sized
     ensures { ListTold Arena bytes.now out.old out.new result.status result.size }
 {
-    let arena = Bump::new(block);
+    let mut nothing = Lent::nothing();
+    let block = OneBlock::from_mut(&mut nothing);
+    let arena = Bump::new(&block);
     of_extensions(&arena, bytes, out)
 }
 
-/// When a certificate is valid. It asks for no memory, and so is given none.
+/// When a certificate is valid.
 pub(crate) fn validity(bytes: &[u8]) -> Answer<FlatValidity>
     ensures { ValidityTold Arena bytes.now result.status result.fields.not_before result.fields.not_after }
 {
@@ -174,7 +186,7 @@ pub(crate) fn validity(bytes: &[u8]) -> Answer<FlatValidity>
     flat_validity(&arena, bytes)
 }
 
-/// The attributes of a certificate's subject. It asks for no memory, as all of these.
+/// The attributes of a certificate's subject.
 pub(crate) fn subject_attributes(bytes: &[u8], out: &mut [AttributePlace]) -> Sized
     ensures { NameFills {A = Arena} (λ v. v.tbs_certificate.subject) bytes.now out.old out.new result.status result.size }
 {

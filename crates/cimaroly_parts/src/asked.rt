@@ -3,16 +3,13 @@
 use crate::progress::Telling;
 use crate::terminal::Terminal;
 use anyhow::Error;
+use cimaroly_outlines::{OutlineSettings, SerialNumber};
 use cimaroly_work::time::moment_of;
-use cimaroly_work::{Action, ColumnList, Format, Settings, Stop};
+use cimaroly_work::{Action, ColumnList, Format, RuleSet, Settings, Stop};
 use clap::ArgMatches;
 use x509_inspect::{Column, Identifiers, Kind, Moment, Options, Secrets};
 use x509_report_parts::shown::ShownBytes;
 use x509_report_parts::{Colours, Layout};
-
-/// What `--fields` takes.
-const COLUMNS: &str =
-    "file, line, type, length, deviations, subject, issuer, serialNumber, notBefore, notAfter, names, key, signatureAlgorithm, sha256, sha1 and pin";
 
 /// The type that is asked for.
 fn kind_of(matches: &ArgMatches<'_>) -> Option<Kind> {
@@ -23,7 +20,7 @@ fn kind_of(matches: &ArgMatches<'_>) -> Option<Kind> {
 }
 
 /// The colours that are asked for.
-fn colours_of(matches: &ArgMatches<'_>, terminal: Terminal) -> Colours {
+pub(crate) fn colours_of(matches: &ArgMatches<'_>, terminal: Terminal) -> Colours {
     let has_colours = match matches.get_str("color") {
         Some("always") => true,
         Some("never") => false,
@@ -37,7 +34,7 @@ fn colours_of(matches: &ArgMatches<'_>, terminal: Terminal) -> Colours {
 }
 
 /// Settings that ask for nothing but an action, as text.
-fn plain(action: Action) -> Settings {
+pub(crate) fn plain(action: Action) -> Settings {
     Settings {
         action,
         format: Format::Text,
@@ -49,8 +46,10 @@ fn plain(action: Action) -> Settings {
         layout: Layout::PLAIN,
         at: None,
         is_deep: false,
+        outlines: OutlineSettings::NONE,
         has_progress: false,
         has_strict_files: false,
+        rules: RuleSet::ALL,
     }
 }
 
@@ -72,7 +71,7 @@ fn columns_of(names: &str) -> Result<ColumnList, Stop> {
     for name in names.split(',') {
         let Some(column) = Column::from_name(name) else {
             return Err(Stop::usage(Error::msg(format_args!(
-                "no field is named '{}'; there are {COLUMNS}",
+                "no field is named '{}': see cimaroly help show",
                 ShownBytes(name.as_bytes())
             ))));
         };
@@ -94,6 +93,28 @@ fn show_format(matches: &ArgMatches<'_>) -> Result<Format, Stop> {
         Ok(Format::Brief)
     } else {
         Ok(Format::Text)
+    }
+}
+
+/// The serial number that `--serial` says.
+fn serial_of(matches: &ArgMatches<'_>) -> Result<Option<SerialNumber>, Stop> {
+    let Some(text) = matches.get_str("serial") else {
+        return Ok(None);
+    };
+    match SerialNumber::from_text(text) {
+        Some(serial) => Ok(Some(serial)),
+        None => Err(Stop::usage(Error::msg(format_args!(
+            "'{}' isn't a serial number in hexadecimal such as 01:e2",
+            ShownBytes(text.as_bytes())
+        )))),
+    }
+}
+
+/// What is asked for of outlines, where nothing is of entries.
+fn outlines_of(matches: &ArgMatches<'_>) -> OutlineSettings {
+    OutlineSettings {
+        is_accepted: matches.get_flag("outline"),
+        ..OutlineSettings::NONE
     }
 }
 
@@ -120,12 +141,17 @@ pub(crate) fn show_settings(
             identifiers,
         },
         layout: layout_of(matches, terminal),
+        outlines: OutlineSettings {
+            has_entries: matches.get_flag("full"),
+            serial: serial_of(matches)?,
+            ..outlines_of(matches)
+        },
         ..plain(Action::Show)
     })
 }
 
 /// The time that `--at` says.
-fn time_of(matches: &ArgMatches<'_>) -> Result<Option<Moment>, Stop> {
+pub(crate) fn time_of(matches: &ArgMatches<'_>) -> Result<Option<Moment>, Stop> {
     let Some(text) = matches.get_str("at") else {
         return Ok(None);
     };
@@ -159,6 +185,7 @@ pub(crate) fn check_settings(
         },
         at: time_of(matches)?,
         is_deep: matches.get_flag("deep"),
+        outlines: outlines_of(matches),
         has_progress: matches.get_flag("progress"),
         has_strict_files: matches.get_flag("strict-files"),
         ..plain(Action::Check)
@@ -175,6 +202,7 @@ pub(crate) fn der_settings(matches: &ArgMatches<'_>) -> Settings {
     Settings {
         format,
         kind: kind_of(matches),
+        outlines: outlines_of(matches),
         ..plain(Action::Encode)
     }
 }
@@ -198,6 +226,15 @@ pub(crate) fn match_settings(matches: &ArgMatches<'_>) -> Settings {
         format,
         kind: kind_of(matches),
         ..plain(Action::Match)
+    }
+}
+
+/// What `cimaroly signed` is asked for.
+pub(crate) fn signed_settings(matches: &ArgMatches<'_>) -> Settings {
+    Settings {
+        format: Format::Quiet,
+        outlines: outlines_of(matches),
+        ..plain(Action::Signed)
     }
 }
 

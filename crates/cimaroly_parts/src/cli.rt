@@ -1,10 +1,15 @@
 //! The command line.
 
 use crate::asked::{
-    check_settings, der_settings, match_settings, show_settings, telling_of, tree_settings,
+    check_settings, der_settings, match_settings, show_settings, signed_settings, telling_of,
+    tree_settings,
 };
+use crate::describing::{certificate, certificate_command, request, request_command};
 use crate::files;
+use crate::lint::{Totals, lint_command, lint_settings, list_rules};
+use crate::making::{make, make_command};
 use crate::progress::{Progress, Telling};
+use crate::signing::{assemble, assemble_command, signed, signed_command};
 use crate::terminal::Terminal;
 use crate::words::with_command;
 use anyhow::Error;
@@ -16,10 +21,10 @@ use std::fs::{self, File};
 use std::io::{self, BufWriter, Write};
 use std::rt::Files;
 use std::time::Clock;
-use x509_report_parts::shown::{Frame, Shown, ShownBytes};
+use x509_report_parts::shown::{Frame, Shown};
 
 /// The names of the types, as `--type` takes them.
-const KINDS: [&'static str; 11] = [
+const KINDS: [&'static str; 13] = [
     "certificate",
     "request",
     "private-key",
@@ -31,24 +36,30 @@ const KINDS: [&'static str; 11] = [
     "extensions",
     "algorithm",
     "raw-algorithm",
+    "request-info",
+    "tbs-certificate",
 ];
 
 /// What is said of files and folders.
-const FOLDERS: &str = "Files, or folders with everything in them; - is standard input";
+pub(crate) const FOLDERS: &str = "Files, or folders with everything in them; - is standard input";
+
+/// What `--fields` takes.
+const COLUMNS: &str =
+    "Print some of file, line, type, length, deviations, subject, issuer, serialNumber, notBefore, notAfter, names, key, signatureAlgorithm, sha256, sha1 and pin, with commas between them";
 
 /// What `--color` takes.
 const WHEN: [&'static str; 3] = ["auto", "always", "never"];
 
 /// What is said where bytes would be written to a terminal.
-const BINARY: &str = "DER isn't written to a terminal: use -o FILE, or --pem";
+pub(crate) const BINARY: &str = "DER isn't written to a terminal: use -o FILE, or --pem";
 
 /// What stands at the end of the help.
 const AFTER: &str = "\
-Input is PEM with text around it, DER, or hexadecimal with white space; - or no FILE is standard input.
+Input is PEM with text around it, DER, hexadecimal or bare base64; - or no FILE is standard input.
 cimaroly FILE is short for cimaroly show FILE.
 
-Exit status: 0 everything is in DER; 1 something was refused; 2 wrong usage; 3 something has deviations;
-4 input or output failed; 5 out of memory.
+Exit status: 0 everything is in DER; 1 something was refused; 2 wrong usage; 3 something has deviations or
+findings; 4 input or output failed; 5 out of memory.
 
 Examples:
   cimaroly show cert.pem
@@ -57,13 +68,16 @@ Examples:
   cimaroly show --fields subject,notAfter,sha256 certs.pem
   cimaroly check --at 2026-12-31T23:59:59Z certs.pem
   cimaroly match cert.pem key.pem
-  cimaroly der --pem cert.pem > strict.pem";
+  cimaroly lint --ignore modulus-short certs.pem
+  cimaroly der --pem cert.pem > strict.pem
+  cimaroly request --subject CN=example.org --dns example.org --key key.pub -o request.tbs
+  cimaroly assemble request.tbs request.sig --algorithm ecdsa-with-SHA256 --pem > request.pem";
 
 /// What stands below the words on what is wrong with a command line.
 const EXAMPLE: &str = "Example: cimaroly show cert.pem";
 
 /// An option without a value.
-fn flag<'a>(alloc: Global, name: &'static str, help: &'static str) -> Arg<'a> {
+pub(crate) fn flag<'a>(alloc: Global, name: &'static str, help: &'static str) -> Arg<'a> {
     Arg::new(alloc, name)
         .long(name)
         .action(ArgAction::SetTrue)
@@ -80,7 +94,7 @@ fn kind_option<'a>(alloc: Global) -> Arg<'a> {
 }
 
 /// The option that says whether there are colours.
-fn color_option<'a>(alloc: Global) -> Arg<'a> {
+pub(crate) fn color_option<'a>(alloc: Global) -> Arg<'a> {
     Arg::new(alloc, "color")
         .long("color")
         .value_name("WHEN")
@@ -94,8 +108,25 @@ fn full_option<'a>(alloc: Global) -> Arg<'a> {
     flag(alloc, "full", "Don't cut long lines on a terminal")
 }
 
+/// The option that has outlines taken for structures.
+pub(crate) fn outline_option<'a>(alloc: Global) -> Arg<'a> {
+    flag(
+        alloc,
+        "outline",
+        "Accept parts that aren't read, such as unknown algorithms",
+    )
+}
+
+/// The option that has one entry shown of revocation lists.
+fn serial_option<'a>(alloc: Global) -> Arg<'a> {
+    Arg::new(alloc, "serial")
+        .long("serial")
+        .value_name("HEX")
+        .help("Of CRLs, show the entry with this serial number, as in 01:e2")
+}
+
 /// The files.
-fn paths<'a>(alloc: Global, value_name: &'static str, help: &'static str) -> Arg<'a> {
+pub(crate) fn paths<'a>(alloc: Global, value_name: &'static str, help: &'static str) -> Arg<'a> {
     Arg::new(alloc, "paths")
         .value_name(value_name)
         .num_args(0..)
@@ -110,7 +141,7 @@ fn show_command<'a>(alloc: Global) -> Result<Command<'a>, AllocError> {
     let fields = Arg::new(alloc, "fields")
         .long("fields")
         .value_name("NAMES")
-        .help("Print only these, with tabs between them, as in subject,notAfter,sha256")
+        .help(COLUMNS)
         .conflicts_with("json")?;
     Command::new(alloc, "show")
         .about("Shows what each structure contains, and where")
@@ -119,7 +150,13 @@ fn show_command<'a>(alloc: Global) -> Result<Command<'a>, AllocError> {
         .arg(fields)?
         .arg(flag(alloc, "secrets", "Show the secret numbers of private keys"))?
         .arg(flag(alloc, "oids", "Show object identifiers in dotted form too"))?
-        .arg(full_option(alloc))?
+        .arg(outline_option(alloc))?
+        .arg(serial_option(alloc))?
+        .arg(flag(
+            alloc,
+            "full",
+            "Don't cut long lines on a terminal, and list the entries of CRLs",
+        ))?
         .arg(color_option(alloc))?
         .arg(kind_option(alloc))?
         .arg(paths(alloc, "FILE|FOLDER", FOLDERS))
@@ -154,6 +191,7 @@ fn check_command<'a>(alloc: Global) -> Result<Command<'a>, AllocError> {
             "strict-files",
             "Refuse files without a structure in folders too",
         ))?
+        .arg(outline_option(alloc))?
         .arg(color_option(alloc))?
         .arg(kind_option(alloc))?
         .arg(paths(alloc, "FILE|FOLDER", FOLDERS))
@@ -184,6 +222,7 @@ fn der_command<'a>(alloc: Global) -> Result<Command<'a>, AllocError> {
                 .value_name("FILE")
                 .help("Write to this file instead of standard output"),
         )?
+        .arg(outline_option(alloc))?
         .arg(kind_option(alloc))?
         .arg(paths(alloc, "FILE", "Files; - is standard input"))
 }
@@ -203,7 +242,7 @@ fn tree_command<'a>(alloc: Global) -> Result<Command<'a>, AllocError> {
 fn command<'a>(alloc: Global) -> Result<Command<'a>, AllocError> {
     Command::new(alloc, "cimaroly")
         .version("0.1.0")
-        .about("Shows and checks X.509 certificates, requests, keys and their parts")
+        .about("Shows, checks and makes X.509 certificates, requests, keys and their parts")
         .after_help(AFTER)
         .subcommand_required(true)
         .arg_required_else_help(true)
@@ -211,11 +250,17 @@ fn command<'a>(alloc: Global) -> Result<Command<'a>, AllocError> {
         .subcommand(check_command(alloc)?)?
         .subcommand(der_command(alloc)?)?
         .subcommand(tree_command(alloc)?)?
-        .subcommand(match_command(alloc)?)
+        .subcommand(match_command(alloc)?)?
+        .subcommand(lint_command(alloc)?)?
+        .subcommand(signed_command(alloc)?)?
+        .subcommand(assemble_command(alloc)?)?
+        .subcommand(request_command(alloc)?)?
+        .subcommand(certificate_command(alloc)?)?
+        .subcommand(make_command(alloc)?)
 }
 
 /// Works on all paths, or on standard input where there are none, and writes to a writer.
-fn work_into<R, W: Write>(
+pub(crate) fn work_into<R, W: Write>(
     rt: &R,
     matches: &ArgMatches<'_>,
     settings: Settings,
@@ -242,7 +287,7 @@ where
 }
 
 /// The same, which writes to standard output.
-fn work<R>(
+pub(crate) fn work<R>(
     rt: &R,
     matches: &ArgMatches<'_>,
     settings: Settings,
@@ -256,16 +301,13 @@ where
 }
 
 /// Writes what was written to memory to a file, if there is anything.
-fn keep<R: Files + AllocGlobal>(rt: &R, path: &str, bytes: &[u8]) -> Result<(), Stop> {
+pub(crate) fn keep<R: Files + AllocGlobal>(rt: &R, path: &str, bytes: &[u8]) -> Result<(), Stop> {
     if bytes.is_empty() {
         return Ok(());
     }
     match fs::write(rt, path, bytes) {
         Ok(()) => Ok(()),
-        Err(error) => Err(Stop {
-            status: Status::Failed,
-            error: Some(Error::msg(format_args!("{}: {error}", ShownBytes(path.as_bytes())))),
-        }),
+        Err(error) => Err(Stop::at(Status::Failed, path, error)),
     }
 }
 
@@ -300,6 +342,20 @@ where
     Ok(tally.status)
 }
 
+/// Looks for what breaks rules, and tells standard error what it came to.
+fn lint<R>(rt: &R, matches: &ArgMatches<'_>, terminal: Terminal) -> Result<Status, Stop>
+where
+    R: Files<File = File> + Input + Print + Eprint + AllocGlobal + Clock + Clone + Drop,
+{
+    if matches.get_flag("list") {
+        return list_rules(rt);
+    }
+    let settings = lint_settings(matches, terminal)?;
+    let tally = work(rt, matches, settings, Telling::Never)?;
+    eprintln!(rt; "{}", Totals(tally))?;
+    Ok(tally.status)
+}
+
 /// Does what a command asks for.
 fn dispatch<R>(rt: &R, matches: &ArgMatches<'_>, terminal: Terminal) -> Result<Status, Stop>
 where
@@ -308,6 +364,12 @@ where
     let (inner, settings) = match matches.subcommand() {
         Some(("check", inner)) => return check(rt, inner, terminal),
         Some(("der", inner)) => return encode(rt, inner, terminal),
+        Some(("lint", inner)) => return lint(rt, inner, terminal),
+        Some(("signed", inner)) => return signed(rt, inner, signed_settings(inner), terminal),
+        Some(("assemble", inner)) => return assemble(rt, inner, terminal),
+        Some(("request", inner)) => return request(rt, inner, terminal),
+        Some(("certificate", inner)) => return certificate(rt, inner, terminal),
+        Some(("make", inner)) => return make(rt, inner, terminal),
         Some(("show", inner)) => (inner, show_settings(inner, terminal)?),
         Some(("match", inner)) => (inner, match_settings(inner)),
         Some(("tree", inner)) => (inner, tree_settings(inner, terminal)),

@@ -80,7 +80,7 @@ fn target_of<R: Files>(rt: &R, path: &str, is_inner: bool) -> Target {
 }
 
 /// What is said of a file by whose name nothing can be opened.
-const NO_TEXT: &str = "a file name that isn't valid UTF-8 can't be opened";
+pub(crate) const NO_TEXT: &str = "a file name that isn't valid UTF-8 can't be opened";
 
 /// Tells that a file failed, on standard error and in JSON.
 fn fail<R: Eprint, W: Write>(

@@ -3,10 +3,15 @@
 
 mod asked;
 pub mod cli;
+mod describing;
 mod files;
+mod lint;
+mod making;
 mod progress;
 mod run;
+mod signing;
 mod terminal;
+mod whole;
 pub mod words;
 
 pub use crate::terminal::Terminal;

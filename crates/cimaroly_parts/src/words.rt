@@ -65,7 +65,8 @@ pub fn words<R: Env + AllocGlobal>(rt: &R) -> Result<Vec<String>, Stop> {
 /// Whether a word that stands where a command does is a file, or an option of `show`.
 fn is_shown<R: Files>(rt: &R, word: &str) -> bool {
     match word {
-        "show" | "check" | "der" | "tree" | "match" | "help" => false,
+        "show" | "check" | "der" | "tree" | "match" | "lint" | "help" => false,
+        "signed" | "assemble" | "request" | "certificate" | "make" => false,
         "-h" | "--help" | "-V" | "--version" => false,
         "-" => true,
         _ => word.starts_with('-') || is_path(word) || fs::metadata(rt, word).is_ok(),

@@ -1,5 +1,6 @@
 //! The lines that say what a structure comes to.
 
+use cimaroly_outlines::OutlineNote;
 use std::alloc::{AllocError, Global};
 use std::fmt::{self, Display, Write};
 use x509_der::Place;
@@ -59,17 +60,32 @@ pub(crate) fn write_note(
     writeln!(out, "{begin}{name}: {reason}{}", colours.end())
 }
 
+/// Writes the file and the line that a structure comes from.
+pub(crate) fn write_place(out: &mut String, source: Source<'_>) -> Result<(), AllocError> {
+    write!(out, "{}", ShownBytes(source.file.as_bytes()))?;
+    match source.block {
+        Some((line, _)) => write!(out, ":{line}"),
+        None => Ok(()),
+    }
+}
+
 /// Writes where a structure comes from and as what it is read, up to the colon behind it.
 pub(crate) fn write_structure(
     out: &mut String,
     source: Source<'_>,
     kind: Kind,
 ) -> Result<(), AllocError> {
-    write!(out, "{}", ShownBytes(source.file.as_bytes()))?;
-    if let Some((line, _)) = source.block {
-        write!(out, ":{line}")?;
-    }
-    write!(out, ": {}: ", kind.name())
+    write_named(out, source, kind.name())
+}
+
+/// The same of a type by its name.
+pub(crate) fn write_named(
+    out: &mut String,
+    source: Source<'_>,
+    name: &str,
+) -> Result<(), AllocError> {
+    write_place(out, source)?;
+    write!(out, ": {name}: ")
 }
 
 /// The deviations on one line, as in `1 deviation: RSA parameters absent at 37..48`.
@@ -186,11 +202,11 @@ fn mark_of(searched: &Searched<Global>, standing: Standing) -> Option<Mark> {
 pub(crate) fn write_searched(
     out: &mut String,
     source: Source<'_>,
-    kind: Kind,
+    name: &str,
     (searched, standing): (&Searched<Global>, Standing),
     colours: Colours,
 ) -> Result<(), AllocError> {
-    write_structure(out, source, kind)?;
+    write_named(out, source, name)?;
     let (begin, end) = match mark_of(searched, standing) {
         Some(mark) => (colours.begin(mark), colours.end()),
         None => ("", ""),
@@ -210,14 +226,15 @@ pub(crate) fn write_searched(
     )
 }
 
-/// Writes the line of a structure that was refused.
+/// Writes the line of a structure that was refused, with what its outline comes to.
 pub(crate) fn write_refused(
     out: &mut String,
     source: Source<'_>,
     line: RefusalLine<'_>,
+    note: &OutlineNote,
     colours: Colours,
 ) -> Result<(), AllocError> {
     write_structure(out, source, line.kind)?;
     let begin = colours.begin(Mark::Refusal);
-    writeln!(out, "{begin}refused: {line}{}", colours.end())
+    writeln!(out, "{begin}refused: {line}{note}{}", colours.end())
 }

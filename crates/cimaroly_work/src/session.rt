@@ -11,10 +11,19 @@ use x509_inspect::{Kind, Source, Unread, push_note};
 use x509_report_parts::Colours;
 
 /// What is said of a file that has nothing in it which is read. (Every type is a SEQUENCE.)
-pub const NOTHING: &str = "no PEM, DER or hexadecimal that can be read";
+pub const NOTHING: &str = "no PEM, DER, hexadecimal or base64 that can be read";
 
 /// What is said of a PEM block of no type.
 const UNKNOWN: &str = "unknown label";
+
+/// Why something that is recognised is passed over. (Revocation lists are where public keys are compared.)
+fn reason_of(unread: Unread) -> &'static str {
+    if unread == Unread::RevocationList {
+        "a CRL, which holds no public key"
+    } else {
+        unread.reason()
+    }
+}
 
 /// Where the work stands: what was asked for, what was found, and memory that is used again.
 #[derive(Drop)]
@@ -90,7 +99,12 @@ impl<'w, W: Write> Session<'w, W> {
     ///
     /// # Errors
     /// Output failed, or memory is refused.
-    fn note(&mut self, source: Source<'_>, outcome: Outcome, reason: &str) -> Result<(), Stop> {
+    pub(crate) fn note(
+        &mut self,
+        source: Source<'_>,
+        outcome: Outcome,
+        reason: &str,
+    ) -> Result<(), Stop> {
         match self.settings.format {
             Format::Json => {
                 let line = self.take_line();
@@ -102,7 +116,7 @@ impl<'w, W: Write> Session<'w, W> {
                 write_note(&mut self.text, source, outcome, reason, colours)?;
                 self.put_text()
             }
-            Format::Quiet if self.settings.action != Action::Encode => Ok(()),
+            Format::Quiet if !self.settings.action.writes_bytes() => Ok(()),
             Format::Quiet | Format::Pem | Format::Table(_) => {
                 write!(self.notes, "cimaroly: ")?;
                 write_note(&mut self.notes, source, outcome, reason, Colours::Off)?;
@@ -140,7 +154,7 @@ impl<'w, W: Write> Session<'w, W> {
     pub(crate) fn pass_over(&mut self, source: Source<'_>, label: &[u8]) -> Result<(), Stop> {
         self.tally.pass_over();
         let reason = match Unread::from_label(label) {
-            Some(unread) => unread.reason(),
+            Some(unread) => reason_of(unread),
             None => UNKNOWN,
         };
         self.note(source, Outcome::PassedOver, reason)
@@ -167,7 +181,7 @@ impl<'w, W: Write> Session<'w, W> {
             Some(unread) => {
                 self.tally.pass_over();
                 self.miss();
-                self.note(source, Outcome::PassedOver, unread.reason())
+                self.note(source, Outcome::PassedOver, reason_of(unread))
             }
             None => self.nothing(source, NOTHING),
         }

@@ -1,6 +1,8 @@
 //! What the command line asks for.
 
 use crate::columns::ColumnList;
+use crate::rule_set::RuleSet;
+use cimaroly_outlines::OutlineSettings;
 use x509_inspect::{Kind, Moment, Options};
 use x509_report_parts::Layout;
 
@@ -17,6 +19,17 @@ pub enum Action {
     Tree,
     /// Its public key is compared with those of the others.
     Match,
+    /// It is said which rules it breaks.
+    Lint,
+    /// What its signature covers is written.
+    Signed,
+}
+
+impl Action {
+    /// Whether standard output is for the bytes of one structure alone.
+    pub(crate) fn writes_bytes(self) -> bool {
+        matches!(self, Action::Encode | Action::Signed)
+    }
 }
 
 /// In which form something is printed.
@@ -53,8 +66,12 @@ pub struct Settings {
     pub at: Option<Moment>,
     /// Whether extensions that the encoding keeps as octets are read too, where it is said what a structure comes to.
     pub is_deep: bool,
+    /// What is asked for of outlines.
+    pub outlines: OutlineSettings,
     /// Whether progress is told.
     pub has_progress: bool,
     /// Whether files that hold nothing which is read are refused in folders too.
     pub has_strict_files: bool,
+    /// Which rules are looked at.
+    pub rules: RuleSet,
 }

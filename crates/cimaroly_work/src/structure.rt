@@ -6,22 +6,22 @@ use crate::session::Session;
 use crate::settings::{Action, Format, Settings};
 use crate::status::Status;
 use crate::stop::Stop;
-use anyhow::Error;
-use base64::engine::general_purpose::STANDARD;
+use cimaroly_outlines::OutlineNote;
 use std::alloc::Global;
 use std::io::Write;
-use x509_der::{ReadError, WriteError};
+use x509_der::ReadError;
 use x509_inspect::{
     Determined, Extent, Form, Head, Kind, Moment, Outcomes, RefusalLine, Refused, Row, Searched,
-    Source, Standing, Told, TreeError, Unread, check, dated, determine, encoded, pinned, push_json,
+    Source, Standing, Told, TreeError, Unread, check, dated, determine, pinned, push_json,
     searched, write_row, write_text, write_tree,
 };
+use x509_inspect_outlines::OutlineKind;
 use x509_report_parts::shown::ShownBytes;
 use x509_report_parts::values::Count;
 use x509_report_parts::{Colours, Columns, Mark};
 
 /// What a refusal says of bytes.
-fn line_of(refused: Refused, kind: Kind, bytes: &[u8]) -> RefusalLine<'_> {
+pub(crate) fn line_of(refused: Refused, kind: Kind, bytes: &[u8]) -> RefusalLine<'_> {
     RefusalLine {
         refused,
         kind,
@@ -31,7 +31,7 @@ fn line_of(refused: Refused, kind: Kind, bytes: &[u8]) -> RefusalLine<'_> {
 
 /// How a time that was asked for stands to that for which a structure is valid; `Valid` where none was, or where the
 /// structure doesn't say.
-fn standing_of(at: Option<Moment>, validity: Option<(Moment, Moment)>) -> Standing {
+pub(crate) fn standing_of(at: Option<Moment>, validity: Option<(Moment, Moment)>) -> Standing {
     match (at, validity) {
         (Some(at), Some((first, last))) => Standing::of(at, first, last),
         _ => Standing::Valid,
@@ -49,6 +49,9 @@ impl<W: Write> Session<'_, W> {
         }
         match self.kind_of(label) {
             Some(kind) => self.structure(source, kind, bytes),
+            None if self.reads_list(Unread::from_label(label)) => {
+                self.outline(source, OutlineKind::RevocationList, bytes)
+            }
             None => self.pass_over(source, label),
         }
     }
@@ -69,8 +72,11 @@ impl<W: Write> Session<'_, W> {
         }
         match determine(self.alloc, bytes) {
             Determined::One(kind) => self.structure(source, kind, bytes),
+            _ if self.reads_list(Unread::from_bytes(bytes)) => {
+                self.outline(source, OutlineKind::RevocationList, bytes)
+            }
             _ if Unread::from_bytes(bytes).is_some() => self.unread(source, bytes),
-            Determined::None(kind, _) => self.structure(source, kind, bytes),
+            Determined::None(kind, _) => self.structure(source, self.told_kind(kind, bytes), bytes),
             Determined::Several(kinds) => self.ask(source, kinds),
         }
     }
@@ -93,8 +99,13 @@ impl<W: Write> Session<'_, W> {
     /// # Errors
     /// As `block`.
     fn structure(&mut self, source: Source<'_>, kind: Kind, bytes: &[u8]) -> Result<(), Stop> {
+        if let Some(outline) = self.accepted_outline(kind, bytes) {
+            return self.outline(source, outline, bytes);
+        }
         match (self.settings.action, self.settings.format) {
             (Action::Encode, _) => self.encode(source, kind, bytes),
+            (Action::Lint, _) => self.lint(source, kind, bytes),
+            (Action::Signed, _) => self.signed(source, kind, bytes),
             (Action::Show, Format::Json) => {
                 self.json(source, kind, bytes, Extent::Fields(self.settings.options))
             }
@@ -108,7 +119,11 @@ impl<W: Write> Session<'_, W> {
     }
 
     /// Counts a refused, and writes its line.
-    fn refuse_as(&mut self, source: Source<'_>, line: RefusalLine<'_>) -> Result<(), Stop> {
+    pub(crate) fn refuse_as(
+        &mut self,
+        source: Source<'_>,
+        line: RefusalLine<'_>,
+    ) -> Result<(), Stop> {
         if line.refused.error == ReadError::OutOfMemory {
             return Err(Stop::memory());
         }
@@ -116,7 +131,12 @@ impl<W: Write> Session<'_, W> {
         if self.settings.format == Format::Quiet {
             return Ok(());
         }
-        write_refused(&mut self.text, source, line, self.settings.layout.colours)?;
+        let note = self.outline_note(line.kind, line.bytes)?;
+        let colours = self.settings.layout.colours;
+        let written = write_refused(&mut self.text, source, line, &note, colours);
+        drop(note);
+        written?;
+        self.add_outline(line.kind, line.bytes)?;
         self.put_text()
     }
 
@@ -178,7 +198,7 @@ impl<W: Write> Session<'_, W> {
                 }
                 let colours = self.settings.layout.colours;
                 let come = (&searched, standing);
-                write_searched(&mut self.text, source, kind, come, colours)?;
+                write_searched(&mut self.text, source, kind.name(), come, colours)?;
                 self.put_text()
             }
             Err(refused) => self.refuse_as(source, line_of(refused, kind, bytes)),
@@ -186,7 +206,7 @@ impl<W: Write> Session<'_, W> {
     }
 
     /// Counts what was found besides deviations, and answers how the time that was asked for stands to the structure's own.
-    fn tally_searched(&mut self, searched: &Searched<Global>) -> Standing {
+    pub(crate) fn tally_searched(&mut self, searched: &Searched<Global>) -> Standing {
         let standing = standing_of(self.settings.at, searched.validity);
         self.tally.date(standing);
         let faults = &searched.faults;
@@ -264,7 +284,7 @@ impl<W: Write> Session<'_, W> {
     }
 
     /// Writes the object of a structure.
-    fn json(
+    pub(crate) fn json(
         &mut self,
         source: Source<'_>,
         kind: Kind,
@@ -280,6 +300,10 @@ impl<W: Write> Session<'_, W> {
         };
         let (line, outcome) = push_json(self.alloc, line, head)?;
         self.count(outcome)?;
+        let line = match outcome {
+            Ok(_deviations) => line,
+            Err(_refused) => self.with_outline(line, kind, bytes, extent)?,
+        };
         self.put_line(line)
     }
 
@@ -312,7 +336,7 @@ impl<W: Write> Session<'_, W> {
     }
 
     /// Counts what a structure came to.
-    fn count(&mut self, outcome: Result<usize, Refused>) -> Result<(), Stop> {
+    pub(crate) fn count(&mut self, outcome: Result<usize, Refused>) -> Result<(), Stop> {
         match outcome {
             Ok(deviations) => self.tally.add(deviations),
             Err(refused) => {
@@ -326,7 +350,7 @@ impl<W: Write> Session<'_, W> {
     }
 
     /// Writes what stands between two reports, and where the structure comes from, where there are several.
-    fn separate(&mut self, source: Source<'_>) -> Result<(), Stop> {
+    pub(crate) fn separate(&mut self, source: Source<'_>) -> Result<(), Stop> {
         if self.tally.structures() > 0 {
             writeln!(self.text)?;
         } else if !self.is_one_of_many {
@@ -360,54 +384,36 @@ impl<W: Write> Session<'_, W> {
         }
     }
 
-    /// Writes the DER encoding of a structure, or keeps it for the end.
-    fn encode(&mut self, source: Source<'_>, kind: Kind, bytes: &[u8]) -> Result<(), Stop> {
-        if self.encoding.is_some() {
-            return Err(Stop::usage(Error::msg(
-                "more than one structure: write them as PEM, as in cimaroly der --pem FILE",
-            )));
-        }
-        match encoded(self.alloc, kind, bytes) {
-            Ok(Ok(encoding)) => {
-                self.tally.add(usize::from(encoding.as_slice() != bytes));
-                if self.settings.format == Format::Pem {
-                    return self.pem(kind, encoding.as_slice());
-                }
-                self.encoding = Some(encoding);
-                Ok(())
-            }
-            Ok(Err(WriteError::OutOfMemory)) => Err(Stop::memory()),
-            Ok(Err(WriteError::TooLong)) => self.refuse(source, "the DER encoding is too long"),
-            Err(refused) => self.refuse_aside(source, line_of(refused, kind, bytes)),
-        }
+    /// Counts that bytes are refused as a type, and notes why and where for standard error.
+    pub(crate) fn refuse_with(
+        &mut self,
+        source: Source<'_>,
+        refused: Refused,
+        kind: Kind,
+        bytes: &[u8],
+    ) -> Result<(), Stop> {
+        self.refuse_aside(source, line_of(refused, kind, bytes))
     }
 
     /// Counts a refusal, and notes it for standard error, where standard output is for other things.
-    fn refuse_aside(&mut self, source: Source<'_>, line: RefusalLine<'_>) -> Result<(), Stop> {
+    pub(crate) fn refuse_aside(
+        &mut self,
+        source: Source<'_>,
+        line: RefusalLine<'_>,
+    ) -> Result<(), Stop> {
         if line.refused.error == ReadError::OutOfMemory {
             return Err(Stop::memory());
         }
         self.tally.refuse();
         write!(self.notes, "cimaroly: ")?;
-        write_refused(&mut self.notes, source, line, Colours::Off)?;
+        write_refused(
+            &mut self.notes,
+            source,
+            line,
+            &OutlineNote::NONE,
+            Colours::Off,
+        )?;
         Ok(())
-    }
-
-    /// Writes a PEM block (RFC 7468, 2): lines of 64 symbols.
-    fn pem(&mut self, kind: Kind, encoding: &[u8]) -> Result<(), Stop> {
-        let Some(label) = kind.label() else {
-            return Err(Stop::usage(Error::msg(format_args!(
-                "there is no PEM label for {}: leave out --pem",
-                kind.name()
-            ))));
-        };
-        let symbols = STANDARD.encode(self.alloc, encoding)?;
-        writeln!(self.text, "-----BEGIN {label}-----")?;
-        for line in symbols.as_bytes().chunks(64) {
-            writeln!(self.text, "{}", ShownBytes(line))?;
-        }
-        writeln!(self.text, "-----END {label}-----")?;
-        self.put_text()
     }
 
     /// Shows the elements of bytes.

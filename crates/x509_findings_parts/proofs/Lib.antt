@@ -2,3 +2,4 @@
 pub mod NumberFacts
 pub mod OtherViews
 pub mod FirstFeature
+pub mod UsageFacts

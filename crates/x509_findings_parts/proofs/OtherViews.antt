@@ -3,7 +3,8 @@ use Rattle.std.proofs.Common.{◌≡◌, false, refl}
 use Rattle.picky_asn1_x509_parts.specs.Extensions.{viewed}
 use Rattle.picky_asn1_x509_parts.specs.declared.extension_view.ExtensionView.{ExtensionView}
 use Rattle.picky_asn1_x509_parts.specs.declared.extension_view.ExtensionView.TheVariants as view
-use Rattle.x509_findings_parts.specs.Extensions.{allows_signing, has_no_purpose, limits_no_path, makes_authority, names_no_issuer, names_no_subject, names_subject}
+use Rattle.x509_findings_parts.specs.Extensions.{allows_signing, forbids_signing, has_no_purpose, limits_no_path, limits_path, makes_authority, names_authority_key, names_no_issuer, names_no_subject, names_subject, names_subject_key, spells_default}
+use Rattle.x509_findings_parts.specs.Usages.{allows_nothing, ends_unset}
 
 -- what another view lends makes no authority
 pub other-makes_authority : {A : Type 0} (v : ExtensionView A) → ((x : _) → v ≡ view.BasicConstraints x → ⊥) → makes_authority (viewed v) ≡ false
@@ -29,6 +30,18 @@ other-limits_no_path (view.ExtendedKeyUsage x) h = refl
 other-limits_no_path (view.Generic x) h = refl
 other-limits_no_path (view.CrlNumber x) h = refl
 
+-- what another view lends limits the path of no authority
+pub other-limits_path : {A : Type 0} (v : ExtensionView A) → ((x : _) → v ≡ view.BasicConstraints x → ⊥) → limits_path (viewed v) ≡ false
+other-limits_path (view.AuthorityKeyIdentifier x) h = refl
+other-limits_path (view.SubjectKeyIdentifier x) h = refl
+other-limits_path (view.KeyUsage x) h = refl
+other-limits_path (view.SubjectAltName x) h = refl
+other-limits_path (view.IssuerAltName x) h = refl
+other-limits_path (view.BasicConstraints x) h = absurd (h x refl)
+other-limits_path (view.ExtendedKeyUsage x) h = refl
+other-limits_path (view.Generic x) h = refl
+other-limits_path (view.CrlNumber x) h = refl
+
 -- what another view lends allows no signing
 pub other-allows_signing : {A : Type 0} (v : ExtensionView A) → ((x : _) → v ≡ view.KeyUsage x → ⊥) → allows_signing (viewed v) ≡ false
 other-allows_signing (view.AuthorityKeyIdentifier x) h = refl
@@ -40,6 +53,18 @@ other-allows_signing (view.BasicConstraints x) h = refl
 other-allows_signing (view.ExtendedKeyUsage x) h = refl
 other-allows_signing (view.Generic x) h = refl
 other-allows_signing (view.CrlNumber x) h = refl
+
+-- what another view lends forbids no signing
+pub other-forbids_signing : {A : Type 0} (v : ExtensionView A) → ((x : _) → v ≡ view.KeyUsage x → ⊥) → forbids_signing (viewed v) ≡ false
+other-forbids_signing (view.AuthorityKeyIdentifier x) h = refl
+other-forbids_signing (view.SubjectKeyIdentifier x) h = refl
+other-forbids_signing (view.KeyUsage x) h = absurd (h x refl)
+other-forbids_signing (view.SubjectAltName x) h = refl
+other-forbids_signing (view.IssuerAltName x) h = refl
+other-forbids_signing (view.BasicConstraints x) h = refl
+other-forbids_signing (view.ExtendedKeyUsage x) h = refl
+other-forbids_signing (view.Generic x) h = refl
+other-forbids_signing (view.CrlNumber x) h = refl
 
 -- what another view lends names no subject
 pub other-names_subject : {A : Type 0} (v : ExtensionView A) → ((x : _) → v ≡ view.SubjectAltName x → ⊥) → names_subject (viewed v) ≡ false
@@ -88,3 +113,63 @@ other-has_no_purpose (view.BasicConstraints x) h = refl
 other-has_no_purpose (view.ExtendedKeyUsage x) h = absurd (h x refl)
 other-has_no_purpose (view.Generic x) h = refl
 other-has_no_purpose (view.CrlNumber x) h = refl
+
+-- what another view lends says not which key signed
+pub other-names_authority_key : {A : Type 0} (v : ExtensionView A) → ((x : _) → v ≡ view.AuthorityKeyIdentifier x → ⊥) → names_authority_key (viewed v) ≡ false
+other-names_authority_key (view.AuthorityKeyIdentifier x) h = absurd (h x refl)
+other-names_authority_key (view.SubjectKeyIdentifier x) h = refl
+other-names_authority_key (view.KeyUsage x) h = refl
+other-names_authority_key (view.SubjectAltName x) h = refl
+other-names_authority_key (view.IssuerAltName x) h = refl
+other-names_authority_key (view.BasicConstraints x) h = refl
+other-names_authority_key (view.ExtendedKeyUsage x) h = refl
+other-names_authority_key (view.Generic x) h = refl
+other-names_authority_key (view.CrlNumber x) h = refl
+
+-- what another view lends identifies no certified key
+pub other-names_subject_key : {A : Type 0} (v : ExtensionView A) → ((x : _) → v ≡ view.SubjectKeyIdentifier x → ⊥) → names_subject_key (viewed v) ≡ false
+other-names_subject_key (view.AuthorityKeyIdentifier x) h = refl
+other-names_subject_key (view.SubjectKeyIdentifier x) h = absurd (h x refl)
+other-names_subject_key (view.KeyUsage x) h = refl
+other-names_subject_key (view.SubjectAltName x) h = refl
+other-names_subject_key (view.IssuerAltName x) h = refl
+other-names_subject_key (view.BasicConstraints x) h = refl
+other-names_subject_key (view.ExtendedKeyUsage x) h = refl
+other-names_subject_key (view.Generic x) h = refl
+other-names_subject_key (view.CrlNumber x) h = refl
+
+-- what another view lends spells out no default
+pub other-spells_default : {A : Type 0} (v : ExtensionView A) → ((x : _) → v ≡ view.BasicConstraints x → ⊥) → spells_default (viewed v) ≡ false
+other-spells_default (view.AuthorityKeyIdentifier x) h = refl
+other-spells_default (view.SubjectKeyIdentifier x) h = refl
+other-spells_default (view.KeyUsage x) h = refl
+other-spells_default (view.SubjectAltName x) h = refl
+other-spells_default (view.IssuerAltName x) h = refl
+other-spells_default (view.BasicConstraints x) h = absurd (h x refl)
+other-spells_default (view.ExtendedKeyUsage x) h = refl
+other-spells_default (view.Generic x) h = refl
+other-spells_default (view.CrlNumber x) h = refl
+
+-- what another view lends is no usage with nothing in it
+pub other-allows_nothing : {A : Type 0} (v : ExtensionView A) → ((x : _) → v ≡ view.KeyUsage x → ⊥) → allows_nothing (viewed v) ≡ false
+other-allows_nothing (view.AuthorityKeyIdentifier x) h = refl
+other-allows_nothing (view.SubjectKeyIdentifier x) h = refl
+other-allows_nothing (view.KeyUsage x) h = absurd (h x refl)
+other-allows_nothing (view.SubjectAltName x) h = refl
+other-allows_nothing (view.IssuerAltName x) h = refl
+other-allows_nothing (view.BasicConstraints x) h = refl
+other-allows_nothing (view.ExtendedKeyUsage x) h = refl
+other-allows_nothing (view.Generic x) h = refl
+other-allows_nothing (view.CrlNumber x) h = refl
+
+-- what another view lends is no usage whose last bit is unset
+pub other-ends_unset : {A : Type 0} (v : ExtensionView A) → ((x : _) → v ≡ view.KeyUsage x → ⊥) → ends_unset (viewed v) ≡ false
+other-ends_unset (view.AuthorityKeyIdentifier x) h = refl
+other-ends_unset (view.SubjectKeyIdentifier x) h = refl
+other-ends_unset (view.KeyUsage x) h = absurd (h x refl)
+other-ends_unset (view.SubjectAltName x) h = refl
+other-ends_unset (view.IssuerAltName x) h = refl
+other-ends_unset (view.BasicConstraints x) h = refl
+other-ends_unset (view.ExtendedKeyUsage x) h = refl
+other-ends_unset (view.Generic x) h = refl
+other-ends_unset (view.CrlNumber x) h = refl

@@ -14,15 +14,40 @@ abbrev pub limits_no_path : {A : Type 0} → ExtensionValue A → Bool
 limits_no_path (value.BasicConstraints constraints) = is_some constraints.pathlen && not (unwrap_or constraints.ca false)
 limits_no_path v = false
 
+-- basic constraints with a path length, where the subject is an authority (4.2.1.9)
+abbrev pub limits_path : {A : Type 0} → ExtensionValue A → Bool
+limits_path (value.BasicConstraints constraints) = is_some constraints.pathlen && unwrap_or constraints.ca false
+limits_path v = false
+
 -- a key usage with keyCertSign, the bit 5 (4.2.1.3)
 abbrev pub allows_signing : {A : Type 0} → ExtensionValue A → Bool
 allows_signing (value.KeyUsage bits) = slice_index_or bits 5 false
 allows_signing v = false
 
+-- a key usage without it: the key is for other purposes than signing certificates
+abbrev pub forbids_signing : {A : Type 0} → ExtensionValue A → Bool
+forbids_signing (value.KeyUsage bits) = not (slice_index_or bits 5 false)
+forbids_signing v = false
+
 -- further names of the subject (4.2.1.6)
 abbrev pub names_subject : {A : Type 0} → ExtensionValue A → Bool
 names_subject (value.SubjectAltName names) = true
 names_subject v = false
+
+-- which key signed (4.2.1.1)
+abbrev pub names_authority_key : {A : Type 0} → ExtensionValue A → Bool
+names_authority_key (value.AuthorityKeyIdentifier key) = true
+names_authority_key v = false
+
+-- the identifier of the certified key (4.2.1.2)
+abbrev pub names_subject_key : {A : Type 0} → ExtensionValue A → Bool
+names_subject_key (value.SubjectKeyIdentifier key) = true
+names_subject_key v = false
+
+-- basic constraints with a cA that is FALSE, the default, which DER leaves out (X.690, 11.5)
+abbrev pub spells_default : {A : Type 0} → ExtensionValue A → Bool
+spells_default (value.BasicConstraints constraints) = not (unwrap_or constraints.ca true)
+spells_default v = false
 
 -- lists that have one item at least: GeneralNames (4.2.1.6, 4.2.1.7) and ExtKeyUsageSyntax (4.2.1.12), SEQUENCE SIZE (1..MAX)
 abbrev pub names_no_subject : {A : Type 0} → ExtensionValue A → Bool

@@ -4,18 +4,27 @@ use Rattle.std.specs.List.{list_any}
 use Rattle.picky_asn1_x509_parts.specs.Extensions.{ExtensionFields}
 use Rattle.x509_findings_parts.specs.declared.extension.Feature.{Feature}
 use Rattle.x509_findings_parts.specs.declared.extension.Feature.TheVariants as features
-use Rattle.x509_findings_parts.specs.Extensions.{allows_signing, has_no_purpose, limits_no_path, makes_authority, names_no_issuer, names_no_subject, names_subject}
+use Rattle.x509_findings_parts.specs.Extensions.{allows_signing, forbids_signing, has_no_purpose, limits_no_path, limits_path, makes_authority, names_authority_key, names_no_issuer, names_no_subject, names_subject, names_subject_key, spells_default}
+use Rattle.x509_findings_parts.specs.Usages.{allows_nothing, ends_unset}
 
 -- the extension has the feature
 abbrev pub has_feature : {A : Type 0} → Feature → ExtensionFields A → Bool
 has_feature features.Authority e = makes_authority e.extn_value
 has_feature features.UncriticalAuthority e = makes_authority e.extn_value && not e.critical
 has_feature features.IdlePathLength e = limits_no_path e.extn_value
+has_feature features.PathLength e = limits_path e.extn_value
 has_feature features.Signing e = allows_signing e.extn_value
+has_feature features.OtherUsage e = forbids_signing e.extn_value
 has_feature features.CriticalNames e = names_subject e.extn_value && e.critical
 has_feature features.NoSubjectNames e = names_no_subject e.extn_value
 has_feature features.NoIssuerNames e = names_no_issuer e.extn_value
 has_feature features.NoPurposes e = has_no_purpose e.extn_value
+has_feature features.CriticalAuthorityKey e = names_authority_key e.extn_value && e.critical
+has_feature features.SubjectKey e = names_subject_key e.extn_value
+has_feature features.CriticalSubjectKey e = names_subject_key e.extn_value && e.critical
+has_feature features.NoUsages e = allows_nothing e.extn_value
+has_feature features.UnsetUsage e = ends_unset e.extn_value
+has_feature features.SpelledDefault e = spells_default e.extn_value
 
 -- one of the extensions has it
 abbrev pub some_have : {A : Type 0} → Feature → List (ExtensionFields A) → Bool

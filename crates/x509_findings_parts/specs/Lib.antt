@@ -1,6 +1,7 @@
 -- What the rules ask, each from its clause.
 pub mod Numbers
 pub mod Times
+pub mod Usages
 pub mod Keys
 pub mod Extensions
 pub mod Features

@@ -1,9 +1,10 @@
 //! Extensions. Each rule looks at all extensions of a list, also at several with one identifier.
 
-ghost use Rattle.std.specs.Prelude.{◌≡◌};
-ghost use Rattle.x509_findings_parts.specs.Extensions.{allows_signing, has_no_purpose, limits_no_path, makes_authority, names_no_issuer, names_no_subject, names_subject};
+ghost use Rattle.std.specs.Prelude.{◌≡◌, ◌&&◌, not};
+ghost use Rattle.x509_findings_parts.specs.Extensions.{allows_signing, forbids_signing, has_no_purpose, limits_no_path, limits_path, makes_authority, names_authority_key, names_no_issuer, names_no_subject, names_subject, names_subject_key, spells_default};
 ghost use Rattle.x509_findings_parts.specs.Features.{has_feature, some_have};
 
+use crate::usage::{allows_nothing, ends_unset};
 use picky_asn1_x509_parts::{Extension, ExtensionView};
 use std::alloc::Allocator;
 
@@ -16,8 +17,12 @@ pub enum Feature {
     UncriticalAuthority,
     /// It limits the length of paths, though the subject is no authority.
     IdlePathLength,
+    /// It limits the length of paths, and makes the subject an authority.
+    PathLength,
     /// It allows the key to sign certificates.
     Signing,
+    /// It says what the key may be used for, and doesn't allow it to sign certificates.
+    OtherUsage,
     /// It is critical, and has further names of the subject.
     CriticalNames,
     /// It is for further names of the subject, and has none.
@@ -26,6 +31,18 @@ pub enum Feature {
     NoIssuerNames,
     /// It is for purposes of the key, and has none.
     NoPurposes,
+    /// It says which key signed, and is critical.
+    CriticalAuthorityKey,
+    /// It identifies the certified key.
+    SubjectKey,
+    /// It identifies the certified key, and is critical.
+    CriticalSubjectKey,
+    /// It says what the key may be used for, which is nothing.
+    NoUsages,
+    /// It says what the key may be used for, and its last bit isn't set.
+    UnsetUsage,
+    /// It spells out that the subject is no authority, which is so by default.
+    SpelledDefault,
 }
 
 /// Whether an extension makes the subject an authority.
@@ -50,12 +67,34 @@ fn limits_no_path<A: Allocator>(extension: &Extension<A>) -> bool
     }
 }
 
+/// Whether an extension limits the length of paths, and makes the subject an authority.
+fn limits_path<A: Allocator>(extension: &Extension<A>) -> bool
+    ensures { result ≡ limits_path extension.now.extn_value }
+{
+    match extension.extn_value() {
+        ExtensionView::BasicConstraints(constraints) => {
+            constraints.pathlen().is_some() && constraints.ca().unwrap_or(false)
+        }
+        _ => false,
+    }
+}
+
 /// Whether an extension allows the key to sign certificates.
 fn allows_signing<A: Allocator>(extension: &Extension<A>) -> bool
     ensures { result ≡ allows_signing extension.now.extn_value }
 {
     match extension.extn_value() {
         ExtensionView::KeyUsage(usage) => usage.key_cert_sign(),
+        _ => false,
+    }
+}
+
+/// Whether an extension says what the key may be used for, and doesn't allow it to sign certificates.
+fn forbids_signing<A: Allocator>(extension: &Extension<A>) -> bool
+    ensures { result ≡ forbids_signing extension.now.extn_value }
+{
+    match extension.extn_value() {
+        ExtensionView::KeyUsage(usage) => !usage.key_cert_sign(),
         _ => false,
     }
 }
@@ -100,6 +139,36 @@ fn has_no_purpose<A: Allocator>(extension: &Extension<A>) -> bool
     }
 }
 
+/// Whether an extension says which key signed.
+fn names_authority_key<A: Allocator>(extension: &Extension<A>) -> bool
+    ensures { result ≡ names_authority_key extension.now.extn_value }
+{
+    match extension.extn_value() {
+        ExtensionView::AuthorityKeyIdentifier(_) => true,
+        _ => false,
+    }
+}
+
+/// Whether an extension identifies the certified key.
+fn names_subject_key<A: Allocator>(extension: &Extension<A>) -> bool
+    ensures { result ≡ names_subject_key extension.now.extn_value }
+{
+    match extension.extn_value() {
+        ExtensionView::SubjectKeyIdentifier(_) => true,
+        _ => false,
+    }
+}
+
+/// Whether an extension spells out that the subject is no authority.
+fn spells_default<A: Allocator>(extension: &Extension<A>) -> bool
+    ensures { result ≡ spells_default extension.now.extn_value }
+{
+    match extension.extn_value() {
+        ExtensionView::BasicConstraints(constraints) => !constraints.ca().unwrap_or(true),
+        _ => false,
+    }
+}
+
 /// Whether an extension has a feature.
 fn has_feature<A: Allocator>(extension: &Extension<A>, feature: Feature) -> bool
     ensures { result ≡ has_feature feature extension.now }
@@ -108,11 +177,19 @@ fn has_feature<A: Allocator>(extension: &Extension<A>, feature: Feature) -> bool
         Feature::Authority => makes_authority(extension),
         Feature::UncriticalAuthority => makes_authority(extension) && !extension.critical(),
         Feature::IdlePathLength => limits_no_path(extension),
+        Feature::PathLength => limits_path(extension),
         Feature::Signing => allows_signing(extension),
+        Feature::OtherUsage => forbids_signing(extension),
         Feature::CriticalNames => names_subject(extension) && extension.critical(),
         Feature::NoSubjectNames => names_no_subject(extension),
         Feature::NoIssuerNames => names_no_issuer(extension),
         Feature::NoPurposes => has_no_purpose(extension),
+        Feature::CriticalAuthorityKey => names_authority_key(extension) && extension.critical(),
+        Feature::SubjectKey => names_subject_key(extension),
+        Feature::CriticalSubjectKey => names_subject_key(extension) && extension.critical(),
+        Feature::NoUsages => allows_nothing(extension),
+        Feature::UnsetUsage => ends_unset(extension),
+        Feature::SpelledDefault => spells_default(extension),
     }
 }
 
@@ -126,4 +203,15 @@ pub fn some_have<A: Allocator>(extensions: &[Extension<A>], feature: Feature) ->
         }
     }
     false
+}
+
+/// Whether one of some extensions has a feature, and none has another. Takes no memory.
+pub fn have_without<A: Allocator>(
+    extensions: &[Extension<A>],
+    feature: Feature,
+    other: Feature,
+) -> bool
+    ensures { result ≡ (some_have feature extensions.now && not (some_have other extensions.now)) }
+{
+    some_have(extensions, feature) && !some_have(extensions, other)
 }

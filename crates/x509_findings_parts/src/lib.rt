@@ -4,12 +4,15 @@
 
 pub mod extension;
 pub mod key;
+pub mod name;
 pub mod number;
 pub mod time;
+mod usage;
 
-pub use crate::extension::{Feature, some_have};
+pub use crate::extension::{Feature, have_without, some_have};
 pub use crate::key::{
     has_even_exponent, has_even_modulus, has_low_exponent, has_low_modulus, has_short_modulus,
 };
+pub use crate::name::{differ, is_unnamed};
 pub use crate::number::{is_below, is_even, is_longer};
 pub use crate::time::{is_before, is_early};

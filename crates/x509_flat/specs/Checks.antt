@@ -13,7 +13,8 @@ use Rattle.x509_keys.specs.SubjectPublicKeyInfos.{subject_public_key_info}
 use Rattle.x509_names.specs.Names.{name}
 use Rattle.picky_asn1_x509.specs.Certificates.{certificate}
 use Rattle.picky_asn1_x509.specs.ExtensionLists.{extensions}
-use Rattle.picky_asn1_x509.specs.Requests.{request}
+use Rattle.picky_asn1_x509.specs.Requests.{request, request_info}
+use Rattle.picky_asn1_x509.specs.TbsCertificates.{tbs_certificate}
 use Rattle.picky_asn1_x509.specs.Types.{Refused}
 use Rattle.x509_flat.specs.declared.check.Verdict.{Verdict}
 use Rattle.x509_flat.specs.declared.kind.Kind.{Kind}
@@ -55,3 +56,5 @@ TellsOf A kind.Name bytes status verdict = Tells (name {A = A}) bytes status ver
 TellsOf A kind.Extensions bytes status verdict = Tells (extensions {A = A}) bytes status verdict
 TellsOf A kind.Algorithm bytes status verdict = Tells (algorithm_identifier {A = A}) bytes status verdict
 TellsOf A kind.RawAlgorithm bytes status verdict = Tells raw_algorithm bytes status verdict
+TellsOf A kind.RequestInfo bytes status verdict = Tells (request_info {A = A}) bytes status verdict
+TellsOf A kind.TbsCertificate bytes status verdict = Tells (tbs_certificate {A = A}) bytes status verdict

@@ -13,7 +13,8 @@ use Rattle.x509_keys.specs.SubjectPublicKeyInfos.{subject_public_key_info}
 use Rattle.x509_names.specs.Names.{name}
 use Rattle.picky_asn1_x509.specs.Certificates.{certificate}
 use Rattle.picky_asn1_x509.specs.ExtensionLists.{extensions}
-use Rattle.picky_asn1_x509.specs.Requests.{request}
+use Rattle.picky_asn1_x509.specs.Requests.{request, request_info}
+use Rattle.picky_asn1_x509.specs.TbsCertificates.{tbs_certificate}
 use Rattle.x509_flat.specs.declared.kind.Kind.{Kind}
 use Rattle.x509_flat.specs.declared.status.Status.{Status}
 use Rattle.x509_flat.specs.declared.kind.Kind.TheVariants as kind
@@ -73,3 +74,5 @@ EncodesOf A kind.Name bytes old new status size = Encodes (name {A = A}) bytes o
 EncodesOf A kind.Extensions bytes old new status size = Encodes (extensions {A = A}) bytes old new status size
 EncodesOf A kind.Algorithm bytes old new status size = Encodes (algorithm_identifier {A = A}) bytes old new status size
 EncodesOf A kind.RawAlgorithm bytes old new status size = Encodes raw_algorithm bytes old new status size
+EncodesOf A kind.RequestInfo bytes old new status size = Encodes (request_info {A = A}) bytes old new status size
+EncodesOf A kind.TbsCertificate bytes old new status size = Encodes (tbs_certificate {A = A}) bytes old new status size

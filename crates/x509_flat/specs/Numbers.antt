@@ -17,6 +17,8 @@ kind_number kind.Name = 8
 kind_number kind.Extensions = 9
 kind_number kind.Algorithm = 10
 kind_number kind.RawAlgorithm = 11
+kind_number kind.RequestInfo = 12
+kind_number kind.TbsCertificate = 13
 
 abbrev pub status_number : Status → ℕ
 status_number answer.Done = 0

@@ -14,7 +14,8 @@ use Rattle.x509_keys.specs.SubjectPublicKeyInfos.{subject_public_key_info}
 use Rattle.x509_names.specs.Names.{name}
 use Rattle.picky_asn1_x509.specs.Certificates.{certificate}
 use Rattle.picky_asn1_x509.specs.ExtensionLists.{extensions}
-use Rattle.picky_asn1_x509.specs.Requests.{request}
+use Rattle.picky_asn1_x509.specs.Requests.{request, request_info}
+use Rattle.picky_asn1_x509.specs.TbsCertificates.{tbs_certificate}
 use Rattle.x509_flat.specs.Encodings.{Filled, Short, Untouched}
 use Rattle.x509_flat.specs.declared.kind.Kind.{Kind}
 use Rattle.x509_flat.specs.declared.places.FlatPlace.{FlatPlace}
@@ -64,3 +65,5 @@ PlacesOf A kind.Name bytes old new status size = Places (name {A = A}) bytes old
 PlacesOf A kind.Extensions bytes old new status size = Places (extensions {A = A}) bytes old new status size
 PlacesOf A kind.Algorithm bytes old new status size = Places (algorithm_identifier {A = A}) bytes old new status size
 PlacesOf A kind.RawAlgorithm bytes old new status size = Places raw_algorithm bytes old new status size
+PlacesOf A kind.RequestInfo bytes old new status size = Places (request_info {A = A}) bytes old new status size
+PlacesOf A kind.TbsCertificate bytes old new status size = Places (tbs_certificate {A = A}) bytes old new status size

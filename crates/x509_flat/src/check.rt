@@ -7,9 +7,9 @@ ghost use Rattle.x509_flat.specs.Checks.{Tells, TellsOf, no_verdict, verdict_of}
 use crate::kind::Kind;
 use crate::status::{Status, status_of};
 use picky_asn1_x509::{
-    AlgorithmIdentifier, Certificate, CertificationRequest, ECPrivateKey, Extensions, FromDer,
-    Name, PrivateKeyInfo, RawAlgorithmIdentifier, Refused, RsaPrivateKey, RsaPublicKey,
-    SubjectPublicKeyInfo, check_metered,
+    AlgorithmIdentifier, Certificate, CertificationRequest, CertificationRequestInfo, ECPrivateKey,
+    Extensions, FromDer, Name, PrivateKeyInfo, RawAlgorithmIdentifier, Refused, RsaPrivateKey,
+    RsaPublicKey, SubjectPublicKeyInfo, TbsCertificate, check_metered,
 };
 use std::alloc::Allocator;
 
@@ -104,5 +104,7 @@ pub fn check<A: Allocator + Copy>(alloc: A, kind: Kind, bytes: &[u8]) -> Checked
         Kind::Extensions => check_as::<Extensions<A>, A>(alloc, bytes),
         Kind::Algorithm => check_as::<AlgorithmIdentifier<A>, A>(alloc, bytes),
         Kind::RawAlgorithm => check_as::<RawAlgorithmIdentifier<A>, A>(alloc, bytes),
+        Kind::RequestInfo => check_as::<CertificationRequestInfo<A>, A>(alloc, bytes),
+        Kind::TbsCertificate => check_as::<TbsCertificate<A>, A>(alloc, bytes),
     }
 }

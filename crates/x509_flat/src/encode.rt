@@ -6,9 +6,9 @@ ghost use Rattle.x509_flat.specs.Encodings.{Writes, Encodes, EncodesOf};
 use crate::kind::Kind;
 use crate::status::{Sized, Status, unsized_of};
 use picky_asn1_x509::{
-    AlgorithmIdentifier, Certificate, CertificationRequest, ECPrivateKey, Extensions, FromDer,
-    Name, PrivateKeyInfo, RawAlgorithmIdentifier, RsaPrivateKey, RsaPublicKey,
-    SubjectPublicKeyInfo, ToDer, encoded_len, from_bytes, write_to_slice,
+    AlgorithmIdentifier, Certificate, CertificationRequest, CertificationRequestInfo, ECPrivateKey,
+    Extensions, FromDer, Name, PrivateKeyInfo, RawAlgorithmIdentifier, RsaPrivateKey, RsaPublicKey,
+    SubjectPublicKeyInfo, TbsCertificate, ToDer, encoded_len, from_bytes, write_to_slice,
 };
 use std::alloc::Allocator;
 
@@ -64,5 +64,7 @@ pub fn encode<A: Allocator + Copy>(alloc: A, kind: Kind, bytes: &[u8], out: &mut
         Kind::Extensions => encode_as::<Extensions<A>, A>(alloc, bytes, out),
         Kind::Algorithm => encode_as::<AlgorithmIdentifier<A>, A>(alloc, bytes, out),
         Kind::RawAlgorithm => encode_as::<RawAlgorithmIdentifier<A>, A>(alloc, bytes, out),
+        Kind::RequestInfo => encode_as::<CertificationRequestInfo<A>, A>(alloc, bytes, out),
+        Kind::TbsCertificate => encode_as::<TbsCertificate<A>, A>(alloc, bytes, out),
     }
 }

@@ -28,6 +28,10 @@ pub enum Kind {
     Algorithm,
     /// `AlgorithmIdentifier` with any parameters.
     RawAlgorithm,
+    /// `CertificationRequestInfo` (RFC 2986, 4.1).
+    RequestInfo,
+    /// `TBSCertificate` (RFC 5280, 4.1.2).
+    TbsCertificate,
 }
 
 impl Kind {
@@ -48,6 +52,8 @@ impl Kind {
             9 => Some(Kind::Extensions),
             10 => Some(Kind::Algorithm),
             11 => Some(Kind::RawAlgorithm),
+            12 => Some(Kind::RequestInfo),
+            13 => Some(Kind::TbsCertificate),
             _ => None,
         }
     }

@@ -6,9 +6,9 @@ ghost use Rattle.x509_flat.specs.Places.{flat_place, PutsPlaces, Places, PlacesO
 use crate::kind::Kind;
 use crate::status::{Sized, Status, unsized_of};
 use picky_asn1_x509::{
-    AlgorithmIdentifier, Certificate, CertificationRequest, ECPrivateKey, Extensions, FromDer,
-    Name, Place, PrivateKeyInfo, RawAlgorithmIdentifier, RsaPrivateKey, RsaPublicKey,
-    SubjectPublicKeyInfo, check_located,
+    AlgorithmIdentifier, Certificate, CertificationRequest, CertificationRequestInfo, ECPrivateKey,
+    Extensions, FromDer, Name, Place, PrivateKeyInfo, RawAlgorithmIdentifier, RsaPrivateKey,
+    RsaPublicKey, SubjectPublicKeyInfo, TbsCertificate, check_located,
 };
 use std::alloc::Allocator;
 
@@ -98,5 +98,7 @@ pub fn places<A: Allocator + Copy>(
         Kind::Extensions => places_as::<Extensions<A>, A>(alloc, bytes, out),
         Kind::Algorithm => places_as::<AlgorithmIdentifier<A>, A>(alloc, bytes, out),
         Kind::RawAlgorithm => places_as::<RawAlgorithmIdentifier<A>, A>(alloc, bytes, out),
+        Kind::RequestInfo => places_as::<CertificationRequestInfo<A>, A>(alloc, bytes, out),
+        Kind::TbsCertificate => places_as::<TbsCertificate<A>, A>(alloc, bytes, out),
     }
 }

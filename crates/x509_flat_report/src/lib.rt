@@ -69,6 +69,8 @@ fn inspected(kind: Kind) -> Inspected
     ensures extensions { kind ≡ Kind.Extensions → result ≡ Inspected.Extensions }
     ensures algorithm { kind ≡ Kind.Algorithm → result ≡ Inspected.Algorithm }
     ensures raw_algorithm { kind ≡ Kind.RawAlgorithm → result ≡ Inspected.RawAlgorithm }
+    ensures request_info { kind ≡ Kind.RequestInfo → result ≡ Inspected.RequestInfo }
+    ensures tbs_certificate { kind ≡ Kind.TbsCertificate → result ≡ Inspected.TbsCertificate }
 {
     match kind {
         Kind::Certificate => Inspected::Certificate,
@@ -82,6 +84,8 @@ fn inspected(kind: Kind) -> Inspected
         Kind::Extensions => Inspected::Extensions,
         Kind::Algorithm => Inspected::Algorithm,
         Kind::RawAlgorithm => Inspected::RawAlgorithm,
+        Kind::RequestInfo => Inspected::RequestInfo,
+        Kind::TbsCertificate => Inspected::TbsCertificate,
     }
 }
 

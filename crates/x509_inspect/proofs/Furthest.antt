@@ -69,19 +69,23 @@ everywhere P all kind.Name = all 7 kind.Name (omega arith)
 everywhere P all kind.Extensions = all 8 kind.Extensions (omega arith)
 everywhere P all kind.Algorithm = all 9 kind.Algorithm (omega arith)
 everywhere P all kind.RawAlgorithm = all 10 kind.RawAlgorithm (omega arith)
+everywhere P all kind.RequestInfo = all 11 kind.RequestInfo (omega arith)
+everywhere P all kind.TbsCertificate = all 12 kind.TbsCertificate (omega arith)
 
-pub each : (P : Kind → Type 0) → P kind.Certificate → P kind.Request → P kind.PrivateKey → P kind.PublicKey → P kind.RsaPrivateKey → P kind.RsaPublicKey → P kind.EcPrivateKey → P kind.Name → P kind.Extensions → P kind.Algorithm → P kind.RawAlgorithm → (k : Kind) → P k
-each P a b c d e f g h i j k kind.Certificate = a
-each P a b c d e f g h i j k kind.Request = b
-each P a b c d e f g h i j k kind.PrivateKey = c
-each P a b c d e f g h i j k kind.PublicKey = d
-each P a b c d e f g h i j k kind.RsaPrivateKey = e
-each P a b c d e f g h i j k kind.RsaPublicKey = f
-each P a b c d e f g h i j k kind.EcPrivateKey = g
-each P a b c d e f g h i j k kind.Name = h
-each P a b c d e f g h i j k kind.Extensions = i
-each P a b c d e f g h i j k kind.Algorithm = j
-each P a b c d e f g h i j k kind.RawAlgorithm = k
+pub each : (P : Kind → Type 0) → P kind.Certificate → P kind.Request → P kind.PrivateKey → P kind.PublicKey → P kind.RsaPrivateKey → P kind.RsaPublicKey → P kind.EcPrivateKey → P kind.Name → P kind.Extensions → P kind.Algorithm → P kind.RawAlgorithm → P kind.RequestInfo → P kind.TbsCertificate → (k : Kind) → P k
+each P a b c d e f g h i j k l m kind.Certificate = a
+each P a b c d e f g h i j k l m kind.Request = b
+each P a b c d e f g h i j k l m kind.PrivateKey = c
+each P a b c d e f g h i j k l m kind.PublicKey = d
+each P a b c d e f g h i j k l m kind.RsaPrivateKey = e
+each P a b c d e f g h i j k l m kind.RsaPublicKey = f
+each P a b c d e f g h i j k l m kind.EcPrivateKey = g
+each P a b c d e f g h i j k l m kind.Name = h
+each P a b c d e f g h i j k l m kind.Extensions = i
+each P a b c d e f g h i j k l m kind.Algorithm = j
+each P a b c d e f g h i j k l m kind.RawAlgorithm = k
+each P a b c d e f g h i j k l m kind.RequestInfo = l
+each P a b c d e f g h i j k l m kind.TbsCertificate = m
 
 pub all_taken : (P : Kind → Type 0) (xs : List Kind) (i : ℕ) → length xs ≤ i → All P (take i xs) → All P xs
 all_taken P xs i ends all = subst (λ ys. All P ys) (take_all i xs ends) all

@@ -19,7 +19,8 @@ IsTelling _ = Unit {0}
 abbrev pub all_kinds : List Kind
 all_kinds =
     kind.Certificate ∷ kind.Request ∷ kind.PrivateKey ∷ kind.PublicKey ∷ kind.RsaPrivateKey ∷ kind.RsaPublicKey
-    ∷ kind.EcPrivateKey ∷ kind.Name ∷ kind.Extensions ∷ kind.Algorithm ∷ kind.RawAlgorithm ∷ []
+    ∷ kind.EcPrivateKey ∷ kind.Name ∷ kind.Extensions ∷ kind.Algorithm ∷ kind.RawAlgorithm ∷ kind.RequestInfo
+    ∷ kind.TbsCertificate ∷ []
 
 -- why bytes are refused as a type, or none where they are accepted
 abbrev pub outcome_of : Outcomes → Kind → Option Refused
@@ -34,6 +35,8 @@ outcome_of o kind.Name = o.name
 outcome_of o kind.Extensions = o.extensions
 outcome_of o kind.Algorithm = o.algorithm
 outcome_of o kind.RawAlgorithm = o.raw_algorithm
+outcome_of o kind.RequestInfo = o.request_info
+outcome_of o kind.TbsCertificate = o.tbs_certificate
 
 -- the bytes encode a value of each type that accepts them, and none of any other
 abbrev pub Tried : Type 0 → List ℕ → Outcomes → Type 0

@@ -17,9 +17,12 @@ use Rattle.x509_names.specs.Names.{Sets, name}
 use Rattle.picky_asn1_x509.specs.Certificates.{certificate}
 use Rattle.picky_asn1_x509.specs.ExtensionLists.{extensions}
 use Rattle.picky_asn1_x509.specs.Extensions.{ExtensionFields}
-use Rattle.picky_asn1_x509.specs.Requests.{request}
+use Rattle.picky_asn1_x509.specs.Requests.{request, request_info}
+use Rattle.picky_asn1_x509.specs.TbsCertificates.{tbs_certificate}
 use Rattle.picky_asn1_x509.specs.declared.certificate.Certificate.{Certificate}
 use Rattle.picky_asn1_x509.specs.declared.certification_request.CertificationRequest.{CertificationRequest}
+use Rattle.picky_asn1_x509.specs.declared.certification_request.CertificationRequestInfo.{CertificationRequestInfo}
+use Rattle.picky_asn1_x509.specs.declared.tbs_certificate.TbsCertificate.{TbsCertificate}
 use Rattle.x509_inspect_parts.specs.declared.kind.Kind.{Kind}
 use Rattle.x509_inspect_parts.specs.declared.kind.Kind.TheVariants as kind
 
@@ -35,6 +38,8 @@ Value A kind.Name = Sets A
 Value A kind.Extensions = List (ExtensionFields A)
 Value A kind.Algorithm = Algorithm A
 Value A kind.RawAlgorithm = RawAlgorithm
+Value A kind.RequestInfo = CertificationRequestInfo A
+Value A kind.TbsCertificate = TbsCertificate A
 
 abbrev pub shape_of : (A : Type 0) (k : Kind) → Shape (Value A k)
 shape_of A kind.Certificate = certificate
@@ -48,3 +53,5 @@ shape_of A kind.Name = name
 shape_of A kind.Extensions = extensions
 shape_of A kind.Algorithm = algorithm_identifier
 shape_of A kind.RawAlgorithm = raw_algorithm
+shape_of A kind.RequestInfo = request_info
+shape_of A kind.TbsCertificate = tbs_certificate

@@ -52,6 +52,10 @@ pub struct Outcomes {
     pub algorithm: Option<Refused>,
     /// As `AlgorithmIdentifier` with any parameters.
     pub raw_algorithm: Option<Refused>,
+    /// As `CertificationRequestInfo` (RFC 2986, 4.1).
+    pub request_info: Option<Refused>,
+    /// As `TBSCertificate` (RFC 5280, 4.1.2).
+    pub tbs_certificate: Option<Refused>,
 }
 
 impl Outcomes {
@@ -71,6 +75,8 @@ impl Outcomes {
             Kind::Extensions => self.extensions,
             Kind::Algorithm => self.algorithm,
             Kind::RawAlgorithm => self.raw_algorithm,
+            Kind::RequestInfo => self.request_info,
+            Kind::TbsCertificate => self.tbs_certificate,
         }
     }
 
@@ -256,6 +262,8 @@ fn tried<A: Allocator + Copy>(alloc: A, bytes: &[u8]) -> Outcomes
         extensions: accepts(alloc, Kind::Extensions, bytes),
         algorithm: accepts(alloc, Kind::Algorithm, bytes),
         raw_algorithm: accepts(alloc, Kind::RawAlgorithm, bytes),
+        request_info: accepts(alloc, Kind::RequestInfo, bytes),
+        tbs_certificate: accepts(alloc, Kind::TbsCertificate, bytes),
     }
 }
 

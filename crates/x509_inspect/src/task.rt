@@ -11,9 +11,9 @@ use crate::told::{
     Accepting, Checking, Dated, Dating, Encoding, Pinned, Pinning, Searched, Searching, Task,
 };
 use picky_asn1_x509::{
-    AlgorithmIdentifier, Certificate, CertificationRequest, ECPrivateKey, Extensions, Name, Place,
-    PrivateKeyInfo, RawAlgorithmIdentifier, RsaPrivateKey, RsaPublicKey, SubjectPublicKeyInfo,
-    WriteError,
+    AlgorithmIdentifier, Certificate, CertificationRequest, CertificationRequestInfo, ECPrivateKey,
+    Extensions, Name, Place, PrivateKeyInfo, RawAlgorithmIdentifier, RsaPrivateKey, RsaPublicKey,
+    SubjectPublicKeyInfo, TbsCertificate, WriteError,
 };
 use std::alloc::{AllocError, Allocator};
 use std::fmt::{self, Write};
@@ -37,6 +37,8 @@ fn run_as<A: Allocator + Copy, K: Task<A>>(kind: Kind, task: K) -> K::Answer
         Kind::Extensions => task.run::<Extensions<A>>(),
         Kind::Algorithm => task.run::<AlgorithmIdentifier<A>>(),
         Kind::RawAlgorithm => task.run::<RawAlgorithmIdentifier<A>>(),
+        Kind::RequestInfo => task.run::<CertificationRequestInfo<A>>(),
+        Kind::TbsCertificate => task.run::<TbsCertificate<A>>(),
     }
 }
 

@@ -1,7 +1,7 @@
 -- The names of the types, and the labels of their PEM blocks.
 use Rattle.std.specs.Prelude.{◌≡◌, ◌⊎◌, ℕ, List, Option, Some, None, codes}
 use Rattle.x509_inspect_parts.specs.declared.kind.Kind.{Kind}
-use Rattle.x509_inspect_parts.specs.declared.kind.Kind.TheVariants.{Certificate, Request, PrivateKey, PublicKey, RsaPrivateKey, RsaPublicKey, EcPrivateKey, Name, Extensions, Algorithm, RawAlgorithm}
+use Rattle.x509_inspect_parts.specs.declared.kind.Kind.TheVariants.{Certificate, Request, PrivateKey, PublicKey, RsaPrivateKey, RsaPublicKey, EcPrivateKey, Name, Extensions, Algorithm, RawAlgorithm, RequestInfo, TbsCertificate}
 
 -- as the option --type takes them
 abbrev pub kind_name : Kind → List ℕ
@@ -16,6 +16,8 @@ kind_name Name = codes "name"
 kind_name Extensions = codes "extensions"
 kind_name Algorithm = codes "algorithm"
 kind_name RawAlgorithm = codes "raw-algorithm"
+kind_name RequestInfo = codes "request-info"
+kind_name TbsCertificate = codes "tbs-certificate"
 
 -- the label of a block that is written (RFC 7468, 5, 7, 10 and 13; the labels of RSA and EC keys are OpenSSL's)
 abbrev pub label_of : Kind → Option (List ℕ)
@@ -30,6 +32,8 @@ label_of Name = None
 label_of Extensions = None
 label_of Algorithm = None
 label_of RawAlgorithm = None
+label_of RequestInfo = None
+label_of TbsCertificate = None
 
 -- a label that is met too (RFC 7468, 5.1 and 7)
 abbrev pub other_label_of : Kind → Option (List ℕ)

@@ -8,8 +8,6 @@ use x509_report_parts::{Cursor, Element};
 #[derive(Clone, Copy, Debug, PartialEq, Eq)]
 enum Node {
     Type(Kind),
-    TbsCertificate,
-    RequestInfo,
     Validity,
     NameSet,
     NameAttribute,
@@ -138,20 +136,20 @@ fn field_of(node: Node, tag: u8, index: usize) -> Field {
     match node {
         Node::Type(Kind::Certificate) => {
             signed_field(
-                one("tbsCertificate", Node::TbsCertificate),
+                one("tbsCertificate", Node::Type(Kind::TbsCertificate)),
                 "signatureValue",
                 index,
             )
         }
-        Node::TbsCertificate => tbs_field(tag, index),
+        Node::Type(Kind::TbsCertificate) => tbs_field(tag, index),
         Node::Type(Kind::Request) => {
             signed_field(
-                one("certificationRequestInfo", Node::RequestInfo),
+                one("certificationRequestInfo", Node::Type(Kind::RequestInfo)),
                 "signature",
                 index,
             )
         }
-        Node::RequestInfo => info_field(index),
+        Node::Type(Kind::RequestInfo) => info_field(index),
         Node::Type(Kind::PrivateKey) => private_field(tag, index),
         Node::Type(Kind::RsaPrivateKey) => rsa_field(index),
         Node::Type(Kind::EcPrivateKey) => ec_field(tag, index),

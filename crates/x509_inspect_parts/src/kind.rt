@@ -28,6 +28,10 @@ pub enum Kind {
     Algorithm,
     /// `AlgorithmIdentifier` with any parameters.
     RawAlgorithm,
+    /// `CertificationRequestInfo` (RFC 2986, 4.1).
+    RequestInfo,
+    /// `TBSCertificate` (RFC 5280, 4.1.2).
+    TbsCertificate,
 }
 
 /// Whether a label is a text.
@@ -39,7 +43,7 @@ pub(crate) fn is(label: &[u8], text: &str) -> bool
 
 impl Kind {
     /// All types, those that are met the most first.
-    pub const ALL: [Kind; 11] = [
+    pub const ALL: [Kind; 13] = [
         Kind::Certificate,
         Kind::Request,
         Kind::PrivateKey,
@@ -51,6 +55,8 @@ impl Kind {
         Kind::Extensions,
         Kind::Algorithm,
         Kind::RawAlgorithm,
+        Kind::RequestInfo,
+        Kind::TbsCertificate,
     ];
 
     /// The name, as `--type` takes it.
@@ -69,6 +75,8 @@ impl Kind {
             Kind::Extensions => "extensions",
             Kind::Algorithm => "algorithm",
             Kind::RawAlgorithm => "raw-algorithm",
+            Kind::RequestInfo => "request-info",
+            Kind::TbsCertificate => "tbs-certificate",
         }
     }
 
@@ -89,6 +97,8 @@ impl Kind {
             "extensions" => Some(Kind::Extensions),
             "algorithm" => Some(Kind::Algorithm),
             "raw-algorithm" => Some(Kind::RawAlgorithm),
+            "request-info" => Some(Kind::RequestInfo),
+            "tbs-certificate" => Some(Kind::TbsCertificate),
             _ => None,
         }
     }
@@ -130,7 +140,12 @@ impl Kind {
             Kind::RsaPrivateKey => Some("RSA PRIVATE KEY"),
             Kind::RsaPublicKey => Some("RSA PUBLIC KEY"),
             Kind::EcPrivateKey => Some("EC PRIVATE KEY"),
-            Kind::Name | Kind::Extensions | Kind::Algorithm | Kind::RawAlgorithm => None,
+            Kind::Name
+            | Kind::Extensions
+            | Kind::Algorithm
+            | Kind::RawAlgorithm
+            | Kind::RequestInfo
+            | Kind::TbsCertificate => None,
         }
     }
 }

@@ -1,8 +1,45 @@
 //! Names of ISO's identifiers, under arc 1. This file is written by `tools/make_object_identifiers.py`.
 
+/// The names under 1.2.156.10197.1.
+pub(crate) fn under_1_2_156_10197_1(last: u64) -> Option<&'static str> {
+    match last {
+        301 => Some("curveSM2"),
+        501 => Some("sm2sign-with-sm3"),
+        _ => None,
+    }
+}
+
+/// The names under 1.2.643.2.2.
+pub(crate) fn under_1_2_643_2_2(last: u64) -> Option<&'static str> {
+    match last {
+        3 => Some("id-GostR3411-94-with-GostR3410-2001"),
+        19 => Some("id-GostR3410-2001"),
+        _ => None,
+    }
+}
+
+/// The names under 1.2.643.7.1.1.1.
+pub(crate) fn under_1_2_643_7_1_1_1(last: u64) -> Option<&'static str> {
+    match last {
+        1 => Some("id-tc26-gost3410-12-256"),
+        2 => Some("id-tc26-gost3410-12-512"),
+        _ => None,
+    }
+}
+
+/// The names under 1.2.643.7.1.1.3.
+pub(crate) fn under_1_2_643_7_1_1_3(last: u64) -> Option<&'static str> {
+    match last {
+        2 => Some("id-tc26-signwithdigest-gost3410-12-256"),
+        3 => Some("id-tc26-signwithdigest-gost3410-12-512"),
+        _ => None,
+    }
+}
+
 /// The names under 1.2.840.10040.4.
 pub(crate) fn under_1_2_840_10040_4(last: u64) -> Option<&'static str> {
     match last {
+        1 => Some("id-dsa"),
         3 => Some("id-dsa-with-sha1"),
         _ => None,
     }
@@ -21,6 +58,14 @@ pub(crate) fn under_1_2_840_10045_3_1(last: u64) -> Option<&'static str> {
     match last {
         1 => Some("secp192r1"),
         7 => Some("secp256r1"),
+        _ => None,
+    }
+}
+
+/// The names under 1.2.840.10045.4.
+pub(crate) fn under_1_2_840_10045_4(last: u64) -> Option<&'static str> {
+    match last {
+        1 => Some("ecdsa-with-SHA1"),
         _ => None,
     }
 }
@@ -63,6 +108,7 @@ pub(crate) fn under_1_2_840_113549(last: u64) -> Option<&'static str> {
 pub(crate) fn under_1_2_840_113549_1_1(last: u64) -> Option<&'static str> {
     match last {
         1 => Some("rsaEncryption"),
+        2 => Some("md2WithRSAEncryption"),
         4 => Some("md5WithRSAEncryption"),
         5 => Some("sha1WithRSAEncryption"),
         8 => Some("id-mgf1"),
@@ -71,6 +117,14 @@ pub(crate) fn under_1_2_840_113549_1_1(last: u64) -> Option<&'static str> {
         12 => Some("sha384WithRSAEncryption"),
         13 => Some("sha512WithRSAEncryption"),
         14 => Some("sha224WithRSAEncryption"),
+        _ => None,
+    }
+}
+
+/// The names under 1.2.840.113549.1.3.
+pub(crate) fn under_1_2_840_113549_1_3(last: u64) -> Option<&'static str> {
+    match last {
+        1 => Some("dhKeyAgreement"),
         _ => None,
     }
 }

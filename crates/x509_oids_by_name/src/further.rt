@@ -24,53 +24,68 @@ const NAMES_1: Table = &[
     ("UID", &[0, 9, 2342, 19200300, 100, 1, 1]),
 ];
 
-/// From `anyPolicy` to `id-ad-timeStamping`.
+/// From `anyPolicy` to `id-GostR3410-2001`.
 const NAMES_2: Table = &[
     ("anyPolicy", &[2, 5, 29, 32, 0]),
     ("businessCategory", &[2, 5, 4, 15]),
     ("challengePassword", &[1, 2, 840, 113549, 1, 9, 7]),
     ("clientAuth", &[1, 3, 6, 1, 5, 5, 7, 3, 2]),
     ("codeSigning", &[1, 3, 6, 1, 5, 5, 7, 3, 3]),
+    ("curveSM2", &[1, 2, 156, 10197, 1, 301]),
     ("description", &[2, 5, 4, 13]),
+    ("dhKeyAgreement", &[1, 2, 840, 113549, 1, 3, 1]),
     ("dnQualifier", &[2, 5, 4, 46]),
     ("domain-validated", &[2, 23, 140, 1, 2, 1]),
     ("domainComponent", &[0, 9, 2342, 19200300, 100, 1, 25]),
+    ("ecdsa-with-SHA1", &[1, 2, 840, 10045, 4, 1]),
     ("emailProtection", &[1, 3, 6, 1, 5, 5, 7, 3, 4]),
     ("ev-guidelines", &[2, 23, 140, 1, 1]),
     ("generationQualifier", &[2, 5, 4, 44]),
+    ("id-GostR3410-2001", &[1, 2, 643, 2, 2, 19]),
+];
+
+/// From `id-GostR3411-94-with-GostR3410-2001` to `id-ce-nameConstraints`.
+const NAMES_3: Table = &[
+    ("id-GostR3411-94-with-GostR3410-2001", &[1, 2, 643, 2, 2, 3]),
     ("id-ad-caIssuers", &[1, 3, 6, 1, 5, 5, 7, 48, 2]),
     ("id-ad-caRepository", &[1, 3, 6, 1, 5, 5, 7, 48, 5]),
     ("id-ad-ocsp", &[1, 3, 6, 1, 5, 5, 7, 48, 1]),
     ("id-ad-timeStamping", &[1, 3, 6, 1, 5, 5, 7, 48, 3]),
-];
-
-/// From `id-ce-cRLDistributionPoints` to `id-etsi-qcs-QcSSCD`.
-const NAMES_3: Table = &[
     ("id-ce-cRLDistributionPoints", &[2, 5, 29, 31]),
+    ("id-ce-cRLReasons", &[2, 5, 29, 21]),
+    ("id-ce-certificateIssuer", &[2, 5, 29, 29]),
     ("id-ce-certificatePolicies", &[2, 5, 29, 32]),
+    ("id-ce-deltaCRLIndicator", &[2, 5, 29, 27]),
     ("id-ce-freshestCRL", &[2, 5, 29, 46]),
+    ("id-ce-holdInstructionCode", &[2, 5, 29, 23]),
     ("id-ce-inhibitAnyPolicy", &[2, 5, 29, 54]),
+    ("id-ce-invalidityDate", &[2, 5, 29, 24]),
     ("id-ce-issuingDistributionPoint", &[2, 5, 29, 28]),
     ("id-ce-nameConstraints", &[2, 5, 29, 30]),
+];
+
+/// From `id-ce-policyConstraints` to `id-pda-countryOfCitizenship`.
+const NAMES_4: Table = &[
     ("id-ce-policyConstraints", &[2, 5, 29, 36]),
     ("id-ce-policyMappings", &[2, 5, 29, 33]),
     ("id-ce-privateKeyUsagePeriod", &[2, 5, 29, 16]),
     ("id-ce-subjectDirectoryAttributes", &[2, 5, 29, 9]),
+    ("id-dsa", &[1, 2, 840, 10040, 4, 1]),
     ("id-etsi-qcs-QcCClegislation", &[0, 4, 0, 1862, 1, 7]),
     ("id-etsi-qcs-QcCompliance", &[0, 4, 0, 1862, 1, 1]),
     ("id-etsi-qcs-QcLimitValue", &[0, 4, 0, 1862, 1, 2]),
     ("id-etsi-qcs-QcPDS", &[0, 4, 0, 1862, 1, 5]),
     ("id-etsi-qcs-QcRetentionPeriod", &[0, 4, 0, 1862, 1, 3]),
     ("id-etsi-qcs-QcSSCD", &[0, 4, 0, 1862, 1, 4]),
-];
-
-/// From `id-etsi-qcs-QcType` to `id-qcs-pkixQCSyntax-v2`.
-const NAMES_4: Table = &[
     ("id-etsi-qcs-QcType", &[0, 4, 0, 1862, 1, 6]),
     ("id-etsi-qct-eseal", &[0, 4, 0, 1862, 1, 6, 2]),
     ("id-etsi-qct-esign", &[0, 4, 0, 1862, 1, 6, 1]),
     ("id-etsi-qct-web", &[0, 4, 0, 1862, 1, 6, 3]),
     ("id-pda-countryOfCitizenship", &[1, 3, 6, 1, 5, 5, 7, 9, 4]),
+];
+
+/// From `id-pda-countryOfResidence` to `id-tc26-signwithdigest-gost3410-12-256`.
+const NAMES_5: Table = &[
     ("id-pda-countryOfResidence", &[1, 3, 6, 1, 5, 5, 7, 9, 5]),
     ("id-pda-dateOfBirth", &[1, 3, 6, 1, 5, 5, 7, 9, 1]),
     ("id-pda-gender", &[1, 3, 6, 1, 5, 5, 7, 9, 3]),
@@ -82,12 +97,22 @@ const NAMES_4: Table = &[
     ("id-pkix-ocsp-nocheck", &[1, 3, 6, 1, 5, 5, 7, 48, 1, 5]),
     ("id-qcs-pkixQCSyntax-v1", &[1, 3, 6, 1, 5, 5, 7, 11, 1]),
     ("id-qcs-pkixQCSyntax-v2", &[1, 3, 6, 1, 5, 5, 7, 11, 2]),
-];
-
-/// From `id-qt-cps` to `serverAuth`.
-const NAMES_5: Table = &[
     ("id-qt-cps", &[1, 3, 6, 1, 5, 5, 7, 2, 1]),
     ("id-qt-unotice", &[1, 3, 6, 1, 5, 5, 7, 2, 2]),
+    ("id-tc26-gost3410-12-256", &[1, 2, 643, 7, 1, 1, 1, 1]),
+    ("id-tc26-gost3410-12-512", &[1, 2, 643, 7, 1, 1, 1, 2]),
+    (
+        "id-tc26-signwithdigest-gost3410-12-256",
+        &[1, 2, 643, 7, 1, 1, 3, 2],
+    ),
+];
+
+/// From `id-tc26-signwithdigest-gost3410-12-512` to `serverAuth`.
+const NAMES_6: Table = &[
+    (
+        "id-tc26-signwithdigest-gost3410-12-512",
+        &[1, 2, 643, 7, 1, 1, 3, 3],
+    ),
     ("individual-validated", &[2, 23, 140, 1, 2, 3]),
     ("initials", &[2, 5, 4, 43]),
     (
@@ -102,6 +127,7 @@ const NAMES_5: Table = &[
         "jurisdictionStateOrProvinceName",
         &[1, 3, 6, 1, 4, 1, 311, 60, 2, 1, 2],
     ),
+    ("md2WithRSAEncryption", &[1, 2, 840, 113549, 1, 1, 2]),
     ("name", &[2, 5, 4, 41]),
     ("netscape-cert-type", &[2, 16, 840, 1, 113730, 1, 1]),
     ("netscape-comment", &[2, 16, 840, 1, 113730, 1, 13]),
@@ -114,11 +140,12 @@ const NAMES_5: Table = &[
 ];
 
 /// From `signedCertificateTimestampList` to `userId`.
-const NAMES_6: Table = &[
+const NAMES_7: Table = &[
     (
         "signedCertificateTimestampList",
         &[1, 3, 6, 1, 4, 1, 11129, 2, 4, 2],
     ),
+    ("sm2sign-with-sm3", &[1, 2, 156, 10197, 1, 501]),
     ("timeStamping", &[1, 3, 6, 1, 5, 5, 7, 3, 8]),
     ("title", &[2, 5, 4, 12]),
     ("unstructuredName", &[1, 2, 840, 113549, 1, 9, 2]),
@@ -126,4 +153,6 @@ const NAMES_6: Table = &[
 ];
 
 /// All of them.
-pub const TABLES: &'static [Table] = &[NAMES_1, NAMES_2, NAMES_3, NAMES_4, NAMES_5, NAMES_6];
+pub const TABLES: &'static [Table] = &[
+    NAMES_1, NAMES_2, NAMES_3, NAMES_4, NAMES_5, NAMES_6, NAMES_7,
+];

@@ -66,8 +66,11 @@ fn write_lists<A: Allocator + Copy, W: Write>(
     Ok(())
 }
 
-/// Tells an attribute: its values as the items of a node.
-fn attribute<A: Allocator + Copy, S: Limited>(
+/// Tells an attribute, which was read from the element of an input: its values as the items of a node.
+///
+/// # Errors
+/// What the sink fails with, also where memory is refused.
+pub fn attribute<A: Allocator + Copy, S: Limited>(
     sink: &mut S,
     bytes: &[u8],
     at: Element<'_>,

@@ -21,7 +21,7 @@ use x509_report_parts::values::{Hex, Stamp};
 use x509_report_parts::{Element, Label, Moment, Secrets, Shape, Span, Value};
 
 /// The second that a time says.
-pub(crate) fn moment_of(time: &Time) -> Moment {
+pub fn moment_of(time: &Time) -> Moment {
     match time {
         Time::Utc(time) => Moment {
             date: (time.0.year(), time.0.month(), time.0.day()),
@@ -34,11 +34,28 @@ pub(crate) fn moment_of(time: &Time) -> Moment {
     }
 }
 
+/// From when until when.
+pub(crate) fn moments_of(validity: &Validity) -> (Moment, Moment) {
+    (
+        moment_of(&validity.not_before),
+        moment_of(&validity.not_after),
+    )
+}
+
 /// The value of a time.
-fn time_of(time: &Time) -> Value<'_> {
+pub fn time_of(time: &Time) -> Value<'_> {
     match time {
         Time::Utc(_) => Value::UtcTime(moment_of(time)),
         Time::Generalized(_) => Value::Time(moment_of(time)),
+    }
+}
+
+/// The word for a version (RFC 5280, 4.1.2.1).
+pub fn version_word(version: Version) -> &'static str {
+    match version {
+        Version::V1 => "v1",
+        Version::V2 => "v2",
+        Version::V3 => "v3",
     }
 }
 
@@ -48,19 +65,22 @@ fn version<S: Limited>(
     at: Option<FieldSpan>,
     version: Version,
 ) -> Result<(), S::Error> {
-    let word = match version {
-        Version::V1 => "v1",
-        Version::V2 => "v2",
-        Version::V3 => "v3",
-    };
+    let word = Value::Word(version_word(version));
     match at {
-        Some(at) => sink.field(Label::Field("version"), place(at), Value::Word(word)),
+        Some(at) => sink.field(Label::Field("version"), place(at), word),
         None => Ok(()),
     }
 }
 
 /// Tells from when and until when a certificate is valid.
-fn validity<S: Limited>(sink: &mut S, at: Element<'_>, value: &Validity) -> Result<(), S::Error> {
+///
+/// # Errors
+/// What the sink fails with.
+pub fn validity<S: Limited>(
+    sink: &mut S,
+    at: Element<'_>,
+    value: &Validity,
+) -> Result<(), S::Error> {
     let mut fields = at.inside;
     sink.begin(Label::Field("validity"), at.span, Shape::Fields)?;
     let before = time_of(&value.not_before);
@@ -123,18 +143,16 @@ fn tail<A: Allocator + Copy, S: Limited>(
     }
 }
 
-/// Tells what is signed.
-fn tbs_certificate<A: Allocator + Copy, S: Limited>(
+/// Tells the fields of what is signed.
+pub(crate) fn tbs_fields<A: Allocator + Copy, S: Limited>(
     sink: &mut S,
     bytes: &[u8],
-    at: &CertificateFields,
+    at: &TbsCertificateFields,
     value: &TbsCertificate<A>,
 ) -> Result<(), S::Error> {
-    let span = place(at.tbs_certificate);
-    sink.begin(Label::Field("tbsCertificate"), span, Shape::Fields)?;
-    version(sink, at.fields.version, value.version)?;
-    head(sink, bytes, &at.fields, value)?;
-    tail(sink, bytes, &at.fields, value)?;
+    version(sink, at.version, value.version)?;
+    head(sink, bytes, at, value)?;
+    tail(sink, bytes, at, value)?;
     sink.end()
 }
 
@@ -159,8 +177,38 @@ fn write_parties<A: Allocator, W: Write>(out: &mut W, value: &TbsCertificate<A>)
     writeln!(out, "  issuer      {}", NameLine(&value.issuer))
 }
 
-/// Writes what a column tells of a name, a number or a time.
-fn write_column<A: Allocator, W: Write>(
+/// Writes the lines that say the most important.
+pub(crate) fn write_summary<A: Allocator + Copy, W: Write>(
+    out: &mut W,
+    value: &TbsCertificate<A>,
+) -> fmt::Result {
+    write_parties(out, value)?;
+    let serial = NumberLine(value.serial_number.as_bytes());
+    writeln!(out, "  serial      {serial}")?;
+    let before = Stamp(moment_of(&value.validity.not_before));
+    let after = Stamp(moment_of(&value.validity.not_after));
+    writeln!(out, "  valid       {before} to {after}")?;
+    let extensions = value.extensions.0.0.as_slice();
+    if let Some(names) = alternative_names(extensions) {
+        writeln!(out, "  names       {}", NamesLine(names))?;
+    }
+    write_services(out, extensions)?;
+    let key = public_line(&value.subject_public_key_info);
+    writeln!(out, "  key         {key}")
+}
+
+/// Writes the most important on one line.
+pub(crate) fn write_brief<A: Allocator, W: Write>(
+    out: &mut W,
+    value: &TbsCertificate<A>,
+) -> fmt::Result {
+    let after = Stamp(moment_of(&value.validity.not_after));
+    let key = public_line(&value.subject_public_key_info);
+    write!(out, "{}; until {after}; {key}", NameLine(&value.subject))
+}
+
+/// Writes what a column tells.
+pub(crate) fn write_column<A: Allocator, W: Write>(
     out: &mut W,
     value: &TbsCertificate<A>,
     column: Column,
@@ -172,6 +220,11 @@ fn write_column<A: Allocator, W: Write>(
         Column::NotBefore => write!(out, "{}", Stamp(moment_of(&value.validity.not_before))),
         Column::NotAfter => write!(out, "{}", Stamp(moment_of(&value.validity.not_after))),
         Column::Key => write!(out, "{}", public_line(&value.subject_public_key_info)),
+        Column::Names => match alternative_names(value.extensions.0.0.as_slice()) {
+            Some(names) => write!(out, "{}", NamesLine(names)),
+            None => Ok(()),
+        },
+        Column::SignatureAlgorithm => write_algorithm(out, &value.signature),
         _ => Ok(()),
     }
 }
@@ -187,7 +240,9 @@ impl<A: Allocator + Copy> Reported for Certificate<A> {
     ) -> Result<(), S::Error> {
         let at = CertificateFields::of(self, bytes);
         sink.begin(Label::Field("Certificate"), whole(bytes), Shape::Fields)?;
-        tbs_certificate(sink, bytes, &at, &self.tbs_certificate)?;
+        let span = place(at.tbs_certificate);
+        sink.begin(Label::Field("tbsCertificate"), span, Shape::Fields)?;
+        tbs_fields(sink, bytes, &at.fields, &self.tbs_certificate)?;
         let field = field_at(bytes, at.signature_algorithm);
         algorithm(sink, "signatureAlgorithm", field, &self.signature_algorithm)?;
         let span = place(at.signature_value);
@@ -201,44 +256,21 @@ impl<A: Allocator + Copy> Reported for Certificate<A> {
     }
 
     fn summary<W: Write>(&self, out: &mut W) -> fmt::Result {
-        let fields = &self.tbs_certificate;
-        write_parties(out, fields)?;
-        let serial = NumberLine(fields.serial_number.as_bytes());
-        writeln!(out, "  serial      {serial}")?;
-        let before = Stamp(moment_of(&fields.validity.not_before));
-        let after = Stamp(moment_of(&fields.validity.not_after));
-        writeln!(out, "  valid       {before} to {after}")?;
-        if let Some(names) = alternative_names(self.extensions()) {
-            writeln!(out, "  names       {}", NamesLine(names))?;
-        }
-        write_services(out, self.extensions())?;
-        let key = public_line(&fields.subject_public_key_info);
-        writeln!(out, "  key         {key}")
+        write_summary(out, &self.tbs_certificate)
     }
 
     fn column<W: Write>(&self, column: Column, out: &mut W) -> fmt::Result {
         match column {
-            Column::Names => match alternative_names(self.extensions()) {
-                Some(names) => write!(out, "{}", NamesLine(names)),
-                None => Ok(()),
-            },
             Column::SignatureAlgorithm => write_algorithm(out, &self.signature_algorithm),
             _ => write_column(out, &self.tbs_certificate, column),
         }
     }
 
     fn brief<W: Write>(&self, out: &mut W) -> fmt::Result {
-        let fields = &self.tbs_certificate;
-        let after = Stamp(moment_of(&fields.validity.not_after));
-        let key = public_line(&fields.subject_public_key_info);
-        write!(out, "{}; until {after}; {key}", NameLine(&fields.subject))
+        write_brief(out, &self.tbs_certificate)
     }
 
     fn validity(&self) -> Option<(Moment, Moment)> {
-        let validity = &self.tbs_certificate.validity;
-        Some((
-            moment_of(&validity.not_before),
-            moment_of(&validity.not_after),
-        ))
+        Some(moments_of(&self.tbs_certificate.validity))
     }
 }

@@ -30,8 +30,11 @@ pub(crate) fn extensions<A: Allocator + Copy, S: Limited>(
     sink.end()
 }
 
-/// Tells an extension.
-fn extension<A: Allocator + Copy, S: Limited>(
+/// Tells an extension, which was read from the bytes of an input that stand at a place.
+///
+/// # Errors
+/// What the sink fails with, also where memory is refused.
+pub fn extension<A: Allocator + Copy, S: Limited>(
     sink: &mut S,
     bytes: &[u8],
     at: Span,

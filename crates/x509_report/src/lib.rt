@@ -8,10 +8,12 @@ mod attribute;
 mod certificate;
 mod extension;
 mod extension_values;
+pub mod parts;
 mod places;
 mod private_key;
 mod reported;
 mod request;
+mod signed_parts;
 mod small;
 
 pub use crate::reported::Reported;

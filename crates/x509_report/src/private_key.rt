@@ -24,7 +24,7 @@ fn secret_number<A: Allocator>(number: &IntegerAsn1<A>, secrets: Secrets) -> Val
 }
 
 /// Secret bytes, or how many they are.
-fn secret_octets(bytes: &[u8], secrets: Secrets) -> Value<'_> {
+pub fn secret_octets(bytes: &[u8], secrets: Secrets) -> Value<'_> {
     match secrets {
         Secrets::Shown => Value::Octets(bytes),
         Secrets::Hidden => Value::Hidden(bytes.len() as u64),

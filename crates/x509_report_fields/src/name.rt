@@ -8,7 +8,7 @@ use std::alloc::Allocator;
 use std::fmt::{self, Display, Write};
 use x509_report_parts::shown::{Frame, Shown};
 use x509_report_parts::text_sink::Named;
-use x509_report_parts::values::{Address, Dotted, Hex, Utf16};
+use x509_report_parts::values::{Address, Dotted, Hex, Latin1, Utf16, Utf32};
 use x509_report_parts::{Cursor, Element, Identifiers, Label, Shape, Sink, StringType, Value};
 
 /// Tells a name.
@@ -256,12 +256,26 @@ impl Display for InLine<'_> {
                 write!(f, "{}", Shown(&text, Frame::Name))
             }
             Value::Utf16(bytes) => write!(f, "{}", Shown(&Utf16(bytes), Frame::Name)),
+            Value::Latin1(_, bytes) => write!(f, "{}", Shown(&Latin1(bytes), Frame::Name)),
+            Value::Utf32(bytes) => write!(f, "{}", Shown(&Utf32(bytes), Frame::Name)),
             Value::Raw(bytes) | Value::Octets(bytes) => write!(f, "#{}", Hex(bytes)),
             Value::Address(bytes) => write!(f, "{}", Address(bytes)),
             Value::Identifier(content) => write!(f, "{}", Dotted(content)),
             _ => Ok(()),
         }
     }
+}
+
+/// Writes an attribute as it stands in a name on one line, by the content of its type's object identifier and its value.
+///
+/// # Errors
+/// What the writer fails with.
+pub fn write_attribute<W: Write>(out: &mut W, content: &[u8], value: Value<'_>) -> fmt::Result {
+    match short_name(content) {
+        Some(short) => out.write_str(short)?,
+        None => write!(out, "{}", Named(content, Identifiers::Named))?,
+    }
+    write!(out, "={}", InLine(value))
 }
 
 /// An attribute as it stands in a name on one line.
@@ -271,13 +285,7 @@ struct AttributeLine<'a, A: Allocator>(&'a AttributeTypeAndValue<A>);
 impl<A: Allocator> Display for AttributeLine<'_, A> {
     fn fmt<W: Write>(&self, f: &mut fmt::Formatter<W>) -> fmt::Result {
         let attribute = self.0;
-        let content = attribute.ty.0.content();
-        match short_name(content) {
-            Some(short) => f.write_str(short)?,
-            None => write!(f, "{}", Named(content, Identifiers::Named))?,
-        }
-        let value = InLine(held(&attribute.value));
-        write!(f, "={value}")
+        write_attribute(f, attribute.ty.0.content(), held(&attribute.value))
     }
 }
 

@@ -81,8 +81,11 @@ fn is_told(kind: FurtherKind) -> bool {
     )
 }
 
-/// Writes the lines of an extension, if it has any.
-fn write_extension<A: Allocator + Copy, W: Write>(
+/// Writes the lines of an extension, if it has any, as `write_services` does.
+///
+/// # Errors
+/// What the writer fails with, also where memory for the extension is refused.
+pub fn write_extension<A: Allocator + Copy, W: Write>(
     out: &mut W,
     alloc: A,
     identifier: &ObjectIdentifier<A>,

@@ -4,7 +4,10 @@ use crate::cursor::Span;
 use crate::shown::is_plain;
 use crate::sink::{Label, Shape, Sink, Value};
 use crate::types::StringType;
-use crate::values::{Address, Dotted, ElementHex, Hex, Stamp, Utf16, is_whole_utf16, name_in};
+use crate::values::{
+    Address, Dotted, ElementHex, Hex, Latin1, Stamp, Utf16, Utf32, is_whole_utf16, is_whole_utf32,
+    name_in,
+};
 use json::Writer;
 use std::alloc::{AllocError, Allocator, Global};
 use std::fmt::Display;
@@ -199,9 +202,15 @@ impl<A: Allocator + Copy> JsonSink<A> {
         match value {
             Value::Text(text) | Value::Typed(_, text) => self.string(text),
             Value::Utf16(bytes) => self.printed(&Utf16(bytes)),
-            Value::Word(word) | Value::Algorithm(word) => self.writer.string(word),
+            Value::Latin1(_, bytes) => self.printed(&Latin1(bytes)),
+            Value::Utf32(bytes) => self.printed(&Utf32(bytes)),
+            Value::Word(word) | Value::Algorithm(word) | Value::Enumerated(word) => {
+                self.writer.string(word)
+            }
             Value::Words(words) | Value::Usages(_, _, words) => self.words(words),
-            Value::Identifier(content) => self.identified(content),
+            Value::Identifier(content) | Value::UnreadIdentifier(content) => {
+                self.identified(content)
+            }
             Value::Number(number) | Value::Count(number) => self.writer.u64(number),
             Value::Integer(bytes)
             | Value::Octets(bytes)
@@ -247,6 +256,9 @@ impl<A: Allocator + Copy> JsonSink<A> {
             Value::Utf16(bytes) if !is_whole_utf16(bytes) => self.der(&ElementHex(
                 0x1e, None, bytes,
             )),
+            Value::Utf32(bytes) if !is_whole_utf32(bytes) => {
+                self.der(&ElementHex(0x1c, None, bytes))
+            }
             Value::Usages(count, bytes, _) if !has_names(bytes) => {
                 self.der(&ElementHex(0x03, Some(unused_of(count)), bytes))
             }
@@ -267,6 +279,10 @@ impl<A: Allocator + Copy> JsonSink<A> {
         }
         if let Value::Malformed { reason, at, .. } = value {
             self.malformed(reason, at)?;
+        }
+        if let Value::UnreadIdentifier(_) = value {
+            self.writer.key("read")?;
+            self.writer.boolean(false)?;
         }
         if let Some(name) = type_of(value) {
             self.writer.key("asn1")?;
@@ -301,12 +317,15 @@ fn type_of(value: Value<'_>) -> Option<&'static str> {
         Value::Text(_) => Some("IA5String"),
         Value::Typed(kind, _) => Some(kind.name()),
         Value::Utf16(_) => Some("BMPString"),
+        Value::Latin1(kind, _) => Some(kind.name()),
+        Value::Utf32(_) => Some("UniversalString"),
+        Value::Enumerated(_) => Some("ENUMERATED"),
         Value::Word(_) | Value::Number(_) | Value::Integer(_) | Value::Sized(_, _) => {
             Some("INTEGER")
         }
         Value::Algorithm(_) => Some("AlgorithmIdentifier"),
         Value::Words(_) | Value::Usages(_, _, _) | Value::Bits(_, _) => Some("BIT STRING"),
-        Value::Identifier(_) => Some("OBJECT IDENTIFIER"),
+        Value::Identifier(_) | Value::UnreadIdentifier(_) => Some("OBJECT IDENTIFIER"),
         Value::Octets(_) | Value::Kept(_) | Value::Malformed { .. } | Value::Address(_) => {
             Some("OCTET STRING")
         }

@@ -24,4 +24,4 @@ pub use crate::layout::Layout;
 pub use crate::secrets::Secrets;
 pub use crate::sink::{Label, Moment, Shape, Sink, Value};
 pub use crate::text_sink::{Identifiers, TextSink};
-pub use crate::types::StringType;
+pub use crate::types::{ByteStringType, StringType};

@@ -1,7 +1,7 @@
 //! What a report is written to.
 
 use crate::cursor::Span;
-use crate::types::StringType;
+use crate::types::{ByteStringType, StringType};
 
 /// What a node is called.
 #[derive(Clone, Copy, Drop)]
@@ -50,8 +50,14 @@ pub enum Value<'a> {
     Typed(StringType, &'a str),
     /// Text of a BMPString in UTF-16, high bytes first.
     Utf16(&'a [u8]),
+    /// Text of a string of this type, each byte a character of ISO 8859-1.
+    Latin1(ByteStringType, &'a [u8]),
+    /// Text of a UniversalString: UTF-32 (UCS-4), high bytes first.
+    Utf32(&'a [u8]),
     /// A number, by the word that the standard has for it.
     Word(&'static str),
+    /// The same of an ENUMERATED.
+    Enumerated(&'static str),
     /// A hash algorithm, by its name.
     Algorithm(&'static str),
     /// Named bits, by the names of those that are set.
@@ -60,6 +66,8 @@ pub enum Value<'a> {
     Usages(u64, &'a [u8], &'a [&'static str]),
     /// An object identifier: its content.
     Identifier(&'a [u8]),
+    /// The object identifier of something that isn't read: its content.
+    UnreadIdentifier(&'a [u8]),
     /// A small number.
     Number(u64),
     /// A number in two's complement, high bytes first.

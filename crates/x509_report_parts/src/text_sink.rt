@@ -4,7 +4,7 @@ use crate::columns::{count_of, front_of};
 use crate::cursor::Span;
 use crate::shown::{Frame, Shown, is_harmless};
 use crate::sink::{Label, Shape, Sink, Value};
-use crate::values::{Address, Count, Dotted, Hex, ShortHex, Stamp, Utf16, name_in};
+use crate::values::{Address, Count, Dotted, Hex, Latin1, ShortHex, Stamp, Utf16, Utf32, name_in};
 use std::fmt::{self, Display, Write};
 
 /// Whether object identifiers that have names stand with their dots too.
@@ -135,6 +135,21 @@ fn write_identifier<W: Write>(
     }
 }
 
+/// The object identifier of something that isn't read, by its content: with dots, and its name in brackets, if it has one
+/// here.
+#[derive(Clone, Copy, Drop)]
+pub struct Unread<'a>(pub &'a [u8]);
+
+impl Display for Unread<'_> {
+    fn fmt<W: Write>(&self, f: &mut fmt::Formatter<W>) -> fmt::Result {
+        let dotted = Dotted(self.0);
+        match name_in(self.0) {
+            Some(name) => write!(f, "{dotted} ({name})"),
+            None => write!(f, "{dotted}"),
+        }
+    }
+}
+
 /// Writes words with commas between them.
 fn write_words<W: Write>(out: &mut W, words: &[&str]) -> fmt::Result {
     let mut is_first = true;
@@ -231,9 +246,12 @@ fn write_value<W: Write>(
     match value {
         Value::Text(text) | Value::Typed(_, text) => out.quote(text),
         Value::Utf16(bytes) => write_text(out, &Utf16(bytes)),
-        Value::Word(word) | Value::Algorithm(word) => out.put(word),
+        Value::Latin1(_, bytes) => write_text(out, &Latin1(bytes)),
+        Value::Utf32(bytes) => write_text(out, &Utf32(bytes)),
+        Value::Word(word) | Value::Algorithm(word) | Value::Enumerated(word) => out.put(word),
         Value::Words(words) | Value::Usages(_, _, words) => write_words(out, words),
         Value::Identifier(content) => write_identifier(out, content, identifiers),
+        Value::UnreadIdentifier(content) => write!(out, "{}, not read", Unread(content)),
         Value::Number(number) | Value::Count(number) => write!(out, "{number}"),
         Value::Integer(bytes) => write!(out, "{}", Hex(bytes)),
         Value::Sized(count, bytes) => write_number(out, count, bytes),
@@ -256,7 +274,11 @@ fn write_value<W: Write>(
 fn is_plain(value: Value<'_>) -> bool {
     matches!(
         value,
-        Value::Identifier(_) | Value::Word(_) | Value::Algorithm(_)
+        Value::Identifier(_)
+            | Value::UnreadIdentifier(_)
+            | Value::Word(_)
+            | Value::Algorithm(_)
+            | Value::Enumerated(_)
     )
 }
 

@@ -1,6 +1,6 @@
 //! The types of ASN.1 that a value can have where its field doesn't say which.
 
-/// The type of a string of characters (X.680, 41), but for BMPString.
+/// The type of a string of characters (X.680, 41) whose text is told in UTF-8.
 #[derive(Clone, Copy, Debug, PartialEq, Eq)]
 pub enum StringType {
     /// UTF8String.
@@ -67,5 +67,42 @@ impl StringType {
     /// Whether the type has all characters of a text.
     pub fn allows(self, text: &str) -> bool {
         text.as_bytes().iter().all(|byte| self.has(*byte))
+    }
+}
+
+/// The type of a string whose characters are chosen by escape sequences (X.690, 8.23.5; ISO/IEC 2022). These aren't
+/// followed: each byte is taken for a character of ISO 8859-1, as nearly all that write such strings mean it.
+#[derive(Clone, Copy, Debug, PartialEq, Eq)]
+pub enum ByteStringType {
+    /// TeletexString, also called T61String.
+    Teletex,
+    /// VideotexString.
+    Videotex,
+    /// GraphicString.
+    Graphic,
+    /// GeneralString.
+    General,
+}
+
+impl ByteStringType {
+    /// The type that a universal tag says, if it is one of these (X.680, 8.4).
+    pub fn from_tag(tag: u8) -> Option<Self> {
+        match tag {
+            0x14 => Some(ByteStringType::Teletex),
+            0x15 => Some(ByteStringType::Videotex),
+            0x19 => Some(ByteStringType::Graphic),
+            0x1b => Some(ByteStringType::General),
+            _ => None,
+        }
+    }
+
+    /// Its name in ASN.1.
+    pub fn name(self) -> &'static str {
+        match self {
+            ByteStringType::Teletex => "TeletexString",
+            ByteStringType::Videotex => "VideotexString",
+            ByteStringType::Graphic => "GraphicString",
+            ByteStringType::General => "GeneralString",
+        }
     }
 }

@@ -1,4 +1,4 @@
-//! How values print: bytes, times, object identifiers, addresses, and text in UTF-16.
+//! How values print: bytes, times, object identifiers, addresses, and text in UTF-16, UTF-32 or ISO 8859-1.
 
 ghost use Rattle.std.specs.Prelude.{◌≤◌, ◌<◌, length};
 
@@ -297,6 +297,47 @@ impl Display for Utf16<'_> {
             let (character, behind) = next_char(rest);
             f.write_char(character)?;
             rest = behind;
+        }
+        Ok(())
+    }
+}
+
+/// The characters of text in UTF-32, high bytes first; U+FFFD for what is none.
+#[derive(Clone, Copy, Drop)]
+pub struct Utf32<'a>(pub &'a [u8]);
+
+/// The character of four bytes, high bytes first, if it is one.
+fn wide_char(bytes: &[u8]) -> Option<char> {
+    match bytes {
+        [0, plane @ 0..=16, high, low] => {
+            char::from_u32(u32::from(*plane) * 0x1_0000 + u32::from(*high) * 256 + u32::from(*low))
+        }
+        _ => None,
+    }
+}
+
+/// Whether text in UTF-32 is whole: four bytes for each character, and each of these is one.
+pub fn is_whole_utf32(bytes: &[u8]) -> bool {
+    bytes.chunks(4).all(|group| wide_char(group).is_some())
+}
+
+impl Display for Utf32<'_> {
+    fn fmt<W: Write>(&self, f: &mut fmt::Formatter<W>) -> fmt::Result {
+        for group in self.0.chunks(4) {
+            f.write_char(wide_char(group).unwrap_or('\u{fffd}'))?;
+        }
+        Ok(())
+    }
+}
+
+/// The characters of text in ISO 8859-1, whose numbers are those of Unicode.
+#[derive(Clone, Copy, Drop)]
+pub struct Latin1<'a>(pub &'a [u8]);
+
+impl Display for Latin1<'_> {
+    fn fmt<W: Write>(&self, f: &mut fmt::Formatter<W>) -> fmt::Result {
+        for byte in self.0 {
+            f.write_char(char::from(*byte))?;
         }
         Ok(())
     }

@@ -15,6 +15,8 @@ import sys
 import tempfile
 
 HERE = os.path.dirname(os.path.abspath(__file__))
+sys.path.insert(0, os.path.dirname(HERE))
+from der import element  # noqa: E402
 
 CONFIG = """
 [req]
@@ -85,16 +87,6 @@ def by_openssl(room):
         "rsa_public_key.pem": openssl("rsa", "-in", rsa, "-RSAPublicKey_out"),
         "certificate_deviations.pem": pem("CERTIFICATE", deviating(room, rsa)),
     }
-
-
-def element(tag, *contents):
-    """An element with a tag of one byte (X.690, 8.1)."""
-    content = b"".join(contents)
-    size = len(content)
-    if size < 128:
-        return bytes([tag, size]) + content
-    digits = size.to_bytes((size.bit_length() + 7) // 8, "big")
-    return bytes([tag, 128 + len(digits)]) + digits + content
 
 
 def sequence(*items):

@@ -32,3 +32,9 @@ returns-in-Algorithm g c = rw c.in-Algorithm.is c.run-in-Algorithm.ensures
 
 pub returns-in-RawAlgorithm : goal.returns-in-RawAlgorithm
 returns-in-RawAlgorithm g c = rw c.in-RawAlgorithm.is c.run-in-RawAlgorithm.ensures
+
+pub returns-in-RequestInfo : goal.returns-in-RequestInfo
+returns-in-RequestInfo g c = rw c.in-RequestInfo.is c.run-in-RequestInfo.ensures
+
+pub returns-in-TbsCertificate : goal.returns-in-TbsCertificate
+returns-in-TbsCertificate g c = rw c.in-TbsCertificate.is c.run-in-TbsCertificate.ensures

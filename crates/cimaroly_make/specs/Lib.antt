@@ -1,0 +1,2 @@
+-- What stands in descriptions.
+pub mod Authorities

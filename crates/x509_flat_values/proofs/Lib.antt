@@ -1,0 +1,8 @@
+-- Lemmas about what the calls answer.
+pub mod Walking
+pub mod Answering
+pub mod BitLengths
+pub mod KeyWalks
+pub mod SignatureWalks
+pub mod LastFields
+pub mod Checking

@@ -1,0 +1,140 @@
+//! Members of a structure that are values of one kind.
+
+use crate::algorithms::algorithm;
+use crate::issuer::requested_subject;
+use crate::keys::public_key;
+use crate::pem::is_pem;
+use json::Value;
+use std::alloc::Allocator;
+use x509_make_names::names::name;
+use x509_make_parts::node::{check_leaf, flag_of, text_of};
+use x509_make_parts::{Done, Fault, Maker, Place};
+use x509_make_values::Fields;
+use x509_make_values::bits::bits;
+use x509_make_values::numbers::integer;
+
+/// Whether a node says yes or no.
+///
+/// # Errors
+/// `Not` where it says neither, and those of `check_leaf`.
+pub(crate) fn flag_in<A: Allocator + Copy>(
+    place: &mut Place,
+    node: &Value<'_, A>,
+) -> Result<bool, Fault> {
+    check_leaf(place, node)?;
+    flag_of(node)
+}
+
+/// The text of a node that says a version.
+///
+/// # Errors
+/// `Not` where it has none, and those of `check_leaf`.
+pub(crate) fn version_in<'t, A: Allocator + Copy>(
+    place: &mut Place,
+    node: &'t Value<'_, A>,
+) -> Result<&'t str, Fault> {
+    check_leaf(place, node)?;
+    text_of(node, "v1, v2 or v3")
+}
+
+/// Appends an INTEGER that is a member.
+///
+/// # Errors
+/// `Missing`, and those of `integer`.
+pub(crate) fn integer_member<A: Allocator + Copy>(
+    maker: &mut Maker<A>,
+    fields: &mut Fields<'_, '_, A>,
+    member: &'static str,
+) -> Done {
+    let from = maker.open();
+    let node = fields.need(&mut maker.place, member)?;
+    integer(maker, 0x02, node)?;
+    maker.leave_from(from)
+}
+
+/// Appends an algorithm that is a member.
+///
+/// # Errors
+/// `Missing`, and those of `algorithm`.
+pub(crate) fn algorithm_member<A: Allocator + Copy>(
+    maker: &mut Maker<A>,
+    fields: &mut Fields<'_, '_, A>,
+    member: &'static str,
+) -> Done {
+    let from = maker.open();
+    let node = fields.need(&mut maker.place, member)?;
+    algorithm(maker, node)?;
+    maker.leave_from(from)
+}
+
+/// Appends a name that is a member.
+///
+/// # Errors
+/// `Missing`, and those of `name`.
+pub(crate) fn name_member<A: Allocator + Copy>(
+    maker: &mut Maker<A>,
+    fields: &mut Fields<'_, '_, A>,
+    member: &'static str,
+) -> Done {
+    let from = maker.open();
+    let node = fields.need(&mut maker.place, member)?;
+    name(maker, node)?;
+    maker.leave_from(from)
+}
+
+/// Appends the subject, a name or that of a request in PEM, which is the member `subject`.
+///
+/// # Errors
+/// `Missing`, and those of `name` and `requested_subject`.
+pub(crate) fn subject_member<A: Allocator + Copy>(
+    maker: &mut Maker<A>,
+    fields: &mut Fields<'_, '_, A>,
+) -> Done {
+    let from = maker.open();
+    match fields.need(&mut maker.place, "subject")? {
+        Value::String(text) if is_pem(*text) => requested_subject(maker, *text)?,
+        node => name(maker, node)?,
+    }
+    maker.leave_from(from)
+}
+
+/// Appends a public key that is a member.
+///
+/// # Errors
+/// `Missing`, and those of `public_key`.
+pub(crate) fn key_member<A: Allocator + Copy>(
+    maker: &mut Maker<A>,
+    fields: &mut Fields<'_, '_, A>,
+    member: &'static str,
+) -> Done {
+    let from = maker.open();
+    let node = fields.need(&mut maker.place, member)?;
+    public_key(maker, node)?;
+    maker.leave_from(from)
+}
+
+/// Appends a BIT STRING that is a member.
+///
+/// # Errors
+/// `Missing`, and those of `bits`.
+pub(crate) fn bits_member<A: Allocator + Copy>(
+    maker: &mut Maker<A>,
+    fields: &mut Fields<'_, '_, A>,
+    member: &'static str,
+) -> Done {
+    let from = maker.open();
+    let node = fields.need(&mut maker.place, member)?;
+    bits(maker, 0x03, node)?;
+    maker.leave_from(from)
+}
+
+/// Whether a list that may be a member has items.
+pub(crate) fn has_items<A: Allocator + Copy>(node: &Value<'_, A>, member: &str) -> bool {
+    match node.get(member) {
+        None => false,
+        Some(list) => match list.get("items").unwrap_or(list) {
+            Value::Array(items) => !items.is_empty(),
+            _ => true,
+        },
+    }
+}

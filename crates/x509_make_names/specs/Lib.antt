@@ -1,0 +1,2 @@
+-- What is made of names.
+pub mod UsualTags

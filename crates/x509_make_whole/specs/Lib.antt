@@ -1,0 +1,2 @@
+-- What is made of descriptions.
+pub mod Encodings

@@ -1,0 +1,3 @@
+-- Blocks of PEM that are written.
+pub mod Blocks
+pub mod facts

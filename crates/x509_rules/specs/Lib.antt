@@ -1,0 +1,2 @@
+-- What may be wrong with certificates, by name.
+pub mod Rules

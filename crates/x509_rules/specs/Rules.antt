@@ -1,0 +1,84 @@
+-- The rules that certificates may break, by name, and the part of a certificate that each is about (RFC 5280, 4.1).
+use Rattle.std.specs.Prelude.{ℕ, List, [], ◌∷◌, codes}
+use Rattle.x509_rules.specs.declared.part.Part.{Part}
+use Rattle.x509_rules.specs.declared.part.Part.TheVariants as part
+use Rattle.x509_rules.specs.declared.rule.Rule.{Rule}
+use Rattle.x509_rules.specs.declared.rule.Rule.TheVariants as rule
+
+-- as the option --rule takes them
+abbrev pub rule_name : Rule → List ℕ
+rule_name rule.SerialNotPositive = codes "serial-not-positive"
+rule_name rule.SerialTooLong = codes "serial-too-long"
+rule_name rule.AlgorithmsDiffer = codes "algorithms-differ"
+rule_name rule.IssuerEmpty = codes "issuer-empty"
+rule_name rule.ValidityReversed = codes "validity-reversed"
+rule_name rule.NotBeforeForm = codes "not-before-form"
+rule_name rule.NotAfterForm = codes "not-after-form"
+rule_name rule.SubjectEmpty = codes "subject-empty"
+rule_name rule.AuthorityUnnamed = codes "authority-unnamed"
+rule_name rule.ModulusNotPositive = codes "modulus-not-positive"
+rule_name rule.ModulusEven = codes "modulus-even"
+rule_name rule.ModulusShort = codes "modulus-short"
+rule_name rule.ExponentLow = codes "exponent-low"
+rule_name rule.ExponentEven = codes "exponent-even"
+rule_name rule.IssuerUniqueId = codes "issuer-unique-id"
+rule_name rule.SubjectUniqueId = codes "subject-unique-id"
+rule_name rule.AuthorityKeyCritical = codes "authority-key-critical"
+rule_name rule.SubjectKeyCritical = codes "subject-key-critical"
+rule_name rule.SubjectKeyMissing = codes "subject-key-missing"
+rule_name rule.KeyUsageEmpty = codes "key-usage-empty"
+rule_name rule.KeyUsagePadded = codes "key-usage-padded"
+rule_name rule.SigningWithoutAuthority = codes "signing-without-authority"
+rule_name rule.AuthorityWithoutSigning = codes "authority-without-signing"
+rule_name rule.SubjectNamesEmpty = codes "subject-names-empty"
+rule_name rule.IssuerNamesEmpty = codes "issuer-names-empty"
+rule_name rule.AuthorityNotCritical = codes "authority-not-critical"
+rule_name rule.PathLengthIdle = codes "path-length-idle"
+rule_name rule.PathLengthWithoutSigning = codes "path-length-without-signing"
+rule_name rule.AuthorityDefaultSpelled = codes "authority-default-spelled"
+rule_name rule.PurposesEmpty = codes "purposes-empty"
+
+-- where a broken rule is told
+abbrev pub part_of : Rule → Part
+part_of rule.SerialNotPositive = part.SerialNumber
+part_of rule.SerialTooLong = part.SerialNumber
+part_of rule.AlgorithmsDiffer = part.Signature
+part_of rule.IssuerEmpty = part.Issuer
+part_of rule.ValidityReversed = part.Validity
+part_of rule.NotBeforeForm = part.Validity
+part_of rule.NotAfterForm = part.Validity
+part_of rule.SubjectEmpty = part.Subject
+part_of rule.AuthorityUnnamed = part.Subject
+part_of rule.ModulusNotPositive = part.SubjectPublicKeyInfo
+part_of rule.ModulusEven = part.SubjectPublicKeyInfo
+part_of rule.ModulusShort = part.SubjectPublicKeyInfo
+part_of rule.ExponentLow = part.SubjectPublicKeyInfo
+part_of rule.ExponentEven = part.SubjectPublicKeyInfo
+part_of rule.IssuerUniqueId = part.IssuerUniqueId
+part_of rule.SubjectUniqueId = part.SubjectUniqueId
+part_of rule.AuthorityKeyCritical = part.Extensions
+part_of rule.SubjectKeyCritical = part.Extensions
+part_of rule.SubjectKeyMissing = part.Extensions
+part_of rule.KeyUsageEmpty = part.Extensions
+part_of rule.KeyUsagePadded = part.Extensions
+part_of rule.SigningWithoutAuthority = part.Extensions
+part_of rule.AuthorityWithoutSigning = part.Extensions
+part_of rule.SubjectNamesEmpty = part.Extensions
+part_of rule.IssuerNamesEmpty = part.Extensions
+part_of rule.AuthorityNotCritical = part.Extensions
+part_of rule.PathLengthIdle = part.Extensions
+part_of rule.PathLengthWithoutSigning = part.Extensions
+part_of rule.AuthorityDefaultSpelled = part.Extensions
+part_of rule.PurposesEmpty = part.Extensions
+
+-- all of them, in the order of the places
+abbrev pub all_rules : List Rule
+all_rules =
+    rule.SerialNotPositive ∷ rule.SerialTooLong ∷ rule.AlgorithmsDiffer ∷ rule.IssuerEmpty
+    ∷ rule.ValidityReversed ∷ rule.NotBeforeForm ∷ rule.NotAfterForm ∷ rule.SubjectEmpty
+    ∷ rule.AuthorityUnnamed ∷ rule.ModulusNotPositive ∷ rule.ModulusEven ∷ rule.ModulusShort
+    ∷ rule.ExponentLow ∷ rule.ExponentEven ∷ rule.IssuerUniqueId ∷ rule.SubjectUniqueId
+    ∷ rule.AuthorityKeyCritical ∷ rule.SubjectKeyCritical ∷ rule.SubjectKeyMissing ∷ rule.KeyUsageEmpty
+    ∷ rule.KeyUsagePadded ∷ rule.SigningWithoutAuthority ∷ rule.AuthorityWithoutSigning
+    ∷ rule.SubjectNamesEmpty ∷ rule.IssuerNamesEmpty ∷ rule.AuthorityNotCritical ∷ rule.PathLengthIdle
+    ∷ rule.PathLengthWithoutSigning ∷ rule.AuthorityDefaultSpelled ∷ rule.PurposesEmpty ∷ []

@@ -1,0 +1,223 @@
+//! The rules.
+
+ghost use Rattle.std.specs.Prelude.{◌≡◌, IfSome, IfNone};
+ghost use Rattle.x509_rules.specs.Rules.{part_of, rule_name};
+
+use crate::part::Part;
+
+/// What may be wrong with a certificate.
+#[derive(Clone, Copy, Debug, PartialEq, Eq)]
+pub enum Rule {
+    /// RFC 5280, 4.1.2.2: serial number isn't positive.
+    SerialNotPositive,
+    /// RFC 5280, 4.1.2.2: serial number has more than 20 octets.
+    SerialTooLong,
+    /// RFC 5280, 4.1.1.2: the algorithm in the signed part isn't the one beside the signature.
+    AlgorithmsDiffer,
+    /// RFC 5280, 4.1.2.4: issuer is empty.
+    IssuerEmpty,
+    /// RFC 5280, 4.1.2.5: notAfter is before notBefore.
+    ValidityReversed,
+    /// RFC 5280, 4.1.2.5: notBefore is a GeneralizedTime before 2050.
+    NotBeforeForm,
+    /// RFC 5280, 4.1.2.5: notAfter is a GeneralizedTime before 2050.
+    NotAfterForm,
+    /// RFC 5280, 4.1.2.6: subject is empty, and no critical subjectAltName names it.
+    SubjectEmpty,
+    /// RFC 5280, 4.1.2.6: subject of an authority is empty.
+    AuthorityUnnamed,
+    /// RFC 8017, 3.1: RSA modulus isn't positive.
+    ModulusNotPositive,
+    /// RFC 8017, 3.1: RSA modulus is even.
+    ModulusEven,
+    /// NIST SP 800-131A, 3: RSA modulus has fewer than 2048 bits.
+    ModulusShort,
+    /// RFC 8017, 3.1: RSA exponent is below 3.
+    ExponentLow,
+    /// RFC 8017, 3.1: RSA exponent is even.
+    ExponentEven,
+    /// RFC 5280, 4.1.2.8: issuer has a unique identifier.
+    IssuerUniqueId,
+    /// RFC 5280, 4.1.2.8: subject has a unique identifier.
+    SubjectUniqueId,
+    /// RFC 5280, 4.2.1.1: authority key identifier is critical.
+    AuthorityKeyCritical,
+    /// RFC 5280, 4.2.1.2: subject key identifier is critical.
+    SubjectKeyCritical,
+    /// RFC 5280, 4.2.1.2: authority has no subject key identifier.
+    SubjectKeyMissing,
+    /// RFC 5280, 4.2.1.3: key usage allows nothing.
+    KeyUsageEmpty,
+    /// X.690, 11.2.2: key usage has trailing zero bits.
+    KeyUsagePadded,
+    /// RFC 5280, 4.2.1.9: key may sign certificates, but the subject isn't an authority.
+    SigningWithoutAuthority,
+    /// RFC 5280, 4.2.1.3: subject is an authority, but no key usage lets the key sign certificates.
+    AuthorityWithoutSigning,
+    /// RFC 5280, 4.2.1.6: subjectAltName has no names.
+    SubjectNamesEmpty,
+    /// RFC 5280, 4.2.1.7: issuerAltName has no names.
+    IssuerNamesEmpty,
+    /// RFC 5280, 4.2.1.9: basic constraints of an authority that may sign certificates aren't critical.
+    AuthorityNotCritical,
+    /// RFC 5280, 4.2.1.9: path length is limited, but the subject isn't an authority.
+    PathLengthIdle,
+    /// RFC 5280, 4.2.1.9: path length is limited, but no key usage lets the key sign certificates.
+    PathLengthWithoutSigning,
+    /// X.690, 11.5: cA FALSE is encoded, though it is the default.
+    AuthorityDefaultSpelled,
+    /// RFC 5280, 4.2.1.12: extKeyUsage has no purposes.
+    PurposesEmpty,
+}
+
+impl Rule {
+    /// All rules, in the order of the places that they name.
+    pub const ALL: [Rule; 30] = [
+        Rule::SerialNotPositive,
+        Rule::SerialTooLong,
+        Rule::AlgorithmsDiffer,
+        Rule::IssuerEmpty,
+        Rule::ValidityReversed,
+        Rule::NotBeforeForm,
+        Rule::NotAfterForm,
+        Rule::SubjectEmpty,
+        Rule::AuthorityUnnamed,
+        Rule::ModulusNotPositive,
+        Rule::ModulusEven,
+        Rule::ModulusShort,
+        Rule::ExponentLow,
+        Rule::ExponentEven,
+        Rule::IssuerUniqueId,
+        Rule::SubjectUniqueId,
+        Rule::AuthorityKeyCritical,
+        Rule::SubjectKeyCritical,
+        Rule::SubjectKeyMissing,
+        Rule::KeyUsageEmpty,
+        Rule::KeyUsagePadded,
+        Rule::SigningWithoutAuthority,
+        Rule::AuthorityWithoutSigning,
+        Rule::SubjectNamesEmpty,
+        Rule::IssuerNamesEmpty,
+        Rule::AuthorityNotCritical,
+        Rule::PathLengthIdle,
+        Rule::PathLengthWithoutSigning,
+        Rule::AuthorityDefaultSpelled,
+        Rule::PurposesEmpty,
+    ];
+
+    /// The name, as `--rule` takes it.
+    pub fn name(self) -> &'static str
+        ensures { result.now ≡ rule_name self }
+    {
+        match self {
+            Rule::SerialNotPositive => "serial-not-positive",
+            Rule::SerialTooLong => "serial-too-long",
+            Rule::AlgorithmsDiffer => "algorithms-differ",
+            Rule::IssuerEmpty => "issuer-empty",
+            Rule::ValidityReversed => "validity-reversed",
+            Rule::NotBeforeForm => "not-before-form",
+            Rule::NotAfterForm => "not-after-form",
+            Rule::SubjectEmpty => "subject-empty",
+            Rule::AuthorityUnnamed => "authority-unnamed",
+            Rule::ModulusNotPositive => "modulus-not-positive",
+            Rule::ModulusEven => "modulus-even",
+            Rule::ModulusShort => "modulus-short",
+            Rule::ExponentLow => "exponent-low",
+            Rule::ExponentEven => "exponent-even",
+            Rule::IssuerUniqueId => "issuer-unique-id",
+            Rule::SubjectUniqueId => "subject-unique-id",
+            Rule::AuthorityKeyCritical => "authority-key-critical",
+            Rule::SubjectKeyCritical => "subject-key-critical",
+            Rule::SubjectKeyMissing => "subject-key-missing",
+            Rule::KeyUsageEmpty => "key-usage-empty",
+            Rule::KeyUsagePadded => "key-usage-padded",
+            Rule::SigningWithoutAuthority => "signing-without-authority",
+            Rule::AuthorityWithoutSigning => "authority-without-signing",
+            Rule::SubjectNamesEmpty => "subject-names-empty",
+            Rule::IssuerNamesEmpty => "issuer-names-empty",
+            Rule::AuthorityNotCritical => "authority-not-critical",
+            Rule::PathLengthIdle => "path-length-idle",
+            Rule::PathLengthWithoutSigning => "path-length-without-signing",
+            Rule::AuthorityDefaultSpelled => "authority-default-spelled",
+            Rule::PurposesEmpty => "purposes-empty",
+        }
+    }
+
+    /// The rule of a name, if it is one of theirs.
+    pub fn from_name(name: &str) -> Option<Rule>
+        ensures some { IfSome result (λ rule. name.now ≡ rule_name rule) }
+        ensures none { IfNone result ((rule : Rule) → name.now ≡ rule_name rule → ⊥) }
+    {
+        match name {
+            "serial-not-positive" => Some(Rule::SerialNotPositive),
+            "serial-too-long" => Some(Rule::SerialTooLong),
+            "algorithms-differ" => Some(Rule::AlgorithmsDiffer),
+            "issuer-empty" => Some(Rule::IssuerEmpty),
+            "validity-reversed" => Some(Rule::ValidityReversed),
+            "not-before-form" => Some(Rule::NotBeforeForm),
+            "not-after-form" => Some(Rule::NotAfterForm),
+            "subject-empty" => Some(Rule::SubjectEmpty),
+            "authority-unnamed" => Some(Rule::AuthorityUnnamed),
+            "modulus-not-positive" => Some(Rule::ModulusNotPositive),
+            "modulus-even" => Some(Rule::ModulusEven),
+            "modulus-short" => Some(Rule::ModulusShort),
+            "exponent-low" => Some(Rule::ExponentLow),
+            "exponent-even" => Some(Rule::ExponentEven),
+            "issuer-unique-id" => Some(Rule::IssuerUniqueId),
+            "subject-unique-id" => Some(Rule::SubjectUniqueId),
+            "authority-key-critical" => Some(Rule::AuthorityKeyCritical),
+            "subject-key-critical" => Some(Rule::SubjectKeyCritical),
+            "subject-key-missing" => Some(Rule::SubjectKeyMissing),
+            "key-usage-empty" => Some(Rule::KeyUsageEmpty),
+            "key-usage-padded" => Some(Rule::KeyUsagePadded),
+            "signing-without-authority" => Some(Rule::SigningWithoutAuthority),
+            "authority-without-signing" => Some(Rule::AuthorityWithoutSigning),
+            "subject-names-empty" => Some(Rule::SubjectNamesEmpty),
+            "issuer-names-empty" => Some(Rule::IssuerNamesEmpty),
+            "authority-not-critical" => Some(Rule::AuthorityNotCritical),
+            "path-length-idle" => Some(Rule::PathLengthIdle),
+            "path-length-without-signing" => Some(Rule::PathLengthWithoutSigning),
+            "authority-default-spelled" => Some(Rule::AuthorityDefaultSpelled),
+            "purposes-empty" => Some(Rule::PurposesEmpty),
+            _ => None,
+        }
+    }
+
+    /// The part of a certificate that it is about.
+    pub fn part(self) -> Part
+        ensures { result ≡ part_of self }
+    {
+        match self {
+            Rule::SerialNotPositive => Part::SerialNumber,
+            Rule::SerialTooLong => Part::SerialNumber,
+            Rule::AlgorithmsDiffer => Part::Signature,
+            Rule::IssuerEmpty => Part::Issuer,
+            Rule::ValidityReversed => Part::Validity,
+            Rule::NotBeforeForm => Part::Validity,
+            Rule::NotAfterForm => Part::Validity,
+            Rule::SubjectEmpty => Part::Subject,
+            Rule::AuthorityUnnamed => Part::Subject,
+            Rule::ModulusNotPositive => Part::SubjectPublicKeyInfo,
+            Rule::ModulusEven => Part::SubjectPublicKeyInfo,
+            Rule::ModulusShort => Part::SubjectPublicKeyInfo,
+            Rule::ExponentLow => Part::SubjectPublicKeyInfo,
+            Rule::ExponentEven => Part::SubjectPublicKeyInfo,
+            Rule::IssuerUniqueId => Part::IssuerUniqueId,
+            Rule::SubjectUniqueId => Part::SubjectUniqueId,
+            Rule::AuthorityKeyCritical => Part::Extensions,
+            Rule::SubjectKeyCritical => Part::Extensions,
+            Rule::SubjectKeyMissing => Part::Extensions,
+            Rule::KeyUsageEmpty => Part::Extensions,
+            Rule::KeyUsagePadded => Part::Extensions,
+            Rule::SigningWithoutAuthority => Part::Extensions,
+            Rule::AuthorityWithoutSigning => Part::Extensions,
+            Rule::SubjectNamesEmpty => Part::Extensions,
+            Rule::IssuerNamesEmpty => Part::Extensions,
+            Rule::AuthorityNotCritical => Part::Extensions,
+            Rule::PathLengthIdle => Part::Extensions,
+            Rule::PathLengthWithoutSigning => Part::Extensions,
+            Rule::AuthorityDefaultSpelled => Part::Extensions,
+            Rule::PurposesEmpty => Part::Extensions,
+        }
+    }
+}

@@ -1,0 +1,2 @@
+-- The algorithms of signatures.
+pub mod SignatureAlgorithms

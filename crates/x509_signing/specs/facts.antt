@@ -1,0 +1,3 @@
+-- Lemmas.
+pub mod Elements
+pub mod SignatureFields
