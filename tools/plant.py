@@ -253,8 +253,8 @@ class Run:
         return ""
 
     def proved(self):
-        """The crates that were proved, whose libraries stand."""
-        return set(re.findall(r"(?m)^rt: (\w+) proved$", self.said()))
+        """The crates whose libraries stand: those that it proved, or took as an earlier run on this machine proved them."""
+        return set(re.findall(r"(?m)^rt: (\w+) (?:proved$|is kept: )", self.said()))
 
     def has_ended(self):
         return bool(re.search(r"(?m)^rt ci ended with \d+$", self.said()))

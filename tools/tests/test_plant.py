@@ -447,6 +447,11 @@ class BesideTest(unittest.TestCase):
         so_far, later, bad, _ = self.tried("rt: low proved\n", "rt: above proved\nrt: apart proved\nrt ci ended with 0\n")
         self.assertEqual((so_far, sorted(later), bad), (["low"], ["above", "apart"], 1))
 
+    def test_what_an_earlier_run_proved(self):
+        kept = "rt: low is kept: an earlier run on this machine proved the same files over the same libraries\n"
+        so_far, later, bad, _ = self.tried(kept, "rt: above proved\nrt: apart proved\nrt ci ended with 0\n")
+        self.assertEqual((so_far, sorted(later), bad), (["low"], ["above", "apart"], 1))
+
     def test_not_proved(self):
         *_, bad, said = self.tried("rt: low proved\n", "rt: apart proved\nrt ci ended with 1\n")
         self.assertEqual((bad, said), (3, "not tried, since rt ci didn't prove what they stand on: above\n"))
