@@ -29,6 +29,12 @@ export function quoted(text) {
   return `"${shown(text, "quotes")}"`;
 }
 
+/** The text as a JSON string, with an escape for what isn't to be shown. */
+export function asJson(text) {
+  const escape = (unit) => `\\u${unit.charCodeAt(0).toString(16).padStart(4, "0")}`;
+  return JSON.stringify(text).replace(UNSEEN, (it) => it.split("").map(escape).join(""));
+}
+
 const DIGITS = Array.from({ length: 256 }, (_, byte) => byte.toString(16).padStart(2, "0"));
 
 /** Two hexadecimal digits. */
