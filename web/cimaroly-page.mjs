@@ -1,10 +1,11 @@
-// The page: takes files, text and links, and shows each structure in them.
+// The page: takes files, text and links, and shows each structure in them, or makes one.
 
 import { at, goToResult, make } from "./page/dom.mjs";
 import { Entry } from "./page/entry.mjs";
 import { fromFragment, structuresIn } from "./page/input.mjs";
 import { List } from "./page/list.mjs";
 import { PasteForm } from "./page/paste.mjs";
+import { RequestForm } from "./page/request.mjs";
 import { Result } from "./page/result.mjs";
 import { SAMPLES } from "./page/samples.mjs";
 import { shown } from "./page/text.mjs";
@@ -23,6 +24,8 @@ const cimaroly = await loaded.catch((error) => {
 });
 const result = new Result(cimaroly);
 const list = new List((structure) => result.show(structure));
+// The requests whose private keys are in the page alone: they stay in the list.
+const withKeys = [];
 
 /** Shows the structures of some inputs, each its bytes and its name, and goes to what is shown. */
 function take(inputs) {
@@ -30,9 +33,42 @@ function take(inputs) {
     structuresIn(bytes).map((it) => new Entry(cimaroly, { ...it, file: name })),
   );
   tell("");
-  document.body.classList.add("has-result");
-  list.show(structures);
+  show(structures);
   goToResult();
+}
+
+function show(structures) {
+  document.body.classList.add("has-result");
+  list.show([...structures, ...withKeys]);
+}
+
+/** Shows what was made besides what is there, and goes to it. */
+function add(made) {
+  const structure = new Entry(cimaroly, made);
+  if (structure.privateKey !== null) keep(structure);
+  tell("");
+  forgetLink();
+  document.body.classList.add("has-result");
+  list.add(structure);
+  goToResult();
+}
+
+// Keeps a request with its private key, and has the browser ask before that is lost.
+function keep(structure) {
+  withKeys.push(structure);
+  addEventListener("beforeunload", askFirst);
+}
+
+function askFirst(event) {
+  if (withKeys.some((it) => !it.isKeySaved)) event.preventDefault();
+}
+
+function takeRequest({ bytes, privateKey }) {
+  const remark =
+    privateKey === null
+      ? "The private key wasn’t kept, as you didn’t ask to save it."
+      : "The private key is only in this page’s memory: save it before you close the page.";
+  add({ file: "made in this browser", kind: "request", bytes, privateKey, remark });
 }
 
 async function takeFiles(files) {
@@ -67,8 +103,7 @@ function takeLink() {
     tell("This link contains nothing that can be read. Links never contain private keys.");
     return;
   }
-  document.body.classList.add("has-result");
-  list.show([new Entry(cimaroly, { ...found, file: "from the link" })]);
+  show([new Entry(cimaroly, { ...found, file: "from the link" })]);
 }
 
 async function takeSample(name) {
@@ -112,8 +147,13 @@ function takeAnyText(text) {
   if (text.trim() !== "") takeText(text);
 }
 
+function listenToForms() {
+  const forms = [];
+  new PasteForm(takeText, forms);
+  new RequestForm(cimaroly, takeRequest, forms);
+}
+
 function listenToText() {
-  new PasteForm(takeText).listen();
   addEventListener("paste", (event) => {
     if (event.target.closest?.("textarea, input")) return;
     const { files } = event.clipboardData;
@@ -131,6 +171,7 @@ function listSamples() {
 
 listenToFiles();
 listenToText();
+listenToForms();
 at("module").textContent = cimaroly.isLowered
   ? "This browser has no 64-bit WebAssembly memory, so a 32-bit translation of the library is used, which the proofs don’t cover."
   : "";

@@ -6,9 +6,12 @@ import { captionOf, isPrivate, titleOf } from "./summary.mjs";
 
 /** An entry: one structure, or a PEM block that is none. */
 export class Entry {
-  constructor(cimaroly, { file, line, label, kind, bytes, outcome, reason, format = null }) {
+  constructor(cimaroly, { file, line, label, kind, bytes, outcome, reason, format = null, ...made }) {
     Object.assign(this, { cimaroly, file, line, label, bytes, outcome, reason, format });
     this.labelKind = kind;
+    // of what was made on the page: what there is to be said of it, and the private key that was made with it
+    const { remark = "", privateKey = null } = made;
+    Object.assign(this, { remark, privateKey });
   }
 
   /** The types that the bytes can be read as if no label says one; the first is taken. */

@@ -9,18 +9,29 @@ const PAGE = 100;
 export class List {
   constructor(choose) {
     this.choose = choose;
+    this.structures = [];
   }
 
   /** Lists structures, and shows the first that is read. */
   show(structures) {
+    const readable = structures.findIndex((it) => it.kind !== null);
+    this.showAt(structures, Math.max(readable, 0));
+  }
+
+  /** Lists a structure behind the others, and shows it. */
+  add(structure) {
+    this.showAt([...this.structures, structure], this.structures.length);
+    at("structure-list").lastElementChild?.scrollIntoView({ block: "nearest" });
+  }
+
+  showAt(structures, index) {
     this.structures = structures;
-    this.from = 0;
+    this.current = index;
+    this.from = index - (index % PAGE);
     at("structures").hidden = structures.length < 2;
     at("structures-title").textContent = counted(structures.length, "structure");
-    const readable = structures.findIndex((it) => it.kind !== null);
-    this.current = Math.max(readable, 0);
     if (structures.length >= 2) this.build();
-    this.choose(structures[this.current]);
+    this.choose(structures[index]);
   }
 
   pick(index) {

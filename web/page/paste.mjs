@@ -1,28 +1,14 @@
 // The form that takes pasted text: a button opens and closes it.
 
 import { at } from "./dom.mjs";
+import { Drawer } from "./drawer.mjs";
 
 /** The form, which hands on what is read and closes then. */
 export class PasteForm {
-  constructor(take) {
+  constructor(take, group) {
     this.take = take;
-  }
-
-  /** Listens to its buttons and keys. */
-  listen() {
-    at("paste-open").addEventListener("click", () => this.turn(at("paste").hidden));
+    this.drawer = new Drawer({ button: at("paste-open"), form: at("paste"), first: at("pasted"), group });
     at("paste").addEventListener("submit", (event) => this.submit(event));
-    at("paste").addEventListener("keydown", (event) => {
-      if (event.key !== "Escape") return;
-      this.turn(false);
-      at("paste-open").focus();
-    });
-  }
-
-  turn(isOpen) {
-    at("paste").hidden = !isOpen;
-    at("paste-open").setAttribute("aria-expanded", String(isOpen));
-    if (isOpen) at("pasted").focus();
   }
 
   submit(event) {
@@ -32,7 +18,7 @@ export class PasteForm {
     if (!at("pasted").reportValidity()) return;
     // (it may be a private key)
     at("pasted").value = "";
-    this.turn(false);
+    this.drawer.turn(false);
     this.take(text);
   }
 }

@@ -4,11 +4,12 @@ import { Bytes } from "./bytes.mjs";
 import { sentenceOn } from "./deviations.mjs";
 import { Detail } from "./detail.mjs";
 import { digestsOf, digestsToCome } from "./digests.mjs";
-import { at, make, save, withTimes } from "./dom.mjs";
+import { at, make, withTimes } from "./dom.mjs";
 import { headerLength } from "./elements.mjs";
 import { fieldOver, fieldsOf } from "./fields.mjs";
 import { Identifiers } from "./identifiers.mjs";
 import { KINDS, toBase64 } from "../pem.mjs";
+import { Saving } from "./saving.mjs";
 import { Sheet } from "./sheet.mjs";
 import { standingOf, summaryOf, titleOf } from "./summary.mjs";
 import { clipped, counted, grouped, hexOf, shown } from "./text.mjs";
@@ -22,6 +23,7 @@ const LONGEST_LINK = 200_000;
 export class Result {
   constructor(cimaroly) {
     this.cimaroly = cimaroly;
+    this.saving = new Saving(cimaroly, (text) => this.note(text));
     this.identifiers = new Identifiers(cimaroly);
     this.uncovered = new Set();
     this.detail = new Detail(at("detail"), (field) => this.tree.select(field));
@@ -43,8 +45,6 @@ export class Result {
   listen() {
     at("open-all").addEventListener("click", () => this.tree.foldAll(true));
     at("fold-all").addEventListener("click", () => this.tree.foldAll(false));
-    at("save-der").addEventListener("click", () => this.saveDer());
-    at("save-report").addEventListener("click", () => this.saveReport());
     at("copy-link").addEventListener("click", () => this.copyLink());
     at("more-deviations").addEventListener("click", () => this.listDeviations(this.listed + 200));
     at("kind").append(...KINDS.map((it) => make("option", { value: it }, titleOf(it))));
@@ -98,8 +98,7 @@ export class Result {
     verdict.textContent = verdictOf(report);
     at("result").dataset.result = report.result;
     this.drawStanding(report);
-    at("save-der").disabled = !this.isRead;
-    at("save-report").disabled = structure.kind === null;
+    this.saving.use(structure, this.isRead);
     at("copy-link").disabled = this.whyNoLink() !== "";
     at("copy-link").title = this.whyNoLink();
     at("kind").value = structure.kind ?? "";
@@ -114,11 +113,11 @@ export class Result {
     at("standing").textContent = standing === null ? "" : sentenceCase(standing);
   }
 
-  // What else the bytes may be, if no label says what is meant.
+  // What is to be said of what was made, and what else the bytes may be, if no label says what is meant.
   drawOthers() {
     const { structure } = this;
     const others = structure.kinds.filter((it) => it !== structure.kind);
-    const parts = [];
+    const parts = structure.remark === "" ? [] : [structure.remark];
     if (structure.kinds.length > 1 && others.length > 0) {
       parts.push(`These bytes can also be read as: ${others.map((it) => titleOf(it).toLowerCase()).join(", ")}.`);
     }
@@ -311,15 +310,6 @@ export class Result {
     } catch {
       this.note("The link is in the address bar. It contains the whole structure, after the #, which browsers never send to a server.");
     }
-  }
-
-  saveDer() {
-    const { structure } = this;
-    save(`${structure.kind}.der`, "application/octet-stream", this.cimaroly.encode(structure.bytes, structure.kind));
-  }
-
-  saveReport() {
-    save(`${this.structure.kind}.json`, "application/json", `${this.structure.reportText}\n`);
   }
 
   note(text) {
