@@ -22,7 +22,7 @@ const cimaroly = await loaded.catch((error) => {
   tell(`The certificate reader couldn’t be loaded: ${error.message}`);
   throw error;
 });
-const result = new Result(cimaroly);
+const result = new Result(cimaroly, takeEdited);
 const list = new List((structure) => result.show(structure));
 // The requests whose private keys are in the page alone: they stay in the list.
 const withKeys = [];
@@ -69,6 +69,12 @@ function takeRequest({ bytes, privateKey }) {
       ? "The private key wasn’t kept, as you didn’t ask to save it."
       : "The private key is only in this page’s memory: save it before you close the page.";
   add({ file: "made in this browser", kind: "request", bytes, privateKey, remark });
+}
+
+function takeEdited({ bytes, kind }, { file }) {
+  const isSigned = kind === "certificate" || kind === "request";
+  const remark = isSigned ? "The signature was left as it stood: it no longer fits what was changed." : "";
+  add({ file, kind, bytes, isEdited: true, remark });
 }
 
 async function takeFiles(files) {

@@ -2,7 +2,6 @@
 
 import { lastElements } from "./elements.mjs";
 import { NotJson, jsonOf, placesIn, positionIn } from "./json.mjs";
-import { isPrivate } from "./summary.mjs";
 import { hex, shown } from "./text.mjs";
 import { isNode } from "./values.mjs";
 
@@ -10,8 +9,8 @@ import { isNode } from "./values.mjs";
 const LONGEST = 200_000;
 
 /** Why a structure can't be edited; "" if it can. */
-export function whyNotEdited({ kind, bytes, report, isPrivate: isSecret }) {
-  if (isSecret || isPrivate(kind ?? "")) return "Private keys can’t be edited.";
+export function whyNotEdited({ kind, bytes, report, isPrivate }) {
+  if (isPrivate) return "Private keys can’t be edited.";
   if (report.result !== "ok" && report.result !== "deviations") return "Only what is read can be edited.";
   if (kind === "raw-algorithm") return "This type can’t be edited.";
   return bytes.length > LONGEST ? "This is too large to be edited." : "";

@@ -10,8 +10,8 @@ export class Entry {
     Object.assign(this, { cimaroly, file, line, label, bytes, outcome, reason, format });
     this.labelKind = kind;
     // of what was made on the page: what there is to be said of it, and the private key that was made with it
-    const { remark = "", privateKey = null } = made;
-    Object.assign(this, { remark, privateKey });
+    const { remark = "", privateKey = null, isEdited = false } = made;
+    Object.assign(this, { remark, privateKey, isEdited });
   }
 
   /** The types that the bytes can be read as if no label says one; the first is taken. */
@@ -88,7 +88,7 @@ export class Entry {
 
   /** What it is called. */
   get title() {
-    if (this.kind !== null) return titleOf(this.kind);
+    if (this.kind !== null) return `${titleOf(this.kind)}${this.isEdited ? ", edited" : ""}`;
     return this.label ?? this.format?.name.replace(/^an? /, "").replace(/^e/, "E") ?? "Unrecognized input";
   }
 

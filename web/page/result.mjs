@@ -5,6 +5,7 @@ import { sentenceOn } from "./deviations.mjs";
 import { Detail } from "./detail.mjs";
 import { digestsOf, digestsToCome } from "./digests.mjs";
 import { at, make, withTimes } from "./dom.mjs";
+import { EditForm } from "./editor.mjs";
 import { headerLength } from "./elements.mjs";
 import { fieldOver, fieldsOf } from "./fields.mjs";
 import { Identifiers } from "./identifiers.mjs";
@@ -19,11 +20,12 @@ import { elementsOf } from "./unread.mjs";
 const FIRST = 24;
 const LONGEST_LINK = 200_000;
 
-/** The view of one structure. */
+/** The view of one structure. What is made by editing it is handed to `takeEdited`. */
 export class Result {
-  constructor(cimaroly) {
+  constructor(cimaroly, takeEdited) {
     this.cimaroly = cimaroly;
     this.saving = new Saving(cimaroly, (text) => this.note(text));
+    this.editing = new EditForm(cimaroly, takeEdited);
     this.identifiers = new Identifiers(cimaroly);
     this.uncovered = new Set();
     this.detail = new Detail(at("detail"), (field) => this.tree.select(field));
@@ -99,6 +101,7 @@ export class Result {
     at("result").dataset.result = report.result;
     this.drawStanding(report);
     this.saving.use(structure, this.isRead);
+    this.editing.use(structure);
     at("copy-link").disabled = this.whyNoLink() !== "";
     at("copy-link").title = this.whyNoLink();
     at("kind").value = structure.kind ?? "";
