@@ -9,10 +9,11 @@ import { mkdirSync, writeFileSync } from "node:fs";
 import { Browser } from "./chromium.mjs";
 import { pathOf } from "./data.mjs";
 import { checks as pageChecks } from "./browser_checks.mjs";
+import { makeChecks } from "./make_checks.mjs";
 import { useChecks } from "./use_checks.mjs";
 
 const OUT = pathOf("web/out");
-const checks = [...pageChecks, ...useChecks];
+const checks = [...pageChecks, ...useChecks, ...makeChecks];
 
 // The address of web/ by the server of python3, as README has it.
 async function serve() {

@@ -300,8 +300,8 @@ async function times(context) {
 
 const LOOKED_AT = ["certificate_deviations", "certificate_rsa", "refused_month_13", "private_key_rsa", "hostile_names"];
 
-// Keeps a screenshot, and sees that all fits and can be read.
-async function look({ keep }, page, what, { width, scheme }) {
+/** Keeps a screenshot, and sees that all fits and can be read. */
+export async function look({ keep }, page, what, { width, scheme }) {
   await keep(page, `${what}-${width}-${scheme}`);
   assert.ok((await page.run("document.documentElement.scrollWidth")) <= width, `${what} is wider than ${width}`);
   const [ratio, whose] = await page.run(inPage.CONTRAST);
@@ -328,15 +328,16 @@ async function lookAtAll(context, size) {
   });
 }
 
+/** The windows in which all is looked at. */
+export const WINDOWS = [
+  { width: 1280, height: 900 },
+  { width: 360, height: 740 },
+  { width: 430, height: 932 },
+].flatMap((size) => ["light", "dark"].map((scheme) => ({ ...size, scheme })));
+
 async function looks(context) {
   const ratios = [];
-  for (const [width, height] of [
-    [1280, 900],
-    [360, 740],
-    [430, 932],
-  ]) {
-    for (const scheme of ["light", "dark"]) ratios.push(await lookAtAll(context, { width, height, scheme }));
-  }
+  for (const size of WINDOWS) ratios.push(await lookAtAll(context, size));
   return `the least contrast is ${Math.min(...ratios).toFixed(2)}`;
 }
 

@@ -27,7 +27,7 @@ export const text = (id) => `document.getElementById("${id}").textContent`;
 /** Clicks the first element that a selector finds. */
 export const click = (selector) => `document.querySelector(${JSON.stringify(selector)}).click()`;
 
-// What a button saves, as a blob.
+// What a button saves, as a blob; null if it saves nothing.
 const saved = (id, take) => `(async () => {
   let saved = null;
   const make = URL.createObjectURL;
@@ -36,6 +36,8 @@ const saved = (id, take) => `(async () => {
     return make.call(URL, blob);
   };
   document.getElementById("${id}").click();
+  // (a key is exported first)
+  for (let step = 0; step < 50 && saved === null; step += 1) await new Promise((resolve) => setTimeout(resolve, 10));
   URL.createObjectURL = make;
   return ${take};
 })()`;
@@ -48,6 +50,10 @@ export const SAVED_DER = saved(
   "save-der",
   'Array.from(new Uint8Array(await saved.arrayBuffer()), (it) => it.toString(16).padStart(2, "0")).join("")',
 );
+
+/** The PEM that it saves, and the private key, or null. */
+export const SAVED_PEM = saved("save-pem", "saved.text()");
+export const SAVED_KEY = saved("save-key", "saved && saved.text()");
 
 /** How many elements a selector finds. */
 export const count = (selector) => `document.querySelectorAll(${JSON.stringify(selector)}).length`;

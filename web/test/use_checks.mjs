@@ -94,7 +94,7 @@ async function focusOrder(context) {
     assert.deepEqual(reached, ["save-report", "copy-link", "kind", "open-all", "fold-all", "tree", "sheet-toggle", "bytes"]);
   });
   await withPage(context, DESKTOP, async (page) => {
-    assert.deepEqual(await order(page, 4), ["name", "choose", "paste-open", "sample"]);
+    assert.deepEqual(await order(page, 5), ["name", "choose", "paste-open", "request-open", "sample"]);
   });
 }
 
