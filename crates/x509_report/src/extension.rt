@@ -44,6 +44,7 @@ pub fn extension<A: Allocator + Copy, S: Limited>(
     let label = Label::Extension {
         content: value.extn_id().0.content(),
         is_critical: value.critical(),
+        octets: None,
     };
     let view = value.extn_value();
     if let ExtensionView::Generic(octets) = view {

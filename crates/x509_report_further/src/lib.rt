@@ -58,6 +58,24 @@ pub(crate) fn malformed(octets: &[u8], error: ReadError, at: usize) -> Value<'_>
     Value::Malformed { octets, reason, at }
 }
 
+/// The place of an extension whose octets are told too, since what is told of them by fields doesn't make them again.
+fn with_octets<'a>(place: Place<'a>, octets: &'a [u8]) -> Place<'a> {
+    let Label::Extension {
+        content,
+        is_critical,
+        ..
+    } = place.label
+    else {
+        return place;
+    };
+    let label = Label::Extension {
+        content,
+        is_critical,
+        octets: Some(octets),
+    };
+    Place { label, ..place }
+}
+
 /// Tells an extension by what its octets hold, and where they encode no such extension, why not. Answers whether it did: not
 /// where the identifier is none that is known. Then nothing is told.
 ///
@@ -72,7 +90,7 @@ pub fn further<A: Allocator + Copy, S: Limited>(
 ) -> Result<bool, S::Error> {
     match view_octets(alloc, identifier, octets) {
         Some(Ok((value, deviations))) => {
-            let told = tell(sink, alloc, place, &value);
+            let told = tell(sink, alloc, with_octets(place, octets), &value);
             drop(value);
             let is_told = told?;
             sink.deviating(deviations.total())?;

@@ -64,6 +64,7 @@ fn extension<A: Allocator + Copy, S: Limited>(
         label: Label::Extension {
             content,
             is_critical: value.critical,
+            octets: None,
         },
         span: at.span,
         inside: inside_of(at),

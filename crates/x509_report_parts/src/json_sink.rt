@@ -162,11 +162,16 @@ impl<A: Allocator + Copy> JsonSink<A> {
             Label::Extension {
                 content,
                 is_critical,
+                octets,
             } => {
                 self.object(span)?;
                 self.identifier(content)?;
                 self.writer.key("critical")?;
-                self.writer.boolean(is_critical)
+                self.writer.boolean(is_critical)?;
+                match octets {
+                    Some(octets) => self.der(&Hex(octets)),
+                    None => Ok(()),
+                }
             }
         }
     }

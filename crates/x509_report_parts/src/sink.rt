@@ -16,6 +16,8 @@ pub enum Label<'a> {
         content: &'a [u8],
         /// Whether the extension is critical.
         is_critical: bool,
+        /// Its octets, where they are told beside what was read from them, so that it can be made again.
+        octets: Option<&'a [u8]>,
     },
 }
 
