@@ -41,7 +41,7 @@ BUDGETS = [
     (3, ["x509_make"]),
     (10, ["x509_signing", "x509_signature_algorithms", "x509_pem_writer", "x509_flat_make"]),
     (4, ["x509_make_parts", "x509_oids_by_name"]),
-    (3, ["x509_make_values", "x509_make_names"]),
+    (4, ["x509_make_values", "x509_make_names", "x509_make_fields"]),
     (3, ["x509_hosts"]),
     (3, ["x509_more_extensions"]),
     (14, ["x509_policies", "x509_distribution_points", "x509_qualified", "x509_timestamps", "x509_further_extensions"]),

@@ -177,10 +177,53 @@ class Certificate(Made):
         self.assertRegex(text, r"^cimaroly: certificate: issuer: not a certificate")
 
 
+# Each extension that can be described in short, and one that can't, as OpenSSL has them in a configuration.
+EXTENSIONS = """[req]
+distinguished_name = name
+prompt = no
+x509_extensions = extensions
+[name]
+CN = Example Root
+[extensions]
+basicConstraints = critical, CA:TRUE, pathlen:1
+keyUsage = critical, keyCertSign, cRLSign
+extendedKeyUsage = OCSPSigning
+subjectKeyIdentifier = hash
+authorityKeyIdentifier = keyid:always
+subjectAltName = DNS:a.example, dirName:name
+issuerAltName = email:ca@b.example, URI:https://example.org/, RID:1.2.3
+1.3.6.1.4.1.99999.7 = critical, ASN1:UTF8String:x
+"""
+DESCRIPTION = {
+    "type": "tbs-certificate",
+    "serialNumber": "1a2b",
+    "signature": "Ed25519",
+    "issuer": "subject",
+    "subject": "CN=Example Root",
+    "basicConstraints": {"ca": True, "pathLen": 1},
+    "keyUsage": ["keyCertSign", "cRLSign"],
+    "extendedKeyUsage": ["OCSPSigning"],
+    "subjectKeyIdentifier": "hash",
+    "authorityKeyIdentifier": "keyid",
+    "names": ["DNS:a.example", "dirName:CN=Example Root"],
+    "issuerNames": ["email:ca@b.example", "URI:https://example.org/", "RID:1.2.3"],
+    "extensions": [{"id": "1.3.6.1.4.1.99999.7", "critical": True, "value": "0c0178"}],
+}
+
+
 @NEEDS_PROGRAM
 @NEEDS_OPENSSL
 class Descriptions(Made):
     """cimaroly make."""
+
+    def test_every_extension(self):
+        configuration = self.path("cnf", EXTENSIONS.encode())
+        words = ["-set_serial", "0x1a2b", "-days", "30", "-config", configuration, "-key", self.path("key")]
+        openssl("req", "-x509", *words, "-out", self.path("cert"))
+        told = json.loads(run("show", "--json", self.path("cert"))[0])["Certificate"]["tbsCertificate"]["validity"]
+        times = {name: told[name]["value"] for name in ("notBefore", "notAfter")}
+        description = {**DESCRIPTION, **times, "key": self.data("pub").decode()}
+        self.assertEqual(self.written("make", data=json.dumps(description).encode()), self.written("signed", self.path("cert")))
 
     def test_json_is_what_is_made(self):
         words = ["request", "--subject", SUBJECT, "--key", self.path("pub"), *OPTIONS]

@@ -63,7 +63,7 @@ test("what is wrong is told with its place", () => {
     ["", "Line 1, column 1: this isn’t JSON.", ""],
     ['{"type":\n "name" x}', "Line 2, column 9: this isn’t JSON.", "x"],
     ['{"type": "name"}', "Line 1: Name is missing", '{"type": "name"}'],
-    ['{"type": "private-key"}', /^Line 1: type: not a type that is made/, '"private-key"'],
+    ['{"type": "crl"}', /^Line 1: type: not a type that is made/, '"crl"'],
     ['{"type": "name",\n "Name": "Z"}', /^Line 2: Name: not a name/, '"Z"'],
     ['{"type": "name",\n "Name":\n {"2.5.4.3": 3}}', "Line 3: Name.2.5.4.3: not a text", "3"],
     ['{"type": "name", "Name": {"items": [\n{"items": []},\n3]}}', /^Line 3: Name\.items\[1\]: /, "3"],

@@ -5,7 +5,6 @@ ghost use Rattle.x509_make_whole.specs.Encodings.{IsMade};
 
 use json::{Error, Scratch, Value};
 use std::alloc::{AllocError, Allocator};
-use x509_der::ReadError;
 use x509_make_whole::{Fault, Made, NotMade, Why, make_of};
 
 /// Nothing is made, at no place.
@@ -42,14 +41,6 @@ fn completed<'a, A: Allocator + Copy>(
     add_member(&mut root, "key", key)?;
     add_member(&mut root, "issuer", issuer)?;
     Ok(root)
-}
-
-/// Whether nothing was made for want of memory.
-pub fn is_memory<A: Allocator>(why: &NotMade<A>) -> bool {
-    matches!(
-        why.why,
-        Why::Fault(Fault::OutOfMemory) | Why::Refused(ReadError::OutOfMemory)
-    )
 }
 
 /// Makes the structure that a text of JSON describes, with a key and an issuer that stand beside it: what it is, and

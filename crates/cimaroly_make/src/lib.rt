@@ -5,5 +5,5 @@ pub mod completed;
 pub mod members;
 pub mod texts;
 
-pub use crate::completed::{is_memory, made};
+pub use crate::completed::made;
 pub use x509_make_whole::{Made, NotMade};

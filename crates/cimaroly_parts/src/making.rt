@@ -5,7 +5,7 @@ use crate::terminal::Terminal;
 use crate::whole::{bytes_of, is_bare, output_option, put, put_bytes};
 use anyhow::Error;
 use cimaroly_make::texts::{as_pem, base64_line};
-use cimaroly_make::{NotMade, is_memory, made};
+use cimaroly_make::{NotMade, made};
 use cimaroly_work::{Status, Stop};
 use clap::{Arg, ArgMatches, Command};
 use std::alloc::{AllocError, Global};
@@ -113,7 +113,7 @@ where
 
 /// Nothing is made of a description.
 pub(crate) fn refused(path: &str, why: NotMade) -> Stop {
-    if is_memory(&why) {
+    if why.is_out_of_memory() {
         return Stop::memory();
     }
     Stop::at(Status::Refused, path, why)

@@ -4,17 +4,8 @@ ghost use Rattle.x509_flat_make.specs.Describing.{DescribesTo, Explains};
 
 use crate::{nothing, put};
 use std::alloc::Allocator;
-use x509_der::ReadError;
 use x509_flat::status::{Sized, Status};
-use x509_make_whole::{Fault, NotMade, Why, make};
-
-/// Whether nothing was made for want of memory.
-fn is_memory<A: Allocator>(why: &NotMade<A>) -> bool {
-    matches!(
-        why.why,
-        Why::Fault(Fault::OutOfMemory) | Why::Refused(ReadError::OutOfMemory)
-    )
-}
+use x509_make_whole::make;
 
 /// `make` of `x509_make_whole`, to the front of a slice.
 pub fn described<A: Allocator + Copy>(alloc: A, text: &str, out: &mut [u8]) -> Sized
@@ -22,7 +13,7 @@ pub fn described<A: Allocator + Copy>(alloc: A, text: &str, out: &mut [u8]) -> S
 {
     match make(alloc, text) {
         Ok((_made, bytes)) => put(&bytes, out),
-        Err(why) if is_memory(&why) => nothing(Status::OutOfMemory),
+        Err(why) if why.is_out_of_memory() => nothing(Status::OutOfMemory),
         Err(_why) => nothing(Status::Refused),
     }
 }
@@ -33,7 +24,7 @@ pub fn why_not_described<A: Allocator + Copy>(alloc: A, text: &str, out: &mut [u
 {
     match make(alloc, text) {
         Ok(_made) => nothing(Status::Refused),
-        Err(why) if is_memory(&why) => nothing(Status::OutOfMemory),
+        Err(why) if why.is_out_of_memory() => nothing(Status::OutOfMemory),
         Err(why) => match why.to_string(alloc) {
             Ok(message) => put(message.as_bytes(), out),
             Err(_refused) => nothing(Status::OutOfMemory),

@@ -1,11 +1,10 @@
 //! Certificates by their fields (RFC 5280, 4.1).
 
 use crate::extensions::extensions;
-use crate::members::{
-    algorithm_member, bits_member, has_items, integer_member, key_member, name_member, version_in,
-};
+use crate::members::{has_items, key_member, name_member, version_in};
 use json::Value;
 use std::alloc::Allocator;
+use x509_make_keys::members::{algorithm_member, bits_member, integer_member};
 use x509_make_parts::{Done, Fault, Maker, Place};
 use x509_make_values::Fields;
 use x509_make_values::bits::bits;

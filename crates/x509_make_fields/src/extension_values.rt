@@ -24,12 +24,19 @@ pub(crate) fn value_octets<A: Allocator + Copy>(
     Ok(())
 }
 
-/// Appends the elements that the member `value` gives in hexadecimal.
+/// Appends the elements that the member `der` gives in hexadecimal, beside which a report tells what they mean for people,
+/// or else the member `value`.
 pub(crate) fn value_given<A: Allocator + Copy>(
     maker: &mut Maker<A>,
     fields: &mut Fields<'_, '_, A>,
 ) -> Done {
-    fields.pass(&["asn1", "length"]);
+    if let Some(elements) = fields.enter(&mut maker.place, "der") {
+        given(maker, elements)?;
+        maker.place.leave();
+        fields.pass_all();
+        return Ok(());
+    }
+    fields.pass(&["asn1", "length", "malformed"]);
     let value = fields.need(&mut maker.place, "value")?;
     given(maker, value)?;
     maker.place.leave();

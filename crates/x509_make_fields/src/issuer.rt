@@ -1,10 +1,14 @@
 //! What is taken byte for byte of the issuer's certificate, its subject and the identifier of its key, and of a request,
 //! its subject and its key.
 
+ghost use Rattle.std.specs.Prelude.{IfSome};
+ghost use Rattle.x509_make_fields.specs.KeyBits.{KeyBits};
+
 use crate::pem::pem_bytes;
 use std::alloc::Allocator;
 use x509_der::parts::first_element;
 use x509_make_parts::{Done, Fault, Maker};
+use x509_report_parts::Cursor;
 
 /// An element: its tag, its content, the whole, and what comes behind it.
 #[derive(Clone, Copy, Drop)]
@@ -99,10 +103,14 @@ fn key_identifier(certificate: &[u8]) -> Option<&[u8]> {
 }
 
 /// The content of the bits of a public key with its algorithm, behind the number of unused bits (RFC 5280, 4.1.2.7).
-pub(crate) fn key_bits(key: &[u8]) -> Option<&[u8]> {
-    let whole = first(key)?;
-    let string = first(behind(whole.content, 1)?)?;
-    let (_unused, bits) = string.content.split_first()?;
+pub(crate) fn key_bits(key: &[u8]) -> Option<&[u8]>
+    ensures { IfSome result (λ bits. KeyBits key.now bits.now) }
+{
+    let mut key = Cursor::new(key);
+    let mut fields = key.take()?.inside;
+    let _algorithm = fields.take()?;
+    let string = fields.take()?.inside.rest;
+    let (_unused, bits) = string.split_first()?;
     Some(bits)
 }
 

@@ -1,11 +1,15 @@
 //! Public keys.
 
+ghost use Rattle.std.specs.Prelude.{◌≡◌, ◌++◌, List, ℕ, OnOk};
+ghost use Rattle.sha1.specs.Sha1.{sha1};
+ghost use Rattle.x509_make_fields.specs.KeyBits.{KeyBits};
+
 use crate::issuer::{key_bits, requested_key};
-use crate::members::{algorithm_member, integer_member};
 use crate::pem::{is_request, pem_bytes};
 use json::Value;
 use sha1::Sha1;
 use std::alloc::Allocator;
+use x509_make_keys::members::{algorithm_member, integer_member};
 use x509_make_parts::{Done, Fault, Maker};
 use x509_make_values::Fields;
 use x509_make_values::bits::bits;
@@ -62,7 +66,9 @@ pub fn public_key<A: Allocator + Copy>(maker: &mut Maker<A>, node: &Value<'_, A>
 ///
 /// # Errors
 /// `Said` where it is no key.
-pub(crate) fn key_digest<A: Allocator + Copy>(maker: &mut Maker<A>, key: &[u8]) -> Done {
+pub(crate) fn key_digest<A: Allocator + Copy>(maker: &mut Maker<A>, key: &[u8]) -> Done
+    ensures { OnOk result ((bits : List ℕ) × KeyBits key.now bits × (maker.new.out.items ≡ maker.old.out.items ++ sha1 bits)) }
+{
     let Some(bits) = key_bits(key) else {
         return Err(Fault::Said("no key to take the digest of"));
     };

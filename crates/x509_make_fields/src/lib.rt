@@ -1,7 +1,6 @@
 //! Certificates, requests and their parts of a description in JSON as elements: by their fields, or in a short form.
 #![tactic(auto)]
 
-pub mod algorithms;
 mod attributes;
 pub mod certificates;
 pub mod extension_values;

@@ -1,6 +1,5 @@
 //! Members of a structure that are values of one kind.
 
-use crate::algorithms::algorithm;
 use crate::issuer::requested_subject;
 use crate::keys::public_key;
 use crate::pem::is_pem;
@@ -10,8 +9,6 @@ use x509_make_names::names::name;
 use x509_make_parts::node::{check_leaf, flag_of, text_of};
 use x509_make_parts::{Done, Fault, Maker, Place};
 use x509_make_values::Fields;
-use x509_make_values::bits::bits;
-use x509_make_values::numbers::integer;
 
 /// Whether a node says yes or no.
 ///
@@ -35,36 +32,6 @@ pub(crate) fn version_in<'t, A: Allocator + Copy>(
 ) -> Result<&'t str, Fault> {
     check_leaf(place, node)?;
     text_of(node, "v1, v2 or v3")
-}
-
-/// Appends an INTEGER that is a member.
-///
-/// # Errors
-/// `Missing`, and those of `integer`.
-pub(crate) fn integer_member<A: Allocator + Copy>(
-    maker: &mut Maker<A>,
-    fields: &mut Fields<'_, '_, A>,
-    member: &'static str,
-) -> Done {
-    let from = maker.open();
-    let node = fields.need(&mut maker.place, member)?;
-    integer(maker, 0x02, node)?;
-    maker.leave_from(from)
-}
-
-/// Appends an algorithm that is a member.
-///
-/// # Errors
-/// `Missing`, and those of `algorithm`.
-pub(crate) fn algorithm_member<A: Allocator + Copy>(
-    maker: &mut Maker<A>,
-    fields: &mut Fields<'_, '_, A>,
-    member: &'static str,
-) -> Done {
-    let from = maker.open();
-    let node = fields.need(&mut maker.place, member)?;
-    algorithm(maker, node)?;
-    maker.leave_from(from)
 }
 
 /// Appends a name that is a member.
@@ -110,21 +77,6 @@ pub(crate) fn key_member<A: Allocator + Copy>(
     let from = maker.open();
     let node = fields.need(&mut maker.place, member)?;
     public_key(maker, node)?;
-    maker.leave_from(from)
-}
-
-/// Appends a BIT STRING that is a member.
-///
-/// # Errors
-/// `Missing`, and those of `bits`.
-pub(crate) fn bits_member<A: Allocator + Copy>(
-    maker: &mut Maker<A>,
-    fields: &mut Fields<'_, '_, A>,
-    member: &'static str,
-) -> Done {
-    let from = maker.open();
-    let node = fields.need(&mut maker.place, member)?;
-    bits(maker, 0x03, node)?;
     maker.leave_from(from)
 }
 

@@ -1,22 +1,36 @@
 //! Requests by their fields (RFC 2986, 4).
 
 use crate::attributes::attributes;
-use crate::members::{algorithm_member, bits_member, key_member, name_member, version_in};
+use crate::members::{key_member, name_member};
 use json::Value;
 use std::alloc::Allocator;
-use x509_make_parts::{Done, Fault, Maker};
+use x509_make_keys::members::{algorithm_member, bits_member};
+use x509_make_parts::node::{bare, check_leaf};
+use x509_make_parts::{Done, Fault, Maker, Place};
 use x509_make_values::Fields;
-use x509_make_values::numbers::number;
+use x509_make_values::numbers::{number, number_of};
 
-/// Appends the version of a request, which is v1.
+/// The number of the version of a request that a node says: v1 is 0, and a report tells others by their numbers.
+fn version_of<A: Allocator + Copy>(place: &mut Place, node: &Value<'_, A>) -> Result<u64, Fault> {
+    check_leaf(place, node)?;
+    match bare(node) {
+        Value::String(text) => if *text == "v1" {
+            Ok(0)
+        } else {
+            Err(Fault::Not("v1"))
+        },
+        _ => number_of(node),
+    }
+}
+
+/// Appends the version of a request, which is v1 where none is told.
 fn version<A: Allocator + Copy>(maker: &mut Maker<A>, fields: &mut Fields<'_, '_, A>) -> Done {
+    let mut version = 0;
     if let Some(told) = fields.enter(&mut maker.place, "version") {
-        if version_in(&mut maker.place, told)? != "v1" {
-            return Err(Fault::Not("v1"));
-        }
+        version = version_of(&mut maker.place, told)?;
         maker.place.leave();
     }
-    number(maker, 0x02, 0)
+    number(maker, 0x02, version)
 }
 
 /// Appends a `CertificationRequestInfo` by its fields (RFC 2986, 4.1).

@@ -2,12 +2,13 @@
 
 use crate::certificates::{put_version, validity};
 use crate::issuer::subject_of;
-use crate::members::{algorithm_member, integer_member, key_member, subject_member};
+use crate::members::{key_member, subject_member};
 use crate::pem::is_pem;
 use crate::short_extensions::{OF_CERTIFICATES, short_extensions};
 use crate::short_requests::written_from;
 use json::Value;
 use std::alloc::Allocator;
+use x509_make_keys::members::{algorithm_member, integer_member};
 use x509_make_names::names::name;
 use x509_make_parts::{Done, Maker};
 use x509_make_values::Fields;

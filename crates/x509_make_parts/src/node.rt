@@ -67,6 +67,17 @@ pub fn check_leaf<A: Allocator + Copy>(place: &mut Place, node: &Value<'_, A>) -
     }
 }
 
+/// Sees that a node isn't a secret that a report leaves out.
+///
+/// # Errors
+/// `Said`.
+pub fn check_shown<A: Allocator + Copy>(node: &Value<'_, A>) -> Done {
+    if node.get("hidden").is_some() {
+        return Err(Fault::Said("hidden: the report was made without --secrets"));
+    }
+    Ok(())
+}
+
 /// The text of a node.
 ///
 /// # Errors
@@ -75,9 +86,7 @@ pub fn text_of<'t, A: Allocator + Copy>(
     node: &'t Value<'_, A>,
     what: &'static str,
 ) -> Result<&'t str, Fault> {
-    if node.get("hidden").is_some() {
-        return Err(Fault::Said("hidden: the report was made without --secrets"));
-    }
+    check_shown(node)?;
     match bare(node) {
         Value::String(text) => Ok(*text),
         _ => Err(Fault::Not(what)),

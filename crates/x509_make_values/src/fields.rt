@@ -121,6 +121,11 @@ impl<'t, 'v, A: Allocator + Copy> Fields<'t, 'v, A> {
         }
     }
 
+    /// Takes all members.
+    pub fn pass_all(&mut self) {
+        self.taken = [true; ROOM];
+    }
+
     /// The first member that wasn't taken.
     fn left(&self) -> Option<usize> {
         for (index, _) in self.members.iter().enumerate() {

@@ -8,7 +8,7 @@ use crate::hexadecimal::hex_bytes;
 use json::Value;
 use std::alloc::Allocator;
 use x509_der::IntegerAsn1;
-use x509_make_parts::node::{bare, check_leaf};
+use x509_make_parts::node::{bare, check_leaf, check_shown};
 use x509_make_parts::{Done, Fault, Maker};
 
 /// Appends a number.
@@ -66,9 +66,10 @@ pub fn number_of<A: Allocator + Copy>(node: &Value<'_, A>) -> Result<u64, Fault>
 /// JSON is one in decimal; the `value` of a node is the content in hexadecimal, in two's complement, as a report has it.
 ///
 /// # Errors
-/// `Not` where a node says none, and those of `check_leaf`.
+/// `Not` where a node says none, `Said` where it is hidden, and those of `check_leaf`.
 pub fn integer<A: Allocator + Copy>(maker: &mut Maker<A>, tag: u8, node: &Value<'_, A>) -> Done {
     check_leaf(&mut maker.place, node)?;
+    check_shown(node)?;
     if let Value::String(text) = node {
         return unsigned(maker, tag, *text);
     }

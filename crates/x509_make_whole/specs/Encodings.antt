@@ -7,6 +7,10 @@ use Rattle.picky_asn1_x509.specs.ExtensionLists.{extensions}
 use Rattle.picky_asn1_x509.specs.Requests.{request, request_info}
 use Rattle.picky_asn1_x509.specs.TbsCertificates.{tbs_certificate}
 use Rattle.x509_keys.specs.AlgorithmIdentifier.{algorithm_identifier}
+use Rattle.x509_keys.specs.EcPrivateKeys.{ec_private_key}
+use Rattle.x509_keys.specs.PrivateKeyInfos.{private_key_info}
+use Rattle.x509_keys.specs.RawAlgorithm.{raw_algorithm}
+use Rattle.x509_keys.specs.RsaPrivateKeys.{rsa_private_key}
 use Rattle.x509_keys.specs.RsaPublicKeys.{rsa_public_key}
 use Rattle.x509_keys.specs.SubjectPublicKeyInfos.{subject_public_key_info}
 use Rattle.x509_names.specs.Names.{name}
@@ -32,3 +36,7 @@ IsMade A made.RsaPublicKey bytes = IsDer (rsa_public_key {A = A}) bytes
 IsMade A made.Name bytes = IsDer (name {A = A}) bytes
 IsMade A made.Extensions bytes = IsDer (extensions {A = A}) bytes
 IsMade A made.Algorithm bytes = IsDer (algorithm_identifier {A = A}) bytes
+IsMade A made.RawAlgorithm bytes = IsDer raw_algorithm bytes
+IsMade A made.PrivateKey bytes = IsDer (private_key_info {A = A}) bytes
+IsMade A made.RsaPrivateKey bytes = IsDer (rsa_private_key {A = A}) bytes
+IsMade A made.EcPrivateKey bytes = IsDer (ec_private_key {A = A}) bytes

@@ -6,11 +6,13 @@ ghost use Rattle.x509_make_whole.specs.Encodings.{IsDer, IsMade};
 use crate::made::Made;
 use crate::not_made::Why;
 use picky_asn1_x509::{
-    AlgorithmIdentifier, Certificate, CertificationRequest, CertificationRequestInfo, Extensions,
-    Name, RsaPublicKey, SubjectPublicKeyInfo, TbsCertificate,
+    AlgorithmIdentifier, Certificate, CertificationRequest, CertificationRequestInfo, ECPrivateKey,
+    Extensions, Name, PrivateKeyInfo, RawAlgorithmIdentifier, RsaPrivateKey, RsaPublicKey,
+    SubjectPublicKeyInfo, TbsCertificate,
 };
 use std::alloc::Allocator;
-use x509_der::{FromDer, check_located, read_explained};
+use x509_der::{FromDer, ReadError, Refused, check_located, read_explained};
+use x509_make_parts::Fault;
 
 /// Why bytes aren't the DER encoding of a value, and at which byte.
 #[derive(Clone, Copy, Drop)]
@@ -24,6 +26,18 @@ fn first_deviation<T: FromDer<A>, A: Allocator + Copy>(alloc: A, bytes: &[u8]) -
     match check_located::<T, A>(alloc, bytes) {
         Ok(places) => places.first().map_or(0, |place| place.start),
         Err(_) => 0,
+    }
+}
+
+/// Why bytes that a reader refuses don't fit.
+fn why_unfit(refused: Refused) -> Unfit {
+    let why = match refused.error {
+        ReadError::OutOfMemory => Why::Fault(Fault::OutOfMemory),
+        error => Why::Refused(error),
+    };
+    Unfit {
+        why,
+        at: refused.at,
     }
 }
 
@@ -43,10 +57,7 @@ fn accepted<T: FromDer<A>, A: Allocator + Copy>(alloc: A, bytes: &[u8]) -> Resul
                 })
             }
         }
-        Err(refused) => Err(Unfit {
-            why: Why::Refused(refused.error),
-            at: refused.at,
-        }),
+        Err(refused) => Err(why_unfit(refused)),
     }
 }
 
@@ -68,5 +79,9 @@ pub(crate) fn check_made<A: Allocator + Copy>(
         Made::Name => accepted::<Name<A>, A>(alloc, bytes),
         Made::Extensions => accepted::<Extensions<A>, A>(alloc, bytes),
         Made::Algorithm => accepted::<AlgorithmIdentifier<A>, A>(alloc, bytes),
+        Made::RawAlgorithm => accepted::<RawAlgorithmIdentifier<A>, A>(alloc, bytes),
+        Made::PrivateKey => accepted::<PrivateKeyInfo<A>, A>(alloc, bytes),
+        Made::RsaPrivateKey => accepted::<RsaPrivateKey<A>, A>(alloc, bytes),
+        Made::EcPrivateKey => accepted::<ECPrivateKey<A>, A>(alloc, bytes),
     }
 }

@@ -3,13 +3,14 @@
 use crate::made::Made;
 use json::Value;
 use std::alloc::Allocator;
-use x509_make_fields::algorithms::algorithm;
 use x509_make_fields::certificates::{certificate, tbs_certificate};
 use x509_make_fields::extensions::extensions;
 use x509_make_fields::keys::{public_key, rsa_public_key};
 use x509_make_fields::requests::{request, request_info};
 use x509_make_fields::short_certificates::short_certificate;
 use x509_make_fields::short_requests::short_request;
+use x509_make_keys::algorithms::{algorithm, raw_algorithm};
+use x509_make_keys::private_keys::{ec_private_key, private_key_info, rsa_private_key};
 use x509_make_names::names::name;
 use x509_make_parts::node::text_of;
 use x509_make_parts::{Done, Fault, Maker};
@@ -43,6 +44,10 @@ fn structure<A: Allocator + Copy>(maker: &mut Maker<A>, made: Made, node: &Value
         Made::Name => name(maker, node),
         Made::Extensions => extensions(maker, node),
         Made::Algorithm => algorithm(maker, node),
+        Made::RawAlgorithm => raw_algorithm(maker, node),
+        Made::PrivateKey => private_key_info(maker, node),
+        Made::RsaPrivateKey => rsa_private_key(maker, node),
+        Made::EcPrivateKey => ec_private_key(maker, node),
     }
 }
 

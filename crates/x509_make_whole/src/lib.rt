@@ -59,10 +59,11 @@
 //!
 //! Everything can also be written as docs/JSON.md tells it, in a member with the name of the type: `{"type":
 //! "certificate", "Certificate": {"tbsCertificate": ..}}`. Types are `request-info`, `tbs-certificate`, `certificate`,
-//! `request`, `public-key`, `rsa-public-key`, `name`, `extensions` and `algorithm`. Wherever a node stands, its bare
-//! value may stand: a list for a node with `items`, a name or dots for an object identifier, a text or a number for
-//! `{"value": ..}`. `at`, `name` beside `id`, `asn1`, `bits`, versions, and what a report says around the structure
-//! may be left out. The octets of extensions that the encoding keeps as octets are their `value` in hexadecimal.
+//! `request`, `public-key`, `rsa-public-key`, `name`, `extensions`, `algorithm`, `raw-algorithm`, `private-key`,
+//! `rsa-private-key` and `ec-private-key`. Wherever a node stands, its bare value may stand: a list for a node with
+//! `items`, a name or dots for an object identifier, a text or a number for `{"value": ..}`. `at`, `name` beside `id`,
+//! `asn1`, `bits`, versions, and what a report says around the structure may be left out. The octets of extensions
+//! that the encoding keeps as octets are their `value` in hexadecimal, or their `der`, beside which nothing else counts.
 //!
 //! - Strings are PrintableStrings in countryName, serialNumber and dnQualifier, IA5Strings in emailAddress and
 //!   domainComponent, else UTF8Strings, if `asn1` doesn't say otherwise. A text that doesn't fit is refused.

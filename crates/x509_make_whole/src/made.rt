@@ -21,6 +21,14 @@ pub enum Made {
     Extensions,
     /// `AlgorithmIdentifier` (RFC 5280, 4.1.1.2), of an algorithm that is known.
     Algorithm,
+    /// The same with any parameters.
+    RawAlgorithm,
+    /// `PrivateKeyInfo`, or `OneAsymmetricKey` (RFC 5958, 2).
+    PrivateKey,
+    /// `RSAPrivateKey` (RFC 8017, A.1.2).
+    RsaPrivateKey,
+    /// `ECPrivateKey` (RFC 5915, 3).
+    EcPrivateKey,
 }
 
 impl Made {
@@ -36,6 +44,10 @@ impl Made {
             "name" => Some(Made::Name),
             "extensions" => Some(Made::Extensions),
             "algorithm" => Some(Made::Algorithm),
+            "raw-algorithm" => Some(Made::RawAlgorithm),
+            "private-key" => Some(Made::PrivateKey),
+            "rsa-private-key" => Some(Made::RsaPrivateKey),
+            "ec-private-key" => Some(Made::EcPrivateKey),
             _ => None,
         }
     }
@@ -51,7 +63,10 @@ impl Made {
             Made::RsaPublicKey => "RSAPublicKey",
             Made::Name => "Name",
             Made::Extensions => "Extensions",
-            Made::Algorithm => "AlgorithmIdentifier",
+            Made::Algorithm | Made::RawAlgorithm => "AlgorithmIdentifier",
+            Made::PrivateKey => "PrivateKeyInfo",
+            Made::RsaPrivateKey => "RSAPrivateKey",
+            Made::EcPrivateKey => "ECPrivateKey",
         }
     }
 
@@ -62,6 +77,9 @@ impl Made {
             Made::Request => Some("CERTIFICATE REQUEST"),
             Made::PublicKey => Some("PUBLIC KEY"),
             Made::RsaPublicKey => Some("RSA PUBLIC KEY"),
+            Made::PrivateKey => Some("PRIVATE KEY"),
+            Made::RsaPrivateKey => Some("RSA PRIVATE KEY"),
+            Made::EcPrivateKey => Some("EC PRIVATE KEY"),
             _ => None,
         }
     }

@@ -21,6 +21,14 @@ fn plain<A: Allocator + Copy>(alloc: A, why: Why) -> NotMade<A> {
     }
 }
 
+/// Whether a description is of a private key, of which no text is shown.
+fn is_secret<A: Allocator + Copy>(root: &Value<'_, A>) -> bool {
+    match root.get("type") {
+        Some(Value::String(name)) => name.ends_with("private-key"),
+        _ => false,
+    }
+}
+
 /// Nothing is made, at a place of the description.
 fn placed<A: Allocator + Copy>(
     alloc: A,
@@ -30,11 +38,11 @@ fn placed<A: Allocator + Copy>(
 ) -> NotMade<A> {
     match told(alloc, root, place) {
         Ok((path, word)) => {
-            let is_secret = word.contains("PRIVATE KEY");
+            let is_shown = !is_secret(root) && !word.contains("PRIVATE KEY");
             NotMade {
                 why,
                 path,
-                word: if is_secret { String::new(alloc) } else { word },
+                word: if is_shown { word } else { String::new(alloc) },
             }
         }
         Err(_) => plain(alloc, Why::Fault(Fault::OutOfMemory)),

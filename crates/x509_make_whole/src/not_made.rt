@@ -32,6 +32,13 @@ pub struct NotMade<A: Allocator = Global> {
     pub word: String<A>,
 }
 
+impl<A: Allocator> NotMade<A> {
+    /// Whether memory was refused, so that nothing is known of the description.
+    pub fn is_out_of_memory(&self) -> bool {
+        matches!(self.why, Why::Fault(Fault::OutOfMemory))
+    }
+}
+
 impl Display for Why {
     fn fmt<W: Write>(&self, f: &mut fmt::Formatter<W>) -> fmt::Result {
         match self {

@@ -8,7 +8,7 @@ use x509_make_parts::{Done, Maker};
 use x509_make_values::Fields;
 use x509_make_values::identifiers::{identified, identifier_in, identifier_of, put_identifier};
 use x509_make_values::numbers::integer;
-use x509_make_values::octets::octets;
+use x509_make_values::octets::{given, octets};
 
 /// Whether an algorithm has NULL for its parameters where none are given: RSA encryption and signatures of PKCS #1
 /// (RFC 8017, A.1 and A.2.4; RFC 8702 and NIST for SHA-3), and hash functions (RFC 5754, 2).
@@ -140,6 +140,38 @@ pub fn algorithm<A: Allocator + Copy>(maker: &mut Maker<A>, node: &Value<'_, A>)
         parameters(maker, told)?;
         maker.leave_from(from)?;
     } else if has_null(&named) {
+        maker.element(0x05, &[])?;
+    }
+    fields.finish(&mut maker.place)?;
+    maker.close(start, 0x30)
+}
+
+/// Appends parameters of which only the element is known: that of the member `der`, or as those of other algorithms.
+fn raw_parameters<A: Allocator + Copy>(maker: &mut Maker<A>, node: &Value<'_, A>) -> Done {
+    match node.get("der") {
+        Some(element) => {
+            check_leaf(&mut maker.place, node)?;
+            given(maker, element)
+        }
+        None => parameters(maker, node),
+    }
+}
+
+/// Appends an `AlgorithmIdentifier` with any parameters, NULL where none are told.
+///
+/// # Errors
+/// As `algorithm`.
+pub fn raw_algorithm<A: Allocator + Copy>(maker: &mut Maker<A>, node: &Value<'_, A>) -> Done {
+    let start = maker.open();
+    let mut fields = Fields::of(&mut maker.place, node)?;
+    let member = fields.need(&mut maker.place, "algorithm")?;
+    identified(maker, 0x06, member)?;
+    maker.place.leave();
+    let from = maker.open();
+    if let Some(told) = fields.enter(&mut maker.place, "parameters") {
+        raw_parameters(maker, told)?;
+        maker.leave_from(from)?;
+    } else {
         maker.element(0x05, &[])?;
     }
     fields.finish(&mut maker.place)?;

@@ -1,0 +1,2 @@
+-- What is taken of other structures.
+pub mod KeyBits
