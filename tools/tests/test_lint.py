@@ -113,6 +113,13 @@ class Program(unittest.TestCase):
         wanted = [line for it in RULES.values() for line in (f"{it.name} ({it.severity}, {it.clause}): {it.text}", f"    {it.reason}.")]
         self.assertEqual(out.decode().splitlines(), wanted)
 
+    def test_list_as_json(self):
+        out, error, status = run("lint", "--list", "--json")
+        self.assertEqual((error, status), (b"", 0))
+        members = ("rule", "severity", "text", "clause", "reason")
+        rows = ((it.name, it.severity, it.text, it.clause, f"{it.reason}.") for it in RULES.values())
+        self.assertEqual([json.loads(line) for line in out.splitlines()], [dict(zip(members, row)) for row in rows])
+
     def test_wrong_names(self):
         for option in ("--rule", "--ignore"):
             out, error, status = run("lint", option, "serial-too-long,serial\x1b", "-", data=certificate())

@@ -6,7 +6,7 @@ use crate::asked::{
 };
 use crate::describing::{certificate, certificate_command, request, request_command};
 use crate::files;
-use crate::lint::{Totals, lint_command, lint_settings, list_rules};
+use crate::lint::{Totals, lint_command, lint_settings, list_objects, list_rules};
 use crate::making::{make, make_command};
 use crate::progress::{Progress, Telling};
 use crate::signing::{assemble, assemble_command, signed, signed_command};
@@ -348,7 +348,11 @@ where
     R: Files<File = File> + Input + Print + Eprint + AllocGlobal + Clock + Clone + Drop,
 {
     if matches.get_flag("list") {
-        return list_rules(rt);
+        return if matches.get_flag("json") {
+            list_objects(rt)
+        } else {
+            list_rules(rt)
+        };
     }
     let settings = lint_settings(matches, terminal)?;
     let tally = work(rt, matches, settings, Telling::Never)?;

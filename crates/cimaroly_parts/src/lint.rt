@@ -8,10 +8,11 @@ use cimaroly_work::{Action, Format, RuleSet, Settings, Status, Stop, Tally};
 use clap::{Arg, ArgMatches, Command};
 use std::alloc::{AllocError, Global};
 use std::fmt::{self, Display, Write};
+use std::str;
 use x509_findings::Rule;
-use x509_report_parts::Layout;
 use x509_report_parts::shown::ShownBytes;
 use x509_report_parts::values::Count;
+use x509_report_parts::{JsonSink, Layout};
 
 /// `cimaroly lint`.
 pub(crate) fn lint_command<'a>(alloc: Global) -> Result<Command<'a>, AllocError> {
@@ -95,6 +96,31 @@ pub(crate) fn list_rules<R: Print>(rt: &R) -> Result<Status, Stop> {
         let (name, severity) = (rule.name(), rule.severity().name());
         println!(rt; "{name} ({severity}, {}): {}", rule.clause(), rule.text())?;
         println!(rt; "    {}", rule.reason())?;
+    }
+    Ok(Status::Der)
+}
+
+/// The object of a rule.
+fn object_of(alloc: Global, rule: Rule) -> Result<Vec<u8>, AllocError> {
+    let mut sink = JsonSink::new(alloc, Vec::new(alloc));
+    sink.writer().begin_object()?;
+    sink.member("rule", rule.name())?;
+    sink.member("severity", rule.severity().name())?;
+    sink.member("text", rule.text())?;
+    sink.member("clause", rule.clause())?;
+    sink.member("reason", rule.reason())?;
+    sink.writer().end_object()?;
+    sink.finish(alloc)
+}
+
+/// Prints an object for each rule, a line each.
+///
+/// # Errors
+/// Output failed, or memory is refused.
+pub(crate) fn list_objects<R: Print + AllocGlobal>(rt: &R) -> Result<Status, Stop> {
+    for rule in &Rule::ALL {
+        let object = object_of(rt.alloc(), *rule)?;
+        println!(rt; "{}", str::from_utf8(object.as_slice()).unwrap_or(""))?;
     }
     Ok(Status::Der)
 }
