@@ -250,6 +250,36 @@ struct cimaroly_usage {
     bool decipher_only;
 };
 
+/* Where the parts of a public key stand (RFC 5280, 4.1.2.7), without tags and lengths. */
+struct cimaroly_key {
+    struct cimaroly_span algorithm; /* of its identifier: 2A 86 48 CE 3D 02 01 is that of elliptic curves */
+    struct cimaroly_span curve;     /* of that of a named curve (RFC 5480, 2.1.1), or none */
+    size_t bits; /* the size of the modulus of RSA, of a curve's field, or of Ed25519, Ed448, X25519 and X448; or 0 */
+    struct cimaroly_span modulus;  /* of an RSA key: a number in two's complement, the highest byte first; or none */
+    struct cimaroly_span exponent; /* the same of its exponent */
+    struct cimaroly_span key;      /* of another key: a point, or the key itself; or none */
+};
+
+/* The hash functions of signatures. */
+enum cimaroly_digest {
+    CIMAROLY_DIGEST_NONE = 0, /* none is said: the algorithm has its own, as Ed25519, or isn't one of signatures */
+    CIMAROLY_DIGEST_SHA1 = 1,
+    CIMAROLY_DIGEST_SHA224 = 2,
+    CIMAROLY_DIGEST_SHA256 = 3,
+    CIMAROLY_DIGEST_SHA384 = 4,
+    CIMAROLY_DIGEST_SHA512 = 5,
+    CIMAROLY_DIGEST_SHA3_224 = 6,
+    CIMAROLY_DIGEST_SHA3_256 = 7,
+    CIMAROLY_DIGEST_SHA3_384 = 8,
+    CIMAROLY_DIGEST_SHA3_512 = 9
+};
+
+/* The algorithm of a signature (RFC 5280, 4.1.1.2). */
+struct cimaroly_signature {
+    struct cimaroly_span algorithm; /* the content of its identifier: 2B 65 70 is that of Ed25519 */
+    uint32_t digest;                /* the cimaroly_digest */
+};
+
 /* Where a block of a PEM text stands. */
 struct cimaroly_pem_block {
     struct cimaroly_span label; /* what stands between `-----BEGIN ` and `-----` */
@@ -410,6 +440,53 @@ uint32_t cimaroly_host_matches(const uint8_t *der, size_t der_size, const uint8_
                                bool *matches);
 
 /*
+ * Where the parts of the public key of a certificate, of a request, or of a public key by itself stand. It takes no
+ * memory.
+ *
+ * CIMAROLY_OK, CIMAROLY_REFUSED.
+ * CIMAROLY_UNKNOWN_KIND: `kind` is none of CIMAROLY_CERTIFICATE, CIMAROLY_REQUEST and CIMAROLY_PUBLIC_KEY.
+ */
+uint32_t cimaroly_public_key(uint32_t kind, const uint8_t *der, size_t der_size, struct cimaroly_key *key);
+
+/*
+ * With which algorithm a certificate or a request is signed, or which one an AlgorithmIdentifier by itself says. The
+ * digest of RSASSA-PSS is that of its parameters. It takes no memory.
+ *
+ * CIMAROLY_OK, CIMAROLY_REFUSED.
+ * CIMAROLY_UNKNOWN_KIND: `kind` is none of CIMAROLY_CERTIFICATE, CIMAROLY_REQUEST and CIMAROLY_ALGORITHM.
+ */
+uint32_t cimaroly_signed_with(uint32_t kind, const uint8_t *der, size_t der_size,
+                              struct cimaroly_signature *signature);
+
+/*
+ * As cimaroly_subject_attributes, of the subject of a request (RFC 2986, 4.1).
+ */
+uint32_t cimaroly_request_subject_attributes(const uint8_t *der, size_t der_size,
+                                             struct cimaroly_attribute *attributes, size_t room, size_t *count);
+
+/*
+ * Where the octets stand that identify a certificate's key (RFC 5280, 4.2.1.2), in the value of the extension 55 1D 0E;
+ * or those that identify its issuer's (4.2.1.1), in that of 55 1D 23. They take no memory.
+ *
+ * CIMAROLY_OK: *identifier is 0..0 where an authority key identifier has none.
+ * CIMAROLY_REFUSED: the input encodes no such value.
+ */
+uint32_t cimaroly_subject_key_identifier(const uint8_t *value, size_t value_size, struct cimaroly_span *identifier);
+uint32_t cimaroly_authority_key_identifier(const uint8_t *value, size_t value_size, struct cimaroly_span *identifier);
+
+/*
+ * Checks the value of an extension that cimaroly_check passes over, as of authorityInfoAccess, cRLDistributionPoints or
+ * certificatePolicies: whether it encodes what the extension's identifier says, and how it deviates from the DER encoding
+ * of that. The identifier is given by the content of its OBJECT IDENTIFIER. It takes no memory. Of the list of
+ * certificate timestamps (RFC 6962, 3.3) the OCTET STRING is checked, and not what TLS has in it.
+ *
+ * CIMAROLY_OK, CIMAROLY_REFUSED: as of cimaroly_check.
+ * CIMAROLY_UNKNOWN_KIND: no such extension has the identifier.
+ */
+uint32_t cimaroly_check_extension(const uint8_t *identifier, size_t identifier_size, const uint8_t *value,
+                                  size_t value_size, struct cimaroly_verdict *verdict);
+
+/*
  * Writes where each extension stands, in the order of the input, to the front of `extensions`, which has room for
  * `room` of them.
  *
@@ -545,6 +622,17 @@ uint32_t cimaroly_oid_text(const uint8_t *identifier, size_t identifier_size, ui
  */
 uint32_t cimaroly_oid_name(const uint8_t *identifier, size_t identifier_size, uint8_t *out, size_t out_size,
                            size_t *size);
+
+/*
+ * Writes the text of a name by RFC 4514 to the front of `out`: CN=example.org,O=Example,C=DE for the subject of a
+ * certificate, whose place cimaroly_certificate_fields tells. The last set of attributes comes first, as the RFC asks.
+ * Types without a short name there are written as dotted identifiers, and their values, and those that aren't strings,
+ * in hexadecimal. What can't be seen, or changes the direction of text, is escaped. It takes no memory.
+ *
+ * CIMAROLY_OK, CIMAROLY_BUFFER_TOO_SHORT: *size is the text's.
+ * CIMAROLY_REFUSED: the input encodes no name.
+ */
+uint32_t cimaroly_name_text(const uint8_t *name, size_t name_size, uint8_t *out, size_t out_size, size_t *size);
 
 /* The name of an error, in plain words; "" if no error has the number. */
 static inline const char *cimaroly_error_name(size_t error)

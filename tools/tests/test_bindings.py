@@ -85,10 +85,10 @@ class C(BindingTest):
         source = f"{BINDINGS}/c/examples/inspect.c"
         self.ran("cc", "-std=c99", source, *flags, f"-Wl,-rpath,{place}/lib", "-o", f"{place}/inspect")
         for row in table():
-            if row["not_before"] != "-":
+            if row["rfc4514"] != "-":
                 printed = self.ran(f"{place}/inspect", path_of(row, place))
                 told = dict(re.findall(r"^(subject|not before|not after) +(.*)$", printed, re.MULTILINE))
-                stated = {"subject": row["subject"], "not before": row["not_before"], "not after": row["not_after"]}
+                stated = {"subject": row["rfc4514"], "not before": row["not_before"], "not after": row["not_after"]}
                 self.assertEqual(told, stated)
         self.ran("make", "-C", f"{BINDINGS}/c", "uninstall", f"PREFIX={place}")
         self.assertEqual(os.listdir(f"{place}/lib/pkgconfig"), [])

@@ -1,56 +1,19 @@
 /*
- * inspect FILE: prints the subject, the validity and the deviations of a certificate in PEM, which may stand among other
- * blocks, or in DER. It ends with 0 where the certificate is in DER, 1 where the input is refused, 2 where it could not be
- * read, and 3 where the certificate has deviations.
+ * inspect FILE: prints the subject, the validity, the key and the deviations of a certificate in PEM, which may stand
+ * among other blocks, or in DER. It ends with 0 if the certificate is in DER, 1 if it is refused, 2 if it can't be read,
+ * and 3 if it has deviations.
  */
 #include "cimaroly.h"
 #include "input.h"
 
 enum { MANY = 100 };
 
-/* Prints the type of an attribute: its short name (RFC 4519; RFC 2985), or its arcs. */
-static void print_type(const uint8_t *content, size_t size)
+static void print_subject(const uint8_t *name, size_t name_size)
 {
-    static const char *const types[][2] = {{"\x55\x04\x03", "CN"}, {"\x55\x04\x05", "serialNumber"},
-        {"\x55\x04\x06", "C"}, {"\x55\x04\x07", "L"}, {"\x55\x04\x08", "ST"}, {"\x55\x04\x0a", "O"},
-        {"\x55\x04\x0b", "OU"}, {"\x09\x92\x26\x89\x93\xf2\x2c\x64\x01\x19", "DC"},
-        {"\x2a\x86\x48\x86\xf7\x0d\x01\x09\x01", "emailAddress"}};
-    uint8_t text[256];
-    for (size_t i = 0; i < sizeof types / sizeof *types; i++) {
-        if (strlen(types[i][0]) == size && memcmp(types[i][0], content, size) == 0) {
-            printf("%s=", types[i][1]);
-            return;
-        }
-    }
-    if (cimaroly_oid_text(content, size, text, sizeof text, &size) == CIMAROLY_OK)
-        printf("%.*s=", (int)size, (const char *)text);
-}
-
-/* Prints a string as RFC 4514, 2.4 has it: what isn't printable ASCII, or stands between parts of a name, is escaped. */
-static void print_string(const uint8_t *content, size_t size)
-{
-    for (size_t i = 0; i < size; i++) {
-        if (content[i] < ' ' || content[i] > '~')
-            printf("\\%02X", content[i]);
-        else
-            printf(strchr(",+\"\\<>;", content[i]) != NULL ? "\\%c" : "%c", content[i]);
-    }
-}
-
-static void print_subject(const uint8_t *der, size_t size)
-{
-    struct cimaroly_attribute all[MANY];
-    size_t count = 0;
-    fputs("subject     ", stdout);
-    if (cimaroly_subject_attributes(der, size, all, MANY, &count) != CIMAROLY_OK)
-        count = 0;
-    for (size_t i = 0; i < count; i++) {
-        if (i > 0)
-            fputs(all[i].set == all[i - 1].set ? " + " : ", ", stdout);
-        print_type(der + all[i].identifier.start, all[i].identifier.end - all[i].identifier.start);
-        print_string(der + all[i].value.start, all[i].value.end - all[i].value.start);
-    }
-    putchar('\n');
+    uint8_t text[4096];
+    size_t size = 0;
+    if (cimaroly_name_text(name, name_size, text, sizeof text, &size) == CIMAROLY_OK)
+        printf("subject     %.*s\n", (int)size, (const char *)text);
 }
 
 static void print_time(const char *what, const struct cimaroly_time *time)
@@ -59,38 +22,48 @@ static void print_time(const char *what, const struct cimaroly_time *time)
            time->second);
 }
 
-/* Prints each deviation with its place, of many the first ones, and tells how many there are. */
-static size_t print_deviations(const uint8_t *der, size_t size, const struct cimaroly_verdict *verdict)
+static void print_key(const uint8_t *der, const struct cimaroly_key *key)
+{
+    uint8_t name[100];
+    size_t size = 0;
+    struct cimaroly_span which = key->curve.end > 0 ? key->curve : key->algorithm;
+    if (cimaroly_oid_name(der + which.start, which.end - which.start, name, sizeof name, &size) == CIMAROLY_OK)
+        printf("key         %.*s, %zu bits\n", (int)size, (const char *)name, key->bits);
+}
+
+/* Prints each deviation with its place, of many the first ones, and answers whether there are any. */
+static bool print_deviations(const uint8_t *der, size_t size)
 {
     struct cimaroly_place places[MANY];
     size_t count = 0;
-    size_t total = 0;
-    for (size_t i = 0; i < 10; i++)
-        total += verdict->counts[i];
-    if (cimaroly_places_malloc(CIMAROLY_CERTIFICATE, der, size, places, MANY, &count) != CIMAROLY_OK) {
-        printf("deviations  %zu\n", total);
-        return total;
-    }
-    for (size_t i = 0; i < count; i++)
-        printf("deviation   %s, at %zu..%zu\n", cimaroly_deviation_name(places[i].deviation), places[i].start,
-               places[i].end);
-    return total;
+    if (cimaroly_places_malloc(CIMAROLY_CERTIFICATE, der, size, places, MANY, &count) != CIMAROLY_OK)
+        printf("deviations  %zu\n", count);
+    else
+        for (size_t i = 0; i < count; i++)
+            printf("deviation   %s, at %zu..%zu\n", cimaroly_deviation_name(places[i].deviation), places[i].start,
+                   places[i].end);
+    return count > 0;
 }
 
 static int inspect(const uint8_t *der, size_t size)
 {
     struct cimaroly_verdict verdict;
+    struct cimaroly_certificate fields;
     struct cimaroly_time first;
     struct cimaroly_time last;
-    uint32_t status = cimaroly_check(CIMAROLY_CERTIFICATE, der, size, &verdict);
-    if (status == CIMAROLY_REFUSED)
+    struct cimaroly_key key;
+    if (cimaroly_check(CIMAROLY_CERTIFICATE, der, size, &verdict) != CIMAROLY_OK) {
         printf("refused     %s at byte %zu\n", cimaroly_error_name(verdict.error), verdict.at);
-    if (status != CIMAROLY_OK || cimaroly_validity(der, size, &first, &last) != CIMAROLY_OK)
-        return status == CIMAROLY_REFUSED ? 1 : 2;
-    print_subject(der, size);
+        return 1;
+    }
+    cimaroly_certificate_fields(der, size, &fields);
+    cimaroly_validity(der, size, &first, &last);
+    cimaroly_public_key(CIMAROLY_CERTIFICATE, der, size, &key);
+    print_subject(der + fields.subject.start, fields.subject.end - fields.subject.start);
     print_time("not before  ", &first);
     print_time("not after   ", &last);
-    return print_deviations(der, size, &verdict) == 0 ? 0 : 3;
+    print_key(der, &key);
+    return print_deviations(der, size) ? 3 : 0;
 }
 
 int main(int argc, char **argv)

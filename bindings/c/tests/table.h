@@ -20,7 +20,8 @@ enum column {
     SERIAL_NUMBER,
     UNIX_TIMES,
     DNS_NAMES,
-    KEY = 20,
+    RFC4514,
+    KEY,
     SIGNATURE,
     KEY_IDENTIFIERS,
     COLUMNS

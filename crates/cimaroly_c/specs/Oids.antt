@@ -1,6 +1,8 @@
--- What is written of object identifiers.
+-- What is written of object identifiers and names.
 use Rattle.std.specs.Prelude.{◌≡◌, ℕ, ◌<◌, ◌≤◌, ◌^◌, List, ◌++◌, ◌⊎◌, drop, length}
 use Rattle.x509_der.specs.ObjectIdentifier.{IsOid}
+use Rattle.x509_der.specs.Tally.{Tally}
+use Rattle.x509_names.specs.Names.{Sets, name}
 use Rattle.x509_oid_text.specs.Texts.{OfText}
 
 -- the text stands in front of what the buffer had behind it; or the buffer is shorter, and as it was
@@ -16,3 +18,18 @@ TextWritten content old new status size =
     OfText content (λ text. NameWritten text old new status size)
     ⊎ (((status ≡ 1) × (size ≡ 0) × (new ≡ old) × ((arcs : List ℕ) → IsOid arcs content → ⊥))
     ⊎ ((status ≡ 5) × (size ≡ 0) × (new ≡ old) × OfText content (λ text. 2 ^ 64 ≤ length text)))
+
+-- some text stands in front of what the buffer had behind it; or the buffer is shorter, and as it was
+abbrev pub SomeTextWritten : List ℕ → List ℕ → ℕ → ℕ → Type 0
+SomeTextWritten old new status size =
+    ((status ≡ 0) × (size ≤ length old) × (text : List ℕ) × (size ≡ length text) × (new ≡ text ++ drop size old))
+    ⊎ ((status ≡ 3) × (length old < size) × (new ≡ old))
+
+-- the bytes encode no name
+pub record NoName (A : Type 0) (der : List ℕ) : Type 0 where
+  pub none : (v : Sets A) (y : Tally) → (name {A = A}).spelled v der y → ⊥
+
+-- some text of a name, or the bytes encode none
+abbrev pub NameTextWritten : (A : Type 0) → List ℕ → List ℕ → List ℕ → ℕ → ℕ → Type 0
+NameTextWritten A der old new status size =
+    SomeTextWritten old new status size ⊎ ((status ≡ 1) × (size ≡ 0) × (new ≡ old) × NoName A der)

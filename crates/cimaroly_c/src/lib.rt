@@ -16,9 +16,11 @@ ghost use Rattle.x509_flat.specs.Validities.{ValidityTold};
 ghost use Rattle.x509_flat_report.specs.Reports.{Reported};
 ghost use Rattle.cimaroly_c.specs.Exports.{Answers, AnswersFor, Arena, IsKind};
 
+mod keys;
 mod making;
 mod oids;
 mod over;
+mod over_keys;
 mod over_making;
 mod pem;
 mod values;

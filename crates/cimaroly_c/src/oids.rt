@@ -1,9 +1,12 @@
-//! Object identifiers: their text and their names.
+//! Object identifiers: their text and their names; and the text of names.
 
 ghost use Rattle.std.specs.Prelude.{List, ℕ};
-ghost use Rattle.cimaroly_c.specs.Oids.{NameWritten, TextWritten};
+ghost use Rattle.cimaroly_c.specs.Exports.{Arena};
+ghost use Rattle.cimaroly_c.specs.Oids.{NameTextWritten, NameWritten, SomeTextWritten, TextWritten};
 
+use crate::over_keys::is_name;
 use x509_flat::status::Status;
+use x509_name_text::name_text;
 use x509_oid_text::{NoText, name_in, oid_text};
 
 /// Writes the text of an object identifier to the front of a buffer, as in `2.5.4.3`.
@@ -49,4 +52,32 @@ pub extern "C" fn cimaroly_oid_name(content: &[u8], out: &mut [u8], size: &mut u
     ensures { (text : List ℕ) × NameWritten text out.old out.new result size.new }
 {
     write_name(name_in(content).unwrap_or("").as_bytes(), out, size)
+}
+
+/// Writes the text of a name to the front of a buffer, if there is room for it.
+fn write_name_text(name: &[u8], out: &mut [u8], size: &mut usize) -> u32
+    ensures { SomeTextWritten out.old out.new result size.new }
+{
+    match name_text(name, out) {
+        Ok(len) => {
+            *size = len;
+            Status::Done.number()
+        }
+        Err(len) => {
+            *size = len;
+            Status::TooShort.number()
+        }
+    }
+}
+
+/// Writes the text of a name by RFC 4514 to the front of a buffer.
+#[unsafe(no_mangle)]
+pub extern "C" fn cimaroly_name_text(name: &[u8], out: &mut [u8], size: &mut usize) -> u32
+    ensures { NameTextWritten Arena name.now out.old out.new result size.new }
+{
+    if is_name(name) {
+        return write_name_text(name, out, size);
+    }
+    *size = 0;
+    Status::Refused.number()
 }

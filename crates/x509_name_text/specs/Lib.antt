@@ -1,0 +1,2 @@
+-- What is told of names.
+pub mod Texts
