@@ -83,7 +83,7 @@ def struct(kind):
     for it in tables.fields(kind):
         kept = "Option<Field<'a>>" if it.optional else "Field<'a>"
         lines += [*doc(field_doc(it)), f"    pub {it.member}: {kept},"]
-    if kind == "certificate":
+    if kind in ("certificate", "request"):
         lines += ["    pub(crate) whole: Field<'a>,"]
     return Region(f"{SOURCE}/fields.rs", f"pub struct {tables.variant(kind)}<'a> {{", "}", lines)
 
@@ -93,7 +93,7 @@ def made(kind):
     answer, der, found = ("Some", "self.der", "places") if kind == "extension" else ("Ok", "der", "told")
     call = {it.member: "optional" if it.optional else "field" for it in tables.fields(kind)}
     lines = [f"            {member}: {make}({der}, {found}.{member})," for member, make in call.items()]
-    if kind == "certificate":
+    if kind in ("certificate", "request"):
         lines += ["            whole: field(der, Span { start: 0, end: der.len() }),"]
     return Region(f"{SOURCE}/reader.rs", f"        {answer}({tables.variant(kind)} {{", "        })", lines)
 

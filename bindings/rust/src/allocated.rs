@@ -5,6 +5,7 @@ use alloc::vec::Vec;
 
 use crate::error::Error;
 use crate::fields::{Certificate, Extension, PrivateKey, Request};
+use crate::keys::PublicKey;
 use crate::kind::Kind;
 use crate::library::{self, ExtensionPlaces};
 use crate::reader::Reader;
@@ -117,6 +118,14 @@ pub fn request(der: &[u8]) -> Result<Request<'_>, Error> {
 /// [`Error::Refused`], and [`Error::OutOfMemory`] if the allocator refuses memory.
 pub fn private_key(der: &[u8]) -> Result<PrivateKey<'_>, Error> {
     lent(der, |reader| reader.private_key(der))
+}
+
+/// As [`Reader::public_key`].
+///
+/// # Errors
+/// [`Error::Refused`], and [`Error::OutOfMemory`] if the allocator refuses memory.
+pub fn public_key(der: &[u8]) -> Result<PublicKey<'_>, Error> {
+    lent(der, |reader| reader.public_key(der))
 }
 
 /// As [`Reader::extensions`].

@@ -100,6 +100,7 @@ pub struct Request<'a> {
     pub signature_algorithm: Field<'a>,
     /// `signature`.
     pub signature: Field<'a>,
+    pub(crate) whole: Field<'a>,
 }
 
 /// The fields of a private key (RFC 5958, 2).

@@ -46,7 +46,9 @@ mod error;
 mod few;
 mod field_path;
 mod fields;
+mod further;
 mod general_names;
+mod keys;
 mod kind;
 mod library;
 #[cfg(feature = "alloc")]
@@ -63,12 +65,15 @@ mod values;
 
 #[cfg(feature = "alloc")]
 pub use crate::allocated::{
-    certificate, check, encode, extensions, places, private_key, report, request, signed_part,
+    certificate, check, encode, extensions, places, private_key, public_key, report, request,
+    signed_part,
 };
 pub use crate::error::{Error, Reason, Refused};
 pub use crate::field_path::FieldPath;
 pub use crate::fields::{Certificate, Extension, Field, PrivateKey, Request};
+pub use crate::further::check_extension;
 pub use crate::general_names::{GeneralName, GeneralNames};
+pub use crate::keys::{Digest, PublicKey, SignatureAlgorithm};
 pub use crate::kind::{Deviation, Kind};
 pub use crate::library::{Block, ExtensionPlaces};
 #[cfg(feature = "alloc")]

@@ -6,6 +6,7 @@
 //! overlaps nothing else; and the library keeps no pointer.
 #![allow(unsafe_code)]
 
+pub(crate) mod keys;
 #[cfg(feature = "alloc")]
 pub(crate) mod making;
 
@@ -62,6 +63,11 @@ impl Span {
     /// Its bytes of an input. (The library's spans lie within it.)
     pub(crate) fn of(self, der: &[u8]) -> &[u8] {
         der.get(self.start..self.end).unwrap_or_default()
+    }
+
+    /// The same, but none of 0..0, which is where nothing stands.
+    pub(crate) fn held(self, der: &[u8]) -> Option<&[u8]> {
+        (self.end > 0).then(|| self.of(der))
     }
 }
 
@@ -423,7 +429,7 @@ pub(crate) fn validity(der: &[u8], not_before: &mut Time, not_after: &mut Time) 
     unsafe { c::cimaroly_validity(der.as_ptr(), der.len(), not_before, not_after) }
 }
 
-/// A call on a certificate that tells where the attributes of a name stand.
+/// A call on a certificate or a request that tells where the attributes of a name stand.
 pub(crate) type AttributesCall = fn(&[u8], &mut [AttributePlace], &mut usize) -> u32;
 
 pub(crate) fn subject_attributes(der: &[u8], out: &mut [AttributePlace], count: &mut usize) -> u32 {

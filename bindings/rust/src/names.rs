@@ -20,7 +20,7 @@ pub struct Name<'a> {
     source: Option<Source<'a>>,
 }
 
-/// The certificate that a name stands in, and the call that tells of its attributes.
+/// The certificate or request that a name stands in, and the call that tells of its attributes.
 #[derive(Clone, Copy)]
 pub(crate) struct Source<'a> {
     pub(crate) der: &'a [u8],
@@ -47,7 +47,7 @@ impl<'a> Name<'a> {
         Name { sets, source: None }
     }
 
-    /// The name with these sets that stands in a certificate.
+    /// The name with these sets that stands in a certificate or a request.
     pub(crate) fn within(sets: &'a [u8], source: Source<'a>) -> Self {
         Name { sets, source: Some(source) }
     }
@@ -148,7 +148,7 @@ impl<'a> Iterator for Attributes<'a> {
     }
 }
 
-/// A walk over the attributes of a name that isn't a certificate's own, or has many.
+/// A walk over the attributes of a name that no call tells of, as of a general name, or that has many.
 #[derive(Clone, Default)]
 struct Walk<'a> {
     sets: Elements<'a>,

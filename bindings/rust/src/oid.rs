@@ -29,6 +29,20 @@ impl Oid<'static> {
     pub const ORGANIZATIONAL_UNIT_NAME: Self = Oid(&[0x55, 4, 11]);
     /// `emailAddress`, an attribute (RFC 2985, 5.2.1).
     pub const EMAIL_ADDRESS: Self = Oid(&[0x2A, 0x86, 0x48, 0x86, 0xF7, 0x0D, 1, 9, 1]);
+    /// `rsaEncryption`, of keys (RFC 8017, A.1).
+    pub const RSA_ENCRYPTION: Self = Oid(&[0x2A, 0x86, 0x48, 0x86, 0xF7, 0x0D, 1, 1, 1]);
+    /// `id-ecPublicKey`, of keys on a curve (RFC 5480, 2.1.1).
+    pub const EC_PUBLIC_KEY: Self = Oid(&[0x2A, 0x86, 0x48, 0xCE, 0x3D, 2, 1]);
+    /// `id-Ed25519`, of keys and signatures (RFC 8410, 3).
+    pub const ED25519: Self = Oid(&[0x2B, 101, 112]);
+    /// `secp256r1`, the curve P-256 (RFC 5480, 2.1.1.1).
+    pub const SECP256R1: Self = Oid(&[0x2A, 0x86, 0x48, 0xCE, 0x3D, 3, 1, 7]);
+    /// `secp384r1`, the curve P-384 (RFC 5480, 2.1.1.1).
+    pub const SECP384R1: Self = Oid(&[0x2B, 0x81, 4, 0, 34]);
+    /// `secp521r1`, the curve P-521 (RFC 5480, 2.1.1.1).
+    pub const SECP521R1: Self = Oid(&[0x2B, 0x81, 4, 0, 35]);
+    /// `authorityInfoAccess`, an extension (RFC 5280, 4.2.2.1).
+    pub const AUTHORITY_INFO_ACCESS: Self = Oid(&[0x2B, 6, 1, 5, 5, 7, 1, 1]);
     /// `subjectKeyIdentifier`, an extension (RFC 5280, 4.2.1.2).
     pub const SUBJECT_KEY_IDENTIFIER: Self = Oid(&[0x55, 0x1D, 14]);
     /// `keyUsage`, an extension (RFC 5280, 4.2.1.3).
@@ -39,6 +53,10 @@ impl Oid<'static> {
     pub const ISSUER_ALT_NAME: Self = Oid(&[0x55, 0x1D, 18]);
     /// `basicConstraints`, an extension (RFC 5280, 4.2.1.9).
     pub const BASIC_CONSTRAINTS: Self = Oid(&[0x55, 0x1D, 19]);
+    /// `cRLDistributionPoints`, an extension (RFC 5280, 4.2.1.13).
+    pub const CRL_DISTRIBUTION_POINTS: Self = Oid(&[0x55, 0x1D, 31]);
+    /// `certificatePolicies`, an extension (RFC 5280, 4.2.1.4).
+    pub const CERTIFICATE_POLICIES: Self = Oid(&[0x55, 0x1D, 32]);
     /// `authorityKeyIdentifier`, an extension (RFC 5280, 4.2.1.1).
     pub const AUTHORITY_KEY_IDENTIFIER: Self = Oid(&[0x55, 0x1D, 35]);
     /// `extKeyUsage`, an extension (RFC 5280, 4.2.1.12).

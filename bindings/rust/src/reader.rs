@@ -6,6 +6,7 @@ use core::str;
 use crate::error::{Error, Reason, Refused};
 use crate::field_path::FieldPath;
 use crate::fields::{Certificate, Extension, Field, PrivateKey, Request};
+use crate::keys::PublicKey;
 use crate::kind::Kind;
 use crate::library::{self, status, Block, ExtensionPlaces, Span};
 use crate::told::{Place, SignedPart, Verdict};
@@ -142,6 +143,7 @@ impl<'m> Reader<'m> {
             attributes: field(der, told.attributes),
             signature_algorithm: field(der, told.signature_algorithm),
             signature: field(der, told.signature),
+            whole: field(der, Span { start: 0, end: der.len() }),
         })
     }
 
@@ -160,6 +162,17 @@ impl<'m> Reader<'m> {
             skipped: optional(der, told.skipped),
             public_key: optional(der, told.public_key),
         })
+    }
+
+    /// A public key, a `SubjectPublicKeyInfo` by itself (RFC 5280, 4.1.2.7).
+    ///
+    /// # Errors
+    /// [`Error::Refused`] and [`Error::OutOfMemory`].
+    pub fn public_key<'a>(&mut self, der: &'a [u8]) -> Result<PublicKey<'a>, Error> {
+        let mut told = library::keys::Key::default();
+        let status = library::keys::public_key(Kind::PublicKey as u32, der, &mut told);
+        self.done(status, Kind::PublicKey, der, 0)?;
+        Ok(PublicKey::at(der, der, &told))
     }
 
     /// The extensions of a certificate or a list of extensions, in the order of the input. `out` is

@@ -3,14 +3,14 @@
 use crate::elements::{first_in, Elements};
 use crate::fields::{Certificate, Extension, Request};
 use crate::general_names::GeneralNames;
+use crate::keys::{PublicKey, SignatureAlgorithm};
+use crate::kind::Kind;
+use crate::library::keys::{self, IdentifierCall};
 use crate::library::{self, BasicConstraints, Span};
 use crate::names::{Name, Source};
 use crate::oid::Oid;
 use crate::times::Time;
 use crate::usages::KeyUsage;
-
-/// The tag of `keyIdentifier` in an `authorityKeyIdentifier`.
-const KEY_IDENTIFIER: u8 = 0x80;
 
 impl<'a> Certificate<'a> {
     /// The name of the subject (RFC 5280, 4.1.2.6).
@@ -48,12 +48,25 @@ impl<'a> Certificate<'a> {
         self.times().1
     }
 
+    /// The key of the subject (RFC 5280, 4.1.2.7).
+    #[must_use]
+    pub fn public_key(&self) -> PublicKey<'a> {
+        PublicKey::within(Kind::Certificate, self.whole, self.subject_public_key_info)
+    }
+
+    /// The algorithm with which the issuer signed it: what `signatureAlgorithm` says (RFC 5280,
+    /// 4.1.1.2).
+    #[must_use]
+    pub fn signed_with(&self) -> SignatureAlgorithm<'a> {
+        SignatureAlgorithm::within(Kind::Certificate, self.whole)
+    }
+
     /// What the first extension of a type holds: the content of its `extnValue`.
     #[must_use]
     pub fn extension(&self, oid: Oid<'_>) -> Option<&'a [u8]> {
         let (der, mut place) = (self.whole.bytes(), Span::default());
         library::find_extension(der, oid.content(), &mut place);
-        (place.end > 0).then(|| place.of(der))
+        place.held(der)
     }
 
     /// The names of the first `subjectAltName` (RFC 5280, 4.2.1.6), of which there are none without that extension.
@@ -115,15 +128,20 @@ impl<'a> Certificate<'a> {
     /// What `subjectKeyIdentifier` holds (RFC 5280, 4.2.1.2).
     #[must_use]
     pub fn subject_key_identifier(&self) -> Option<&'a [u8]> {
-        self.extension(Oid::SUBJECT_KEY_IDENTIFIER).map(first_in)
+        self.key_identifier(Oid::SUBJECT_KEY_IDENTIFIER, keys::subject_key_identifier)
     }
 
     /// `keyIdentifier` of `authorityKeyIdentifier` (RFC 5280, 4.2.1.1).
     #[must_use]
     pub fn authority_key_identifier(&self) -> Option<&'a [u8]> {
-        let fields = Elements(first_in(self.extension(Oid::AUTHORITY_KEY_IDENTIFIER)?));
-        // (of fields that are repeated, which is a deviation, the last counts)
-        fields.filter(|it| it.tag == KEY_IDENTIFIER).last().map(|it| it.content)
+        self.key_identifier(Oid::AUTHORITY_KEY_IDENTIFIER, keys::authority_key_identifier)
+    }
+
+    /// What a call tells of the first extension of a type.
+    fn key_identifier(&self, oid: Oid<'_>, call: IdentifierCall) -> Option<&'a [u8]> {
+        let (value, mut place) = (self.extension(oid)?, Span::default());
+        call(value, &mut place);
+        place.held(value)
     }
 
     /// Between which times it is valid. (The library tells them of every certificate that it reads.)
@@ -143,9 +161,22 @@ impl<'a> Extension<'a> {
 }
 
 impl<'a> Request<'a> {
-    /// The name of the subject (RFC 2986, 4).
+    /// The name of the subject (RFC 2986, 4.1).
     #[must_use]
     pub fn subject(&self) -> Name<'a> {
-        Name::of(self.subject.content())
+        let source = Source { der: self.whole.bytes(), call: keys::request_subject_attributes };
+        Name::within(self.subject.content(), source)
+    }
+
+    /// The key of the subject (RFC 2986, 4.1).
+    #[must_use]
+    pub fn public_key(&self) -> PublicKey<'a> {
+        PublicKey::within(Kind::Request, self.whole, self.subject_public_key_info)
+    }
+
+    /// The algorithm with which the subject signed it: what `signatureAlgorithm` says (RFC 2986, 4.2).
+    #[must_use]
+    pub fn signed_with(&self) -> SignatureAlgorithm<'a> {
+        SignatureAlgorithm::within(Kind::Request, self.whole)
     }
 }

@@ -309,6 +309,9 @@ fn over_the_allocator() {
             Kind::PrivateKey => {
                 assert_eq!(cimaroly::private_key(der), reader.private_key(der), "{name}");
             }
+            Kind::PublicKey => {
+                assert_eq!(cimaroly::public_key(der), reader.public_key(der), "{name}");
+            }
             _ => {}
         }
     }

@@ -1,4 +1,4 @@
-//! The rows of `bindings/tests/table.tsv`.
+//! The rows of `bindings/tests/table.tsv`, and elements to put inputs together of.
 #![allow(dead_code)] // (no test needs all of it)
 
 use std::collections::HashMap;
@@ -6,7 +6,7 @@ use std::fs;
 use std::ops::Range;
 use std::path::PathBuf;
 
-use cimaroly::{Deviation, Kind};
+use cimaroly::{Certificate, Deviation, Kind};
 
 /// A row, with its input.
 pub struct Row {
@@ -83,6 +83,46 @@ pub fn rows() -> Vec<Row> {
     rows.collect()
 }
 
+/// An element (X.690, 8.1).
+pub fn element(tag: u8, parts: &[&[u8]]) -> Vec<u8> {
+    let content = parts.concat();
+    let size = content.len();
+    let mut bytes = vec![tag];
+    if size < 128 {
+        bytes.push(u8::try_from(size).unwrap());
+    } else {
+        let size = u32::try_from(size).unwrap();
+        bytes.push(0x84 - u8::try_from(size.leading_zeros() / 8).unwrap());
+        bytes.extend(size.to_be_bytes().into_iter().skip(size.leading_zeros() as usize / 8));
+    }
+    bytes.extend(content);
+    bytes
+}
+
+/// An attribute of a name (RFC 5280, 4.1.2.4).
+pub fn attribute(oid: &[u8], tag: u8, value: &[u8]) -> Vec<u8> {
+    element(0x30, &[&element(6, &[oid]), &element(tag, &[value])])
+}
+
+/// A certificate with another's parts but its subject and its extensions.
+pub fn certificate_with(it: &Certificate<'_>, subject: &[u8], extensions: &[&[u8]]) -> Vec<u8> {
+    let extensions = element(0xA3, &[&element(0x30, extensions)]);
+    let signed = element(
+        0x30,
+        &[
+            it.version.unwrap().bytes(),
+            it.serial_number.bytes(),
+            it.signature.bytes(),
+            it.issuer.bytes(),
+            it.validity.bytes(),
+            subject,
+            it.subject_public_key_info.bytes(),
+            &extensions,
+        ],
+    );
+    element(0x30, &[&signed, it.signature_algorithm.bytes(), it.signature_value.bytes()])
+}
+
 pub fn root() -> PathBuf {
     PathBuf::from(env!("CARGO_MANIFEST_DIR")).join("../..")
 }
@@ -100,7 +140,7 @@ fn input(cell: &str) -> Vec<u8> {
     }
 }
 
-fn from_hex(text: &str) -> Vec<u8> {
+pub fn from_hex(text: &str) -> Vec<u8> {
     let digits: Vec<u32> = text.chars().filter_map(|it| it.to_digit(16)).collect();
     let bytes = digits.chunks(2).map(|it| it[0] << 4 | it[1]);
     bytes.map(|it| u8::try_from(it).unwrap()).collect()
