@@ -12,7 +12,7 @@
 `Certificate`, a `Request`, a `PublicKey` or a `PrivateKey`, with their values, and of other kinds a `Structure`, which they
 all are: it has fields, deviations, signed part, DER encoding and report. `read_all` gives a list of them. What is refused
 raises `Refused`, which says why, at which byte and in which field. `read_each` gives what came of each PEM block, and goes on
-behind those that are refused.
+behind those that are refused. `check_extension` checks the value of an extension that `check` takes as octets.
 
 `RequestBuilder` and `CertificateBuilder` build what is to be signed, any signer signs it, and `with_signature` puts both
 together. `make` makes structures of descriptions. What can't be made raises `NotMade`, which says why.
@@ -27,7 +27,7 @@ from ._kinds import KINDS, Deviation, Kind, Reason, Refused
 from ._making import CertificateBuilder, NotMade, RequestBuilder, ToBeSigned, make, signature_algorithm
 from ._names import AlternativeNames, Attribute, EdiPartyName, GeneralName, Name, OtherName
 from ._pem import Block, Data, PemError, pem_blocks
-from ._reading import Outcome, check, read, read_all, read_each
+from ._reading import Outcome, check, check_extension, read, read_all, read_each
 from ._services import Policy, Timestamp
 from ._structure import Extension, Extensions, Field, Place, SignedPart, Structure, Verdict
 
@@ -68,6 +68,7 @@ __all__ = [
     "ToBeSigned",
     "Verdict",
     "check",
+    "check_extension",
     "make",
     "pem_blocks",
     "read",

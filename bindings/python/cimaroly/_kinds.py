@@ -6,7 +6,7 @@ The lists are written by tools/make_tables.py.
 from __future__ import annotations
 
 import enum
-from typing import Literal, Optional, get_args
+from typing import Literal, Optional, Union, get_args
 
 Kind = Literal[
     "certificate",
@@ -111,10 +111,10 @@ _REASONS = (
 class Refused(ValueError):
     """The bytes encode no value of the kind."""
 
-    def __init__(self, kind: Kind, number: int, place: int, field: Optional[str] = None) -> None:
+    def __init__(self, kind: Union[Kind, Literal["extension"]], number: int, place: int, field: Optional[str] = None) -> None:
         super().__init__(kind, number, place, field)
-        self.kind: Kind = kind
-        """What they were read as."""
+        self.kind: Union[Kind, Literal["extension"]] = kind
+        """What they were read as; `extension` if `check_extension` refuses them."""
         self.reason = Reason(number)
         """Why they are refused."""
         self.number = number

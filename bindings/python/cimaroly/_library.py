@@ -145,6 +145,7 @@ def _load() -> dict[str, Callable[..., int]]:
         "cimaroly_subject_attributes": (*given, *buffer),
         "cimaroly_issuer_attributes": (*given, *buffer),
         "cimaroly_find_extension": (*given, *given, c_void_p),
+        "cimaroly_check_extension": (*given, *given, c_void_p),
         "cimaroly_general_names": (*given, *buffer),
         "cimaroly_host_matches": (*given, *given, c_void_p),
         "cimaroly_oid_text": (*given, *buffer),
@@ -331,7 +332,7 @@ def pem_decoded(symbols: Held, room: int) -> Optional[Secret]:
     return out if size.value == room else Secret(memoryview(out)[: size.value])
 
 
-_CHECK = CALLS["cimaroly_check"]
+_CHECK, _CHECK_EXTENSION = CALLS["cimaroly_check"], CALLS["cimaroly_check_extension"]
 
 
 def check(kind: Kind, der: Held) -> tuple[int, ...]:
@@ -344,6 +345,18 @@ def check(kind: Kind, der: Held) -> tuple[int, ...]:
     if status == REFUSED:
         raise Refused(kind, found[11], found[12], _refused_in(kind, der))
     return found[:11]
+
+
+def check_extension(identifier: bytes, value: bytes) -> Optional[tuple[int, ...]]:
+    """The same of the value of an extension, whose identifier is given by the content of its element; None if no extension
+    that is kept as octets has it."""
+    room = taken()
+    status = _CHECK_EXTENSION(identifier, len(identifier), value, len(value), room.items)
+    found = room.item(_VERDICT)
+    given_back(room)
+    if status == REFUSED:
+        raise Refused("extension", found[11], found[12])
+    return found[:11] if status == OK else None
 
 
 def _refused_in(kind: Kind, der: Held) -> Optional[str]:

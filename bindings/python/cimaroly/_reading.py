@@ -6,12 +6,13 @@ from collections.abc import Iterator
 from dataclasses import dataclass
 from typing import Any, Literal, Optional, Union, overload
 
+from . import _values
 from ._certificates import Certificate, Request
 from ._keys import PrivateKey, PrivateKind, PublicKey, PublicKind
 from ._kinds import KINDS, Kind, Refused
 from ._pem import Data, PemError, RawBlock, bare_base64, escaped, is_one_element, is_pem, raw_blocks, viewed
 from ._secret import PRIVATE, Held, Secret
-from ._structure import Structure, Verdict, checked
+from ._structure import Structure, Verdict, checked, checked_extension
 
 OtherKind = Literal["name", "extensions", "algorithm", "raw-algorithm"]
 
@@ -91,6 +92,26 @@ def check(data: Data, kind: Kind = "certificate") -> Verdict:
     there is no such block or it can't be decoded, `TypeError` for what isn't data, and `MemoryError`.
     """
     return checked(_der(data, kind), kind)
+
+
+def check_extension(identifier: str, value: Union[bytes, bytearray, memoryview]) -> Optional[Verdict]:
+    """Whether the value of an extension that `check` takes as octets, such as policies (RFC 5280, 4.2.1.4), distribution points
+    (4.2.1.13) or information access (4.2.2), encodes what its identifier says, and how it deviates from the DER encoding of that.
+
+    The identifier is given with dots, or by its name, as `id-ce-certificatePolicies`; None if no such extension has it. Of
+    certificate timestamps (RFC 6962, 3.3) the OCTET STRING is checked, and not what TLS has in it. Raises `Refused`, with a
+    place in the value, `ValueError` for text that is no identifier, and `TypeError` for a value that isn't bytes.
+
+    >>> extension = certificate.extensions["certificatePolicies"]  # doctest: +SKIP
+    >>> cimaroly.check_extension(extension.identifier, extension.value).is_der  # doctest: +SKIP
+    True
+    """
+    content = _values.content_of(identifier)
+    try:
+        given = bytes(memoryview(value))
+    except TypeError:
+        raise TypeError(f"the value of an extension is bytes, not {type(value).__name__}") from None
+    return checked_extension(content, given)
 
 
 @overload

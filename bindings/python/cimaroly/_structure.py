@@ -163,6 +163,12 @@ def checked(der: Held, kind: Kind) -> Verdict:
     return Verdict(_counted(found[:10]), found[10])
 
 
+def checked_extension(identifier: bytes, value: bytes) -> Optional[Verdict]:
+    """The same of the value of an extension that is kept as octets; None if no such extension has the identifier."""
+    found = _library.check_extension(identifier, value)
+    return None if found is None else Verdict(_counted(found[:10]), found[10])
+
+
 class Structure:
     """A structure that was read. It keeps its bytes, and asks the library again for what is told of them.
 

@@ -1,14 +1,16 @@
 # SPDX-License-Identifier: MIT OR Apache-2.0
-"""Values of certificates, and object identifiers, by calls of the library that take no memory."""
+"""Values of certificates, and object identifiers, by calls of the library, which take no memory unless they look up a name."""
 
 from __future__ import annotations
 
 import functools
+import json
+import re
 import struct
-from collections.abc import Callable
+from collections.abc import Callable, Iterator
 from typing import Optional
 
-from ._library import BUFFER_TOO_SHORT, CALLS, OK, given_back, taken
+from ._library import BUFFER_TOO_SHORT, CALLS, OK, given_back, made, taken
 
 # The numbers of two `struct cimaroly_time`, of `cimaroly_span`, `cimaroly_attribute` and `cimaroly_general_name`; a bool.
 _TIMES, _SPAN = struct.Struct("@qH5BxqH5Bx"), struct.Struct("@2N")
@@ -16,6 +18,8 @@ _ATTRIBUTE, _GENERAL_NAME = struct.Struct("@3NB2N"), struct.Struct("@B2N")
 _ONE_TIME = _TIMES.size // 2
 _FLAG = struct.Struct("@?")
 
+# An object identifier with dots (X.690, 8.19.4).
+_DOTTED = re.compile(r"(?:[01]\.[1-3]?[0-9]|2\.(?:0|[1-9][0-9]*))(?:\.(?:0|[1-9][0-9]*))*")
 # Longer identifiers than these aren't kept.
 _SHORT = 64
 
@@ -104,6 +108,27 @@ def _identifier(content: bytes) -> tuple[str, Optional[str]]:
 
 
 _kept_identifier = functools.lru_cache(maxsize=1024)(_identifier)
+
+
+def content_of(identifier: str) -> bytes:
+    """The content of the element of an object identifier, by the identifier with dots or by the name that the library has for
+    it. Raises `ValueError` for other text."""
+    if _DOTTED.fullmatch(identifier):
+        first, second, *rest = map(int, identifier.split("."))
+        return bytes(digit for arc in (40 * first + second, *rest) for digit in _base128(arc))
+    # (by an AlgorithmIdentifier with it; that it is known keeps both lengths within a byte)
+    description = {"type": "raw-algorithm", "AlgorithmIdentifier": {"algorithm": identifier}}
+    der = made("cimaroly_make", json.dumps(description).encode())
+    if der is None:
+        raise ValueError(f"no object identifier, by a name that is known or with dots: {identifier!r}")
+    return der[4 : 4 + der[3]]
+
+
+def _base128(arc: int) -> Iterator[int]:
+    """An arc in base 128, all digits but the last marked (X.690, 8.19.2)."""
+    for shift in range((max(arc.bit_length(), 1) - 1) // 7 * 7, 0, -7):
+        yield arc >> shift & 127 | 128
+    yield arc & 127
 
 
 def _text(call: Callable[..., int], content: bytes) -> str:
