@@ -35,6 +35,21 @@ export function kindOfLabel(label) {
   return LABELS.get(label);
 }
 
+// What something is, for who took it for an input.
+function nameOf(value) {
+  if (value === null || typeof value !== "object") return String(value === null ? value : typeof value);
+  return value.constructor?.name || "object";
+}
+
+/** The bytes of an input that is no text; `forms` are those that it may have. */
+export function bytesIn(data, forms = "a Uint8Array, an ArrayBuffer or a string") {
+  if (ArrayBuffer.isView(data)) return new Uint8Array(data.buffer, data.byteOffset, data.byteLength);
+  // (also one of another realm, such as a frame's)
+  if (Object.prototype.toString.call(data) === "[object ArrayBuffer]") return new Uint8Array(data);
+  const hint = typeof data?.then === "function" ? ": await it first" : "";
+  throw new TypeError(`the input must be ${forms}, not ${nameOf(data)}${hint}`);
+}
+
 /** Whether bytes begin as text in UTF-16 does that has a byte order mark. */
 export function isUtf16(bytes) {
   return (bytes[0] === 0xff && bytes[1] === 0xfe) || (bytes[0] === 0xfe && bytes[1] === 0xff);

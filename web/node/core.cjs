@@ -7,8 +7,8 @@
 // or cimaroly32.wasm where there are no 64-bit memories, with the calls of bindings/c/cimaroly.h.
 
 const { STATUS, useRoom } = require("./making.cjs");
-const { DEVIATIONS, ERRORS } = require("./names.cjs");
-const { KINDS, fromBase64, isSequence, isUtf16, kindOfLabel, pemBlocks, use } = require("./pem.cjs");
+const { DEVIATIONS, Refused } = require("./names.cjs");
+const { KINDS, bytesIn, fromBase64, isSequence, isUtf16, kindOfLabel, pemBlocks, use } = require("./pem.cjs");
 const { Values } = require("./values.cjs");
 
 const FIELDS = {
@@ -53,24 +53,6 @@ const NO_MORE = 1;
 const PAGE = 65536;
 // Where the module's memory goes on being used for inputs, it is given back above this size.
 const LARGE = 1 << 26;
-
-/** Input that isn't a valid encoding of the type it was read as. */
-class Refused extends Error {
-  constructor(kind, number, at, field = null) {
-    super(`${ERRORS[number]} at byte ${at}${field === null ? "" : ` (in ${field.split(".").join(", ")})`}`);
-    this.name = "Refused";
-    /** The type it was read as. */
-    this.kind = kind;
-    /** Why it was refused, as in `wrong tag`. */
-    this.reason = ERRORS[number];
-    /** The number of the reason in cimaroly.h. */
-    this.number = number;
-    /** The first byte that couldn't be read, counted from 0. */
-    this.at = at;
-    /** The fields around that byte, outermost first, joined by dots; `null` if none has a name. */
-    this.field = field;
-  }
-}
 
 // A module whose one memory has 64-bit addresses.
 const WITH_MEMORY64 = new Uint8Array([0, 97, 115, 109, 1, 0, 0, 0, 5, 3, 1, 4, 1]);
@@ -245,21 +227,6 @@ function refusal(kind, der) {
     return error;
   }
   return new Error("internal error: refused, but not by a check");
-}
-
-// What something is, for who took it for an input.
-function nameOf(value) {
-  if (value === null || typeof value !== "object") return String(value === null ? value : typeof value);
-  return value.constructor?.name || "object";
-}
-
-// The bytes of an input that is no text.
-function bytesIn(data) {
-  if (ArrayBuffer.isView(data)) return new Uint8Array(data.buffer, data.byteOffset, data.byteLength);
-  // (also one of another realm, such as a frame's)
-  if (Object.prototype.toString.call(data) === "[object ArrayBuffer]") return new Uint8Array(data);
-  const hint = typeof data?.then === "function" ? ": await it first" : "";
-  throw new TypeError(`the input must be a Uint8Array, an ArrayBuffer or a string, not ${nameOf(data)}${hint}`);
 }
 
 /** The DER of an input: bytes as they are, or those of a text's first PEM block of the type. */

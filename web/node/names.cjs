@@ -3,7 +3,7 @@
 "use strict";
 
 // The names of errors and deviations, in the order of their numbers in bindings/c/cimaroly.h, as tools/make_tables.py writes
-// them.
+// them, and what is thrown with the name of an error.
 
 /** Why an input is refused; there is no number 0. */
 const ERRORS = Object.freeze([
@@ -39,7 +39,26 @@ const DEVIATIONS = Object.freeze([
   "element skipped behind a private key",
 ]);
 
+/** Input that isn't a valid encoding of the type it was read as. */
+class Refused extends Error {
+  constructor(kind, number, at, field = null) {
+    super(`${ERRORS[number]} at byte ${at}${field === null ? "" : ` (in ${field.split(".").join(", ")})`}`);
+    this.name = "Refused";
+    /** The type it was read as; `extension` where it was refused by `checkExtension`. */
+    this.kind = kind;
+    /** Why it was refused, as in `wrong tag`. */
+    this.reason = ERRORS[number];
+    /** The number of the reason in cimaroly.h. */
+    this.number = number;
+    /** The first byte that couldn't be read, counted from 0. */
+    this.at = at;
+    /** The fields around that byte, outermost first, joined by dots; `null` if none has a name. */
+    this.field = field;
+  }
+}
+
 module.exports = {
   DEVIATIONS,
   ERRORS,
+  Refused,
 };
