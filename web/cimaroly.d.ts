@@ -266,28 +266,20 @@ export interface Timestamp {
   signature: Uint8Array;
 }
 
-/** What extensions say; `null` if the extension isn't there. */
+/** What extensions say; `null` if the extension isn't there. `Structure` says what each value is. */
 export interface ExtensionValues {
   alternativeNames: AlternativeName[] | null;
   issuerAlternativeNames: AlternativeName[] | null;
-  /** What names the subject's key. */
   subjectKeyIdentifier: Uint8Array | null;
-  /** What names the issuer's key. */
   authorityKeyIdentifier: Uint8Array | null;
   keyUsage: KeyUsage[] | null;
   extendedKeyUsage: Identifier[] | null;
-  /** Whether the basic constraints say that it is that of an authority. */
   isCa: boolean;
-  /** How many authorities may stand below it. */
   pathLength: number | null;
-  /** Where the status is asked for by OCSP. It throws if the extension is malformed, and so do the following. */
   ocspAddresses: string[] | null;
-  /** Where the issuer's certificates are found. */
   issuerAddresses: string[] | null;
-  /** Where revocation lists are found. */
   crlAddresses: string[] | null;
   policies: Policy[] | null;
-  /** The timestamps of logs of certificates, in version 1. */
   certificateTimestamps: Timestamp[] | null;
 }
 
@@ -343,8 +335,8 @@ export type ValueOf<K extends Kind, V extends keyof CertificateValues> = K exten
 
 /** Input that isn't a valid encoding of the type it was read as. */
 export class Refused extends Error {
-  /** The type it was read as. */
-  readonly kind: Kind;
+  /** The type it was read as; `extension` where it was refused by `checkExtension`. */
+  readonly kind: Kind | "extension";
   /** Why it was refused, as in `wrong tag`. */
   readonly reason: string;
   /** The number of the reason in cimaroly.h. */
@@ -441,6 +433,16 @@ export const isLowered: boolean;
  * @throws {TypeError} It isn't an `Input`, or the type is unknown.
  */
 export function check(data: Input, kind?: Kind): Verdict;
+
+/**
+ * Checks the value of an extension that `check` takes as octets, such as the policies (RFC 5280, 4.2.1.4): by its identifier
+ * with dots, or its name, as `id-ce-certificatePolicies`. `null` if there is no such extension of the type. It isn't told where
+ * deviations are, and of certificate timestamps (RFC 6962, 3.3) the OCTET STRING is checked, and not what TLS has in it.
+ * @throws {Refused} The value doesn't encode what the type says: `at` counts from its first byte, and `kind` is `extension`.
+ * @throws {RangeError} The type is neither an identifier with dots nor a name that is known.
+ * @throws {TypeError} The value isn't bytes.
+ */
+export function checkExtension(type: string, value: Uint8Array | ArrayBuffer): Omit<Verdict, "deviations"> | null;
 
 /**
  * Reads the input as the type.

@@ -18,6 +18,7 @@ export {
   reportText,
 } from "./core.mjs";
 export { NotMade, assemble, make, pem, signatureAlgorithm } from "./making.mjs";
+export { checkExtension } from "./services.mjs";
 
 // (bundlers find files that are named in this way)
 const file = isLowered ? new URL("cimaroly32.wasm", import.meta.url) : new URL("cimaroly.wasm", import.meta.url);

@@ -35,6 +35,25 @@ function joined(parts) {
   return whole;
 }
 
+// Where parts stand that are one behind the other in a room, as calls take them.
+function placesIn(room, parts) {
+  let at = room.der;
+  return parts.flatMap(({ length }) => {
+    at += length;
+    return [BigInt(at - length), BigInt(length)];
+  });
+}
+
+/** Does something in a room with parts of an input, whose places it is told as calls take them. */
+export function inRoom(parts, act) {
+  const room = new Room(joined(parts), 0, 0);
+  try {
+    return act(room, placesIn(room, parts));
+  } finally {
+    room.leave();
+  }
+}
+
 // What a call makes of bytes, and of the numbers before them; null where they are refused.
 function made(name, parts, ...numbers) {
   const whole = joined(parts);
@@ -42,13 +61,7 @@ function made(name, parts, ...numbers) {
   let workSize = 16 * whole.length + 65536;
   for (;;) {
     const room = new Room(whole, outSize, workSize);
-    let at = room.der;
-    const places = [];
-    for (const { length } of parts) {
-      places.push(BigInt(at), BigInt(length));
-      at += length;
-    }
-    const status = room.callLent(name, ...numbers, ...places, ...room.output);
+    const status = room.callLent(name, ...numbers, ...placesIn(room, parts), ...room.output);
     const size = room.word(0);
     const answer = status === STATUS.ok ? room.bytes.slice(room.out, room.out + size) : null;
     room.leave();
@@ -68,6 +81,14 @@ export function make(description) {
   const der = made("cimaroly_make", [text]);
   if (der !== null) return der;
   throw new NotMade(new TextDecoder().decode(made("cimaroly_why_not_made", [text]) ?? new Uint8Array()));
+}
+
+/** The content of an object identifier by the name that the library has for it, or null. */
+export function namedIdentifier(name) {
+  const description = { type: "raw-algorithm", AlgorithmIdentifier: { algorithm: name } };
+  const der = made("cimaroly_make", [encoder.encode(JSON.stringify(description))]);
+  // (the identifiers that have names are so short that each of the two lengths before is one byte)
+  return der === null ? null : der.subarray(4, 4 + der[3]);
 }
 
 /**

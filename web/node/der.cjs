@@ -38,14 +38,20 @@ function base128(arc) {
   return digits;
 }
 
+/** The content of the OBJECT IDENTIFIER that an identifier with dots is. */
+function identifierContent(id) {
+  const [first, second, ...rest] = id.split(".").map(BigInt);
+  return Uint8Array.from([40n * first + second, ...rest].flatMap(base128));
+}
+
 /** The OBJECT IDENTIFIER that an identifier with dots is. */
 function identifierElement(id) {
-  const [first, second, ...rest] = id.split(".").map(BigInt);
-  return element(6, Uint8Array.from([40n * first + second, ...rest].flatMap(base128)));
+  return element(6, identifierContent(id));
 }
 
 module.exports = {
   element,
   headerSize,
+  identifierContent,
   identifierElement,
 };

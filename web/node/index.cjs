@@ -13,5 +13,6 @@ const compiled = new WebAssembly.Module(readFileSync(file));
 core.start(compiled, new WebAssembly.Instance(compiled, {}));
 
 const { start, ...library } = core;
-const { STATUS, useRoom, ...making } = require("./making.cjs");
-module.exports = { ...library, ...making };
+const { NotMade, assemble, make, pem, signatureAlgorithm } = require("./making.cjs");
+const { checkExtension } = require("./services.cjs");
+module.exports = { ...library, NotMade, assemble, checkExtension, make, pem, signatureAlgorithm };

@@ -12,6 +12,7 @@ export const {
   Structure,
   assemble,
   check,
+  checkExtension,
   encode,
   isLowered,
   make,

@@ -4,9 +4,13 @@
 "use strict";
 
 // Where the status of a certificate is asked for, under which policies it was issued, and which logs have it, by the nodes of
-// their extensions in a report (docs/JSON.md).
+// their extensions in a report (docs/JSON.md); and the check of what such extensions hold.
 
+const { identifierContent } = require("./der.cjs");
 const { bytesOf } = require("./directory.cjs");
+const { STATUS, inRoom, namedIdentifier } = require("./making.cjs");
+const { Refused } = require("./names.cjs");
+const { bytesIn } = require("./pem.cjs");
 
 // Services of an issuer (RFC 5280, 4.2.2.1).
 const OCSP = "1.3.6.1.5.5.7.48.1";
@@ -14,6 +18,8 @@ const ISSUERS = "1.3.6.1.5.5.7.48.2";
 // What qualifies a policy (RFC 5280, 4.2.1.4).
 const STATEMENT = "1.3.6.1.5.5.7.2.1";
 const NOTICE = "1.3.6.1.5.5.7.2.2";
+// An object identifier with dots (X.690, 8.19.4).
+const DOTTED = /^(?:[01]\.[1-3]?\d|2\.(?:0|[1-9]\d*))(?:\.(?:0|[1-9]\d*))*$/;
 
 // A node whose octets encode what they should; throws if they don't.
 function well(node) {
@@ -70,11 +76,35 @@ function timestampsOf(node) {
   }));
 }
 
+// The content of a type's identifier, which is given with dots or by its name.
+function contentOf(type) {
+  const content = DOTTED.test(type) ? identifierContent(type) : namedIdentifier(type);
+  if (content === null) throw new RangeError(`no object identifier, by a name that is known or with dots: ${type}`);
+  return content;
+}
+
+/**
+ * Checks the value of an extension that `check` takes as octets: whether it encodes what its type says, and how often it
+ * deviates from the DER encoding of that, but not where. `null` if there is no such extension of the type.
+ * @throws {Refused} The value doesn't encode what the type says.
+ */
+function checkExtension(type, value) {
+  const parts = [contentOf(type), bytesIn(value, "a Uint8Array or an ArrayBuffer")];
+  return inRoom(parts, (room, places) => {
+    const status = room.call("cimaroly_check_extension", ...places, BigInt(room.result));
+    if (status === STATUS.unknownKind) return null;
+    if (status !== STATUS.ok) throw new Refused("extension", room.word(11), room.word(12));
+    const counts = room.words(0, 10);
+    return { isDer: counts.every((count) => count === 0), counts, headers: room.word(10) };
+  });
+}
+
 module.exports = {
   ISSUERS,
   OCSP,
   Policy,
   addressesOf,
+  checkExtension,
   pointAddresses,
   policiesOf,
   timestampsOf,

@@ -1,6 +1,6 @@
 // What tsc makes of the types of the package: it must find nothing wrong here, but where it is said that it does.
 
-import { check, encode, read, Refused, report } from "cimaroly";
+import { check, checkExtension, encode, read, Refused, report } from "cimaroly";
 import type { AlternativeName, CertificateFields, Deviation, Extension, FieldName, Kind, Name } from "cimaroly";
 import type { Policy, PrivateKeyFields, PublicKey, RequestFields, Span, Structure } from "cimaroly";
 
@@ -16,6 +16,17 @@ export function firstDeviation(der: Uint8Array, kind: Kind): Deviation | undefin
     if (error instanceof Refused) throw new Error(`${error.reason} at ${error.at.toFixed()} in ${error.field?.split(".").join()}`);
     throw error;
   }
+}
+
+export function headersIn(type: string, value: ArrayBuffer): number | undefined {
+  const told = checkExtension(type, value);
+  // @ts-expect-error It may be an extension of another type.
+  told.isDer;
+  // @ts-expect-error It isn't told where deviations are.
+  told?.deviations;
+  // @ts-expect-error A value isn't text.
+  checkExtension(type, "3000");
+  return told?.isDer ? told.headers : told?.counts.length;
 }
 
 export function sizes(der: ArrayBuffer): [number, number, string] {
