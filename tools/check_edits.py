@@ -38,7 +38,7 @@ BUDGETS = [
     (2, ["x509_outline"]),
     (2, ["x509_more_outlines", "x509_list_outlines"]),
     (2, ["x509_outline_kinds"]),
-    (3, ["x509_make"]),
+    (4, ["x509_make"]),
     (10, ["x509_signing", "x509_signature_algorithms", "x509_pem_writer", "x509_flat_make"]),
     (4, ["x509_make_parts", "x509_oids_by_name"]),
     (4, ["x509_make_values", "x509_make_names", "x509_make_fields"]),
