@@ -114,4 +114,23 @@ static inline bool next_row(char **table, const char *folder, struct row *row)
     return true;
 }
 
+/* Hands on each row of the table of the repository that is in a folder. */
+static inline void over_table(const char *folder, void (*test_row)(const struct row *row))
+{
+    char path[4096];
+    size_t size = 0;
+    struct row row = {{NULL}, 0, NULL, 0};
+    snprintf(path, sizeof path, "%s/bindings/tests/table.tsv", folder);
+    char *text = (char *)read_file(path, &size);
+    char *table = text == NULL ? NULL : strchr(text, '\n');
+    if (table == NULL)
+        stop("can't be read", path);
+    table++;
+    while (next_row(&table, folder, &row)) {
+        test_row(&row);
+        free(row.der);
+    }
+    free(text);
+}
+
 #endif

@@ -241,22 +241,9 @@ static void test_row(const struct row *row)
 
 int main(int argc, char **argv)
 {
-    char path[4096];
-    size_t size = 0;
-    struct row row = {{NULL}, 0, NULL, 0};
     if (argc != 2)
         stop("usage", "test_keys FOLDER");
-    snprintf(path, sizeof path, "%s/bindings/tests/table.tsv", argv[1]);
-    char *text = (char *)read_file(path, &size);
-    char *table = text == NULL ? NULL : strchr(text, '\n');
-    if (table == NULL)
-        stop("can't be read", path);
-    table++;
-    while (next_row(&table, argv[1], &row)) {
-        test_row(&row);
-        free(row.der);
-    }
-    free(text);
+    over_table(argv[1], test_row);
     printf("%zu passed, %zu failed\n", passed, failed);
     return failed > 0 || passed == 0;
 }
