@@ -49,23 +49,37 @@ NAMES_HEAD = """//! The names of object identifiers, as the standards spell them
 //! `tools/further_names.tsv`.
 #![tactic(auto)]
 
-mod iso;
 mod itu;
+mod members;
+mod organizations;
 
 /// The name of an object identifier, if it has one here.
 pub fn name_of(arcs: &[u64]) -> Option<&'static str> {
     let (last, front) = arcs.split_last()?;
     match front {
+        [1, 2, ..] => members::name_under(front, *last),
+        [1, 3, ..] => organizations::name_under(front, *last),
+        _ => itu::name_under(front, *last),
+    }
+}
 """
 
 
-# What the names under an arc stand in, by that arc: one file for all would be long.
-MODULES = {0: "itu", 1: "iso", 2: "itu"}
+# What the names under the first arcs stand in: one file for all would be long.
+MODULES = {(1, 2): "members", (1, 3): "organizations"}
+OTHERS = "itu"
 MODULE_HEADS = {
-    "iso": "//! Names of ISO's identifiers, under arc 1. This file is written by `tools/make_object_identifiers.py`.\n",
-    "itu": "//! Names of ITU-T's identifiers, under arc 0, and of those that it shares with ISO, under arc 2. This file is written by\n"
-    "//! `tools/make_object_identifiers.py`.\n",
+    "members": "//! Names of the identifiers of ISO's member bodies, under 1.2.",
+    "organizations": "//! Names of the identifiers of organizations that ISO knows, under 1.3.",
+    "itu": "//! Names of ITU-T's identifiers, under arc 0, and of those that it shares with ISO, under arc 2.",
 }
+WRITTEN = "//! This file is written by `tools/make_object_identifiers.py`.\n"
+NAME_UNDER = """
+/// The name of an identifier by its last arc and those before it, if it has one here.
+pub(crate) fn name_under(front: &[u64], last: u64) -> Option<&'static str> {
+    match front {
+"""
+NONE_ELSE = "        _ => None,\n    }\n}\n"
 
 
 def rows_of(name):
@@ -93,25 +107,32 @@ def identifiers(crate, rows):
     return text
 
 
+def names_under(front, named):
+    """The function for the names under a front, and the arm that calls it."""
+    function = f"under_{'_'.join(map(str, front))}"
+    text = f"\n/// The names under {'.'.join(map(str, front))}.\n"
+    text += f"fn {function}(last: u64) -> Option<&'static str> {{\n    match last {{\n"
+    text += "".join(f'        {last} => Some("{name}"),\n' for last, name in sorted(named))
+    return text + NONE_ELSE, f"        [{', '.join(map(str, front))}] => {function}(last),\n"
+
+
 def names_texts(rows):
     """The crate of names: a function for the identifiers under each front, since one for all takes long to prove."""
     fronts = {}
     for row in rows:
         *front, last = row["arcs"].split(".")
         fronts.setdefault(tuple(map(int, front)), []).append((int(last), row["name"]))
-    text = NAMES_HEAD
-    modules = dict(MODULE_HEADS)
+    functions, arms = dict.fromkeys(MODULE_HEADS, ""), dict.fromkeys(MODULE_HEADS, "")
     for front, named in sorted(fronts.items()):
-        module, function = MODULES[front[0]], f"under_{'_'.join(map(str, front))}"
-        text += f"        [{', '.join(map(str, front))}] => {module}::{function}(*last),\n"
-        modules[module] += f"\n/// The names under {'.'.join(map(str, front))}.\n"
-        modules[module] += f"pub(crate) fn {function}(last: u64) -> Option<&'static str> {{\n    match last {{\n"
-        for last, name in sorted(named):
-            modules[module] += f'        {last} => Some("{name}"),\n'
-        modules[module] += "        _ => None,\n    }\n}\n"
-    text += "        _ => None,\n    }\n}\n"
-    parts = {path_of("x509_oid_names", f"{module}.rt"): part for module, part in modules.items()}
-    return {path_of("x509_oid_names"): text, **parts}
+        module = MODULES.get(front[:2], OTHERS)
+        function, arm = names_under(front, named)
+        functions[module] += function
+        arms[module] += arm
+    texts = {path_of("x509_oid_names"): NAMES_HEAD}
+    for module, head in MODULE_HEADS.items():
+        text = f"{head}\n{WRITTEN}{NAME_UNDER}{arms[module]}{NONE_ELSE}{functions[module]}"
+        texts[path_of("x509_oid_names", f"{module}.rt")] = text
+    return texts
 
 
 TESTS_HEAD = """//! The identifiers of the two tables, each with its name. This file is written by `tools/make_object_identifiers.py`.

@@ -1,8 +1,28 @@
-//! Names of ITU-T's identifiers, under arc 0, and of those that it shares with ISO, under arc 2. This file is written by
-//! `tools/make_object_identifiers.py`.
+//! Names of ITU-T's identifiers, under arc 0, and of those that it shares with ISO, under arc 2.
+//! This file is written by `tools/make_object_identifiers.py`.
+
+/// The name of an identifier by its last arc and those before it, if it has one here.
+pub(crate) fn name_under(front: &[u64], last: u64) -> Option<&'static str> {
+    match front {
+        [0, 4, 0, 1862, 1] => under_0_4_0_1862_1(last),
+        [0, 4, 0, 1862, 1, 6] => under_0_4_0_1862_1_6(last),
+        [0, 9, 2342, 19200300, 100, 1] => under_0_9_2342_19200300_100_1(last),
+        [2, 5, 4] => under_2_5_4(last),
+        [2, 5, 29] => under_2_5_29(last),
+        [2, 5, 29, 32] => under_2_5_29_32(last),
+        [2, 5, 29, 37] => under_2_5_29_37(last),
+        [2, 16, 840, 1, 101, 3, 4, 1] => under_2_16_840_1_101_3_4_1(last),
+        [2, 16, 840, 1, 101, 3, 4, 2] => under_2_16_840_1_101_3_4_2(last),
+        [2, 16, 840, 1, 101, 3, 4, 3] => under_2_16_840_1_101_3_4_3(last),
+        [2, 16, 840, 1, 113730, 1] => under_2_16_840_1_113730_1(last),
+        [2, 23, 140, 1] => under_2_23_140_1(last),
+        [2, 23, 140, 1, 2] => under_2_23_140_1_2(last),
+        _ => None,
+    }
+}
 
 /// The names under 0.4.0.1862.1.
-pub(crate) fn under_0_4_0_1862_1(last: u64) -> Option<&'static str> {
+fn under_0_4_0_1862_1(last: u64) -> Option<&'static str> {
     match last {
         1 => Some("id-etsi-qcs-QcCompliance"),
         2 => Some("id-etsi-qcs-QcLimitValue"),
@@ -16,7 +36,7 @@ pub(crate) fn under_0_4_0_1862_1(last: u64) -> Option<&'static str> {
 }
 
 /// The names under 0.4.0.1862.1.6.
-pub(crate) fn under_0_4_0_1862_1_6(last: u64) -> Option<&'static str> {
+fn under_0_4_0_1862_1_6(last: u64) -> Option<&'static str> {
     match last {
         1 => Some("id-etsi-qct-esign"),
         2 => Some("id-etsi-qct-eseal"),
@@ -26,7 +46,7 @@ pub(crate) fn under_0_4_0_1862_1_6(last: u64) -> Option<&'static str> {
 }
 
 /// The names under 0.9.2342.19200300.100.1.
-pub(crate) fn under_0_9_2342_19200300_100_1(last: u64) -> Option<&'static str> {
+fn under_0_9_2342_19200300_100_1(last: u64) -> Option<&'static str> {
     match last {
         1 => Some("userId"),
         25 => Some("domainComponent"),
@@ -35,7 +55,7 @@ pub(crate) fn under_0_9_2342_19200300_100_1(last: u64) -> Option<&'static str> {
 }
 
 /// The names under 2.5.4.
-pub(crate) fn under_2_5_4(last: u64) -> Option<&'static str> {
+fn under_2_5_4(last: u64) -> Option<&'static str> {
     match last {
         3 => Some("commonName"),
         4 => Some("surname"),
@@ -63,7 +83,7 @@ pub(crate) fn under_2_5_4(last: u64) -> Option<&'static str> {
 }
 
 /// The names under 2.5.29.
-pub(crate) fn under_2_5_29(last: u64) -> Option<&'static str> {
+fn under_2_5_29(last: u64) -> Option<&'static str> {
     match last {
         9 => Some("id-ce-subjectDirectoryAttributes"),
         14 => Some("id-ce-subjectKeyIdentifier"),
@@ -93,7 +113,7 @@ pub(crate) fn under_2_5_29(last: u64) -> Option<&'static str> {
 }
 
 /// The names under 2.5.29.32.
-pub(crate) fn under_2_5_29_32(last: u64) -> Option<&'static str> {
+fn under_2_5_29_32(last: u64) -> Option<&'static str> {
     match last {
         0 => Some("anyPolicy"),
         _ => None,
@@ -101,7 +121,7 @@ pub(crate) fn under_2_5_29_32(last: u64) -> Option<&'static str> {
 }
 
 /// The names under 2.5.29.37.
-pub(crate) fn under_2_5_29_37(last: u64) -> Option<&'static str> {
+fn under_2_5_29_37(last: u64) -> Option<&'static str> {
     match last {
         0 => Some("anyExtendedKeyUsage"),
         _ => None,
@@ -109,7 +129,7 @@ pub(crate) fn under_2_5_29_37(last: u64) -> Option<&'static str> {
 }
 
 /// The names under 2.16.840.1.101.3.4.1.
-pub(crate) fn under_2_16_840_1_101_3_4_1(last: u64) -> Option<&'static str> {
+fn under_2_16_840_1_101_3_4_1(last: u64) -> Option<&'static str> {
     match last {
         1 => Some("id-aes128-ECB"),
         2 => Some("id-aes128-CBC"),
@@ -140,7 +160,7 @@ pub(crate) fn under_2_16_840_1_101_3_4_1(last: u64) -> Option<&'static str> {
 }
 
 /// The names under 2.16.840.1.101.3.4.2.
-pub(crate) fn under_2_16_840_1_101_3_4_2(last: u64) -> Option<&'static str> {
+fn under_2_16_840_1_101_3_4_2(last: u64) -> Option<&'static str> {
     match last {
         1 => Some("id-sha256"),
         2 => Some("id-sha384"),
@@ -159,7 +179,7 @@ pub(crate) fn under_2_16_840_1_101_3_4_2(last: u64) -> Option<&'static str> {
 }
 
 /// The names under 2.16.840.1.101.3.4.3.
-pub(crate) fn under_2_16_840_1_101_3_4_3(last: u64) -> Option<&'static str> {
+fn under_2_16_840_1_101_3_4_3(last: u64) -> Option<&'static str> {
     match last {
         1 => Some("id-dsa-with-sha224"),
         2 => Some("id-dsa-with-sha256"),
@@ -181,7 +201,7 @@ pub(crate) fn under_2_16_840_1_101_3_4_3(last: u64) -> Option<&'static str> {
 }
 
 /// The names under 2.16.840.1.113730.1.
-pub(crate) fn under_2_16_840_1_113730_1(last: u64) -> Option<&'static str> {
+fn under_2_16_840_1_113730_1(last: u64) -> Option<&'static str> {
     match last {
         1 => Some("netscape-cert-type"),
         13 => Some("netscape-comment"),
@@ -190,7 +210,7 @@ pub(crate) fn under_2_16_840_1_113730_1(last: u64) -> Option<&'static str> {
 }
 
 /// The names under 2.23.140.1.
-pub(crate) fn under_2_23_140_1(last: u64) -> Option<&'static str> {
+fn under_2_23_140_1(last: u64) -> Option<&'static str> {
     match last {
         1 => Some("ev-guidelines"),
         _ => None,
@@ -198,7 +218,7 @@ pub(crate) fn under_2_23_140_1(last: u64) -> Option<&'static str> {
 }
 
 /// The names under 2.23.140.1.2.
-pub(crate) fn under_2_23_140_1_2(last: u64) -> Option<&'static str> {
+fn under_2_23_140_1_2(last: u64) -> Option<&'static str> {
     match last {
         1 => Some("domain-validated"),
         2 => Some("organization-validated"),
