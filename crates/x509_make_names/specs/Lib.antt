@@ -1,2 +1,3 @@
 -- What is made of names.
+pub mod SetOrder
 pub mod UsualTags

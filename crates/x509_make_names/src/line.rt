@@ -1,7 +1,7 @@
 //! Names on one line: `/C=DE/CN=example.org`, in order, and `CN=example.org, C=DE`, the last first (RFC 4514, 2.1).
 
 use crate::attributes::usual_tag;
-use crate::sets::{keep_end, sort_from};
+use crate::sets::{keep_from, put_sorted};
 use std::alloc::Allocator;
 use x509_make_parts::{Done, Fault, Maker};
 use x509_make_values::hexadecimal::hex_bytes;
@@ -116,16 +116,16 @@ fn assignment<A: Allocator + Copy>(maker: &mut Maker<A>, text: &str) -> Done {
 /// Appends a set that is written as `CN=a+UID=b`.
 fn set_line<A: Allocator + Copy>(maker: &mut Maker<A>, text: &str) -> Done {
     let start = maker.open();
-    let mut ends: Vec<usize, A> = Vec::new(maker.alloc);
+    let mut elements = Vec::new(maker.alloc);
     let mut rest = Some(text);
     for _ in 0..text.len().saturating_add(1) {
         let Some(line) = rest else { break };
         let (front, more) = cut(line, b'+');
         assignment(maker, front)?;
-        keep_end(maker, &mut ends)?;
+        keep_from(maker, start, &mut elements)?;
         rest = more;
     }
-    sort_from(maker, start, ends.as_slice())?;
+    put_sorted(maker, elements)?;
     maker.close(start, 0x31)
 }
 

@@ -2,7 +2,7 @@
 
 use crate::attributes::{assigned, attribute};
 use crate::line::line;
-use crate::sets::{keep_end, sort_from};
+use crate::sets::{keep_from, put_sorted};
 use json::Value;
 use std::alloc::Allocator;
 use x509_make_parts::node::items_of;
@@ -15,14 +15,14 @@ fn members_of_set<A: Allocator + Copy>(maker: &mut Maker<A>, node: &Value<'_, A>
         return Err(Fault::Not("a set of attributes"));
     };
     let start = maker.open();
-    let mut ends: Vec<usize, A> = Vec::new(maker.alloc);
+    let mut elements = Vec::new(maker.alloc);
     for (index, (key, value)) in members.iter().enumerate() {
         maker.place.enter(index);
         assigned(maker, *key, value)?;
         maker.place.leave();
-        keep_end(maker, &mut ends)?;
+        keep_from(maker, start, &mut elements)?;
     }
-    sort_from(maker, start, ends.as_slice())
+    put_sorted(maker, elements)
 }
 
 /// Appends the attributes of a set by their fields, in the order in which they stand.

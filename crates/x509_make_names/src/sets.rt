@@ -1,64 +1,78 @@
 //! Elements of a SET OF in order.
 
+ghost use Rattle.std.specs.Prelude.{◌≡◌, ◌++◌, ◌∷◌, [], List, ℕ, take, drop, flat_map, OnOk, IfOk, Vec};
+ghost use Rattle.x509_make_names.specs.SetOrder.{IsSetContent};
+
 use std::alloc::Allocator;
 use x509_make_parts::{Done, Fault, Maker};
 
-/// The bytes from a place up to another.
-fn part(bytes: &[u8], from: usize, to: usize) -> &[u8] {
-    if from <= to && to <= bytes.len() {
-        &bytes[from..to]
+/// The bytes from a place on.
+fn part_from(bytes: &[u8], start: usize) -> &[u8]
+    ensures { result.now ≡ drop start bytes.now }
+{
+    if start <= bytes.len() {
+        &bytes[start..]
     } else {
-        &bytes[bytes.len()..]
+        &[]
     }
 }
 
-/// Copies of the elements from a place on, each of which ends at one of the places.
-fn elements<A: Allocator + Copy>(
-    maker: &Maker<A>,
-    start: usize,
-    ends: &[usize],
-) -> Result<Vec<Vec<u8, A>, A>, Fault> {
-    let mut items: Vec<Vec<u8, A>, A> = Vec::new(maker.alloc);
-    let mut from = start;
-    for end in ends {
-        let Ok(item) = Vec::from_slice(maker.alloc, part(maker.out.as_slice(), from, *end)) else {
-            return Err(Fault::OutOfMemory);
-        };
-        if items.push(item).is_err() {
-            return Err(Fault::OutOfMemory);
-        }
-        from = *end;
-    }
-    Ok(items)
-}
-
-/// Puts the elements from a place on in the order of a SET OF in DER, where each ends at one of the places (X.690, 11.6).
+/// Takes back what was written from a place on.
 ///
 /// # Errors
 /// `OutOfMemory`.
-pub(crate) fn sort_from<A: Allocator + Copy>(
+fn taken_back<A: Allocator + Copy>(maker: &mut Maker<A>, start: usize) -> Result<Vec<u8, A>, Fault>
+    ensures taken { IfOk result (λ element. element.items ≡ drop start maker.old.out.items) }
+    ensures rest { OnOk result (maker.new.out.items ≡ take start maker.old.out.items) }
+{
+    let Ok(element) = Vec::from_slice(maker.alloc, part_from(maker.out.as_slice(), start)) else {
+        return Err(Fault::OutOfMemory);
+    };
+    maker.out.truncate(start);
+    Ok(element)
+}
+
+/// Takes back what was written from a place on, and keeps it as the last of some elements.
+///
+/// # Errors
+/// `OutOfMemory`.
+pub(crate) fn keep_from<A: Allocator + Copy>(
     maker: &mut Maker<A>,
     start: usize,
-    ends: &[usize],
-) -> Done {
-    let mut items = elements(maker, start, ends)?;
-    if items.sort().is_err() {
-        return Err(Fault::OutOfMemory);
+    elements: &mut Vec<Vec<u8, A>, A>,
+) -> Done
+    ensures rest { OnOk result (maker.new.out.items ≡ take start maker.old.out.items) }
+{
+    let element = taken_back(maker, start)?;
+    match elements.push(element) {
+        Ok(()) => Ok(()),
+        Err(_) => Err(Fault::OutOfMemory),
     }
-    maker.out.truncate(start);
-    for item in &items {
-        maker.put(item.as_slice())?;
+}
+
+/// Appends elements one behind another.
+fn put_all<A: Allocator + Copy>(maker: &mut Maker<A>, elements: &[Vec<u8, A>]) -> Done
+    ensures { OnOk result (maker.new.out.items ≡ maker.old.out.items ++ flat_map (λ (e : Vec ℕ A). e.items) elements.now) }
+{
+    for element in elements {
+        maker.put(element.as_slice())?;
     }
     Ok(())
 }
 
-/// Keeps where an element ends.
+/// Appends the elements of a SET OF in the order of DER (X.690, 11.6).
 ///
 /// # Errors
 /// `OutOfMemory`.
-pub(crate) fn keep_end<A: Allocator + Copy>(maker: &Maker<A>, ends: &mut Vec<usize, A>) -> Done {
-    match ends.push(maker.open()) {
-        Ok(()) => Ok(()),
-        Err(_) => Err(Fault::OutOfMemory),
+pub(crate) fn put_sorted<A: Allocator + Copy>(
+    maker: &mut Maker<A>,
+    mut elements: Vec<Vec<u8, A>, A>,
+) -> Done
+    ensures { OnOk result ((content : List ℕ) × IsSetContent (λ (e : Vec ℕ A). e.items) elements.items content
+        × (maker.new.out.items ≡ maker.old.out.items ++ content)) }
+{
+    if elements.sort().is_err() {
+        return Err(Fault::OutOfMemory);
     }
+    put_all(maker, elements.as_slice())
 }
