@@ -37,7 +37,7 @@ use x509_flat::request_fields::FlatRequest;
 use x509_flat::signed_part::FlatSigned;
 use x509_flat::status::Status;
 use x509_flat::validity::FlatTime;
-use x509_flat_report::{Lines, Reporter};
+use x509_flat_report::{Objects, Reporter};
 
 /// Whether the input encodes a value of the kind, and how it deviates from the value's DER encoding.
 #[unsafe(no_mangle)]
@@ -201,13 +201,13 @@ pub extern "C" fn cimaroly_report(
     out: &mut [u8],
     size: &mut usize,
 ) -> u32
-    ensures known { IsKind kind → AnswersFor kind result (λ k status. Reported (⟦<Lines as Reporter>⟧.writes k der.now secrets) out.old out.new status size.new) }
+    ensures known { IsKind kind → AnswersFor kind result (λ k status. Reported (⟦<Objects as Reporter>⟧.writes Arena k der.now secrets) out.old out.new status size.new) }
     ensures unknown { (IsKind kind → ⊥) → (result ≡ 4) × Untouched out.old out.new size.new }
 {
-    report_by(&Lines, memory, kind, der, secrets, out, size)
+    report_by(&Objects, memory, kind, der, secrets, out, size)
 }
 
-/// `cimaroly_report` over any reporter: what is written is a line of it about this input as this kind, with the secret
+/// `cimaroly_report` over any reporter: what is written is an object of it about this input as this kind, with the secret
 /// numbers of private keys where they are asked for.
 fn report_by<R: Reporter>(
     reporter: &R,
@@ -218,7 +218,7 @@ fn report_by<R: Reporter>(
     out: &mut [u8],
     size: &mut usize,
 ) -> u32
-    ensures known { IsKind kind → AnswersFor kind result (λ k status. Reported (R.writes k der.now secrets) out.old out.new status size.new) }
+    ensures known { IsKind kind → AnswersFor kind result (λ k status. Reported (R.writes Arena k der.now secrets) out.old out.new status size.new) }
     ensures unknown { (IsKind kind → ⊥) → (result ≡ 4) × Untouched out.old out.new size.new }
 {
     let Some(known) = Kind::from_number(kind) else {

@@ -285,7 +285,7 @@ pub(crate) fn report<R: Reporter>(
     secrets: bool,
     out: &mut [u8],
 ) -> Sized
-    ensures { Reported (R.writes kind bytes.now secrets) out.old out.new result.status result.size }
+    ensures { Reported (R.writes Arena kind bytes.now secrets) out.old out.new result.status result.size }
 {
     let arena = arena(block);
     flat_report(&arena, reporter, kind, bytes, secrets, out)

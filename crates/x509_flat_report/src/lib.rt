@@ -1,76 +1,61 @@
 //! The report of bytes as a type, as one JSON object in a buffer.
 #![tactic(auto)]
 
-ghost use Rattle.std.specs.Prelude.{◌≡◌, ◌++◌, ◌∷◌, [], Bool, List, ℕ, IfOk, IsTrue};
-ghost use Rattle.x509_flat_report.specs.Reports.{IsObjectOf, PutsText, Reported};
+ghost use Rattle.std.specs.Prelude.{◌≡◌, Bool, List, ℕ, IfOk, IsTrue};
+ghost use Rattle.x509_flat_report.specs.Reports.{IsReport, IsWord, PutsText, Reported, beginning_of, inspected_as};
 ghost use Rattle.x509_flat.specs.declared.kind.Kind.{Kind as FlatKind};
+ghost use Rattle.x509_inspect_parts.specs.Kinds.{kind_name};
 
 use std::alloc::{AllocError, Allocator};
 use x509_der::{ReadError, Refused};
 use x509_flat::kind::Kind;
 use x509_flat::status::{Sized, Status};
-use x509_inspect::{
-    Extent, Head, Identifiers, Kind as Inspected, Options, Secrets, Source, Written, push_json,
-};
+use x509_inspect::{Identifiers, Kind as Inspected, Options, Secrets, members};
 
-/// What an object begins with whose bytes come from no file.
-const SOURCE: &[u8] = b"{\"file\":\"\"";
-
-/// What writes a line of JSON about bytes: one object, whose first member says from which file they come, and a line feed.
+/// What writes bytes as a type as one object in JSON.
 pub trait Reporter {
-    /// Which lines it may write of bytes as a type, with the secret numbers of private keys or without.
-    ghost writes: { FlatKind → List ℕ → Bool → List ℕ → Type 0 };
+    /// Which objects it may write, by the type that memory comes from, of bytes as a type, with the secret numbers of private
+    /// keys or without.
+    ghost writes: { Type 0 → FlatKind → List ℕ → Bool → List ℕ → Type 0 };
 
-    /// A line about bytes as a type, with the secret numbers of private keys or without.
+    /// An object about bytes as a type, with the secret numbers of private keys or without.
     ///
     /// # Errors
     /// `AllocError` where memory is refused.
-    fn line<A: Allocator + Copy>(
+    fn object<A: Allocator + Copy>(
         &self,
         alloc: A,
         kind: Kind,
         bytes: &[u8],
         secrets: bool,
-    ) -> Result<Written<A>, AllocError>
-        ensures { IfOk result (λ w. writes kind bytes.now secrets w.0.items) };
+    ) -> Result<Vec<u8, A>, AllocError>
+        ensures { IfOk result (λ text. writes A kind bytes.now secrets text.items) };
 }
 
-/// The lines that `cimaroly` writes, by `push_json`.
-pub struct Lines;
+/// The objects that `cimaroly` writes, without where the bytes come from.
+pub struct Objects;
 
-impl Reporter for Lines {
-    ghost writes = { λ kind bytes secrets line. Unit {0} };
+impl Reporter for Objects {
+    ghost writes = { λ A kind bytes secrets text. IsReport A kind bytes text };
 
-    fn line<A: Allocator + Copy>(
+    fn object<A: Allocator + Copy>(
         &self,
         alloc: A,
         kind: Kind,
         bytes: &[u8],
         secrets: bool,
-    ) -> Result<Written<A>, AllocError> {
-        push_json(
-            alloc,
-            Vec::new(alloc),
-            head(inspected(kind), bytes, secrets),
-        )
+    ) -> Result<Vec<u8, A>, AllocError> {
+        let kind = inspected(kind);
+        let (members, outcome) = members(alloc, kind, bytes, options(secrets))?;
+        let mut text = beginning(alloc, kind, bytes.len(), word_of(outcome)?)?;
+        text.extend_from_slice(behind_brace(members.as_slice()))?;
+        Ok(text)
     }
 }
 
 /// The type, as reports name it.
 fn inspected(kind: Kind) -> Inspected
-    ensures certificate { kind ≡ Kind.Certificate → result ≡ Inspected.Certificate }
-    ensures request { kind ≡ Kind.Request → result ≡ Inspected.Request }
-    ensures private_key { kind ≡ Kind.PrivateKey → result ≡ Inspected.PrivateKey }
-    ensures public_key { kind ≡ Kind.PublicKey → result ≡ Inspected.PublicKey }
-    ensures rsa_private_key { kind ≡ Kind.RsaPrivateKey → result ≡ Inspected.RsaPrivateKey }
-    ensures rsa_public_key { kind ≡ Kind.RsaPublicKey → result ≡ Inspected.RsaPublicKey }
-    ensures ec_private_key { kind ≡ Kind.EcPrivateKey → result ≡ Inspected.EcPrivateKey }
-    ensures name { kind ≡ Kind.Name → result ≡ Inspected.Name }
-    ensures extensions { kind ≡ Kind.Extensions → result ≡ Inspected.Extensions }
-    ensures algorithm { kind ≡ Kind.Algorithm → result ≡ Inspected.Algorithm }
-    ensures raw_algorithm { kind ≡ Kind.RawAlgorithm → result ≡ Inspected.RawAlgorithm }
-    ensures request_info { kind ≡ Kind.RequestInfo → result ≡ Inspected.RequestInfo }
-    ensures tbs_certificate { kind ≡ Kind.TbsCertificate → result ≡ Inspected.TbsCertificate }
+    ensures { result ≡ inspected_as kind }
 {
     match kind {
         Kind::Certificate => Inspected::Certificate,
@@ -89,42 +74,65 @@ fn inspected(kind: Kind) -> Inspected
     }
 }
 
-/// What a report tells: all fields.
-fn head(kind: Inspected, bytes: &[u8], secrets: bool) -> Head<'_>
-    ensures kind { result.kind ≡ kind }
-    ensures bytes { result.bytes.now ≡ bytes.now }
-    ensures shown { IsTrue secrets → result.extent ≡ Extent.Fields (record { secrets = Secrets.Shown; identifiers = Identifiers.Named }) }
-    ensures hidden { (IsTrue secrets → ⊥) → result.extent ≡ Extent.Fields (record { secrets = Secrets.Hidden; identifiers = Identifiers.Named }) }
+/// How a report tells fields.
+fn options(secrets: bool) -> Options
+    ensures shown { IsTrue secrets → result ≡ record { secrets = Secrets.Shown; identifiers = Identifiers.Named } }
+    ensures hidden { (IsTrue secrets → ⊥) → result ≡ record { secrets = Secrets.Hidden; identifiers = Identifiers.Named } }
 {
-    let source = Source {
-        file: "",
-        block: None,
-    };
     let secrets = if secrets {
         Secrets::Shown
     } else {
         Secrets::Hidden
     };
-    let options = Options {
+    Options {
         secrets,
         identifiers: Identifiers::Named,
-    };
-    Head {
-        source,
-        kind,
-        bytes,
-        extent: Extent::Fields(options),
     }
 }
 
-/// A text without one line feed at its end.
-fn without_line_feed(text: &[u8]) -> &[u8]
-    ensures one { (line : List ℕ) → text.now ≡ line ++ 10 ∷ [] → result.now ≡ line }
-    ensures none { ((line : List ℕ) → text.now ≡ line ++ 10 ∷ [] → ⊥) → result.now ≡ text.now }
+/// What reading came to, in a word.
+///
+/// # Errors
+/// `AllocError` where it was refused for memory.
+fn word_of(outcome: Result<usize, Refused>) -> Result<&'static str, AllocError>
+    ensures { IfOk result (λ word. IsWord outcome word.now) }
 {
-    match text {
-        [line @ .., b'\n'] => line,
-        _ => text,
+    match outcome {
+        Ok(0) => Ok("ok"),
+        Ok(_) => Ok("deviations"),
+        Err(
+            Refused {
+                error: ReadError::OutOfMemory,
+                at: _,
+            },
+        ) => Err(AllocError),
+        Err(_) => Ok("refused"),
+    }
+}
+
+/// What a report begins with.
+fn beginning<A: Allocator + Copy>(
+    alloc: A,
+    kind: Inspected,
+    length: usize,
+    word: &str,
+) -> Result<Vec<u8, A>, AllocError>
+    ensures { IfOk result (λ text. text.items ≡ beginning_of (kind_name kind) length word.now) }
+{
+    let mut text = String::new(alloc);
+    let name = kind.name();
+    write!(
+        text,
+        "{{\"type\":\"{name}\",\"length\":{length},\"result\":\"{word}\","
+    )?;
+    Ok(text.into_bytes())
+}
+
+/// What stands behind an object's first brace.
+fn behind_brace(object: &[u8]) -> &[u8] {
+    match object {
+        [b'{', members @ ..] => members,
+        _ => object,
     }
 }
 
@@ -146,19 +154,6 @@ fn put_text(text: &[u8], out: &mut [u8]) -> Sized
     }
 }
 
-/// The object of a line without its first member, which would say from which file the bytes come.
-fn object_of(line: &mut [u8]) -> &[u8]
-    ensures { IsObjectOf line.old result.now }
-{
-    if line.len() <= SOURCE.len() {
-        return &[];
-    }
-    // the comma behind that member becomes the brace
-    line[SOURCE.len()] = b'{';
-    let (_, object) = line.split_at(SOURCE.len());
-    without_line_feed(object)
-}
-
 /// Nothing is written for want of memory.
 fn without_memory() -> Sized
     ensures { (result.status ≡ Status.OutOfMemory) × (result.size ≡ 0) }
@@ -169,26 +164,9 @@ fn without_memory() -> Sized
     }
 }
 
-/// Writes the object of a line, but for a read that was refused for memory.
-fn put_written<A: Allocator + Copy>(written: Written<A>, out: &mut [u8]) -> Sized
-    ensures { Reported (λ line. line ≡ written.0.items) out.old out.new result.status result.size }
-{
-    let (mut line, outcome) = written;
-    if let Err(
-        Refused {
-            error: ReadError::OutOfMemory,
-            at: _,
-        },
-    ) = outcome
-    {
-        return without_memory();
-    }
-    put_text(object_of(&mut line), out)
-}
-
 /// Writes the report of bytes as a type to the front of a slice, as one JSON object, and tells its size; also where the
-/// bytes are refused. The text is a line that the reporter writes of these bytes as this type, with the secret numbers of
-/// private keys where they are asked for, without its first member.
+/// bytes are refused. The text is an object that the reporter writes of these bytes as this type, with the secret numbers of
+/// private keys where they are asked for.
 pub fn report<A: Allocator + Copy, R: Reporter>(
     alloc: A,
     reporter: &R,
@@ -197,10 +175,10 @@ pub fn report<A: Allocator + Copy, R: Reporter>(
     secrets: bool,
     out: &mut [u8],
 ) -> Sized
-    ensures { Reported (R.writes kind bytes.now secrets) out.old out.new result.status result.size }
+    ensures { Reported (R.writes A kind bytes.now secrets) out.old out.new result.status result.size }
 {
-    match reporter.line(alloc, kind, bytes, secrets) {
-        Ok(written) => put_written(written, out),
+    match reporter.object(alloc, kind, bytes, secrets) {
+        Ok(text) => put_text(text.as_slice(), out),
         Err(AllocError) => without_memory(),
     }
 }

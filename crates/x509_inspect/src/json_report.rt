@@ -8,9 +8,17 @@ use crate::told::{Task, faults_in, pin_told, read_told};
 use std::alloc::{AllocError, Allocator};
 use x509_der::{FromDer, Place, Refused};
 use x509_fingerprints::{Fingerprints, HexDigits, Keyed};
-use x509_inspect_parts::json_line::{begin, line_of, write_refused};
-use x509_inspect_parts::{Extent, Head, Standing};
+use x509_inspect_parts::json_line::{begin, line_of, write_reason, write_refused};
+use x509_inspect_parts::{Extent, Head, Kind, Options, Standing};
 use x509_report::{Fault, JsonSink, Moment, Reported, Span};
+
+/// What was read, where it deviates, and how much of it is told.
+#[derive(Clone, Copy)]
+struct Read<'a> {
+    bytes: &'a [u8],
+    places: &'a [Place],
+    extent: Extent,
+}
 
 /// Writes a deviation.
 fn write_deviation<T: Reported, A: Allocator + Copy>(
@@ -132,28 +140,26 @@ fn write_deep<T: Reported, A: Allocator + Copy>(
     sink.writer().end_object()
 }
 
-/// Writes what a read came to that gave a value.
+/// Writes what is told of a value behind what the read came to.
 fn write_value<T: Reported + Keyed<A>, A: Allocator + Copy>(
     sink: &mut JsonSink<A>,
     alloc: A,
-    head: &Head<'_>,
+    read: Read<'_>,
     value: &T,
-    places: &[Place],
 ) -> Result<(), AllocError> {
-    let result = if places.is_empty() {
-        "ok"
-    } else {
-        "deviations"
-    };
-    sink.member("result", result)?;
-    write_deviations(sink, value, head.bytes, places)?;
-    if let Some(span) = value.signed(head.bytes) {
+    let Read {
+        bytes,
+        places,
+        extent,
+    } = read;
+    write_deviations(sink, value, bytes, places)?;
+    if let Some(span) = value.signed(bytes) {
         sink.place("signed", span)?;
     }
-    match head.extent {
+    match extent {
         Extent::Fields(options) => {
-            write_digests(sink, alloc, head.bytes, value)?;
-            value.tell(sink, head.bytes, options.secrets)
+            write_digests(sink, alloc, bytes, value)?;
+            value.tell(sink, bytes, options.secrets)
         }
         Extent::Outcome => Ok(()),
         Extent::OutcomeAt(at) => write_validity(sink, value, at),
@@ -161,7 +167,7 @@ fn write_value<T: Reported + Keyed<A>, A: Allocator + Copy>(
             if let Some(at) = at {
                 write_validity(sink, value, at)?;
             }
-            write_deep(sink, alloc, head.bytes, value)
+            write_deep(sink, alloc, bytes, value)
         }
     }
 }
@@ -175,7 +181,18 @@ fn write_accepted<T: Reported + Keyed<A>, A: Allocator + Copy>(
     places: &[Place],
 ) -> Result<(), AllocError> {
     begin(sink, head)?;
-    write_value(sink, alloc, head, value, places)?;
+    let result = if places.is_empty() {
+        "ok"
+    } else {
+        "deviations"
+    };
+    sink.member("result", result)?;
+    let read = Read {
+        bytes: head.bytes,
+        places,
+        extent: head.extent,
+    };
+    write_value(sink, alloc, read, value)?;
     sink.writer().end_object()
 }
 
@@ -211,5 +228,51 @@ impl<A: Allocator + Copy> Task<A> for WriteJson<'_, A> {
         };
         written?;
         Ok((line_of(alloc, sink)?, outcome))
+    }
+}
+
+/// The writing of the members behind what a read came to.
+#[derive(Clone, Copy, Drop)]
+pub(crate) struct WriteMembers<'a, A> {
+    /// Where memory is asked for.
+    pub(crate) alloc: A,
+    /// As what the bytes are read.
+    pub(crate) kind: Kind,
+    /// The bytes.
+    pub(crate) bytes: &'a [u8],
+    /// How fields are told.
+    pub(crate) options: Options,
+}
+
+impl<A: Allocator + Copy> Task<A> for WriteMembers<'_, A> {
+    type Answer = Result<Written<A>, AllocError>;
+
+    ghost says = { λ t V s r. IfOk r (λ written. IfOk written.1 (Counts V s t.bytes.now)) × IfOk r (λ written. IfErr written.1 (NotRead V s t.bytes.now)) };
+
+    fn run<T: FromDer<A> + Reported + Keyed<A>>(self) -> Result<Written<A>, AllocError> {
+        let WriteMembers {
+            alloc,
+            kind,
+            bytes,
+            options,
+        } = self;
+        let mut sink = JsonSink::new(alloc, Vec::new(alloc));
+        sink.writer().begin_object()?;
+        let (written, outcome) = match read_told::<T, A>(alloc, bytes) {
+            Ok((value, places)) => {
+                let read = Read {
+                    bytes,
+                    places: places.as_slice(),
+                    extent: Extent::Fields(options),
+                };
+                let written = write_value(&mut sink, alloc, read, &value);
+                drop(value);
+                (written, Ok(places.len()))
+            }
+            Err(refused) => (write_reason(&mut sink, kind, bytes, refused), Err(refused)),
+        };
+        written?;
+        sink.writer().end_object()?;
+        Ok((sink.finish(alloc)?, outcome))
     }
 }

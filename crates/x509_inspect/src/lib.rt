@@ -12,7 +12,9 @@ mod told;
 pub use crate::json_report::Written;
 pub use crate::kinds::{Determined, Outcomes, determine};
 pub use crate::row::{Row, Told};
-pub use crate::task::{check, dated, encoded, pinned, push_json, searched, write_row, write_text};
+pub use crate::task::{
+    check, dated, encoded, members, pinned, push_json, searched, write_row, write_text,
+};
 pub use crate::text_report::TextReport;
 pub use crate::told::{Dated, Pinned, Searched};
 pub use x509_der::Refused;

@@ -4,7 +4,7 @@ ghost use Rattle.std.specs.Prelude.{IfOk, IfErr, MatchOption};
 ghost use Rattle.x509_inspect.specs.Outcomes.{Counts, Encodes, EncodesNone, Finds, IsEncoding, NotChecked, NotRead, NotWritten};
 ghost use Rattle.x509_inspect.specs.Shapes.{Value, shape_of};
 
-use crate::json_report::{WriteJson, Written};
+use crate::json_report::{WriteJson, WriteMembers, Written};
 use crate::row::{Row, Told, WriteRow};
 use crate::text_report::WriteText;
 use crate::told::{
@@ -181,4 +181,29 @@ pub fn push_json<A: Allocator + Copy>(
     ensures refused { IfOk result (λ written. IfErr written.1 (NotRead (Value A head.entry.kind) (shape_of A head.entry.kind) head.entry.bytes.now)) }
 {
     run_as(head.kind, WriteJson { alloc, out, head })
+}
+
+/// The object of bytes as a type, with the members that stand behind `result`: all that is told but as what they are read,
+/// how many they are, and what the read came to.
+///
+/// # Errors
+/// `AllocError` where memory is refused.
+pub fn members<A: Allocator + Copy>(
+    alloc: A,
+    kind: Kind,
+    bytes: &[u8],
+    options: Options,
+) -> Result<Written<A>, AllocError>
+    ensures read { IfOk result (λ written. IfOk written.1 (Counts (Value A kind) (shape_of A kind) bytes.now)) }
+    ensures refused { IfOk result (λ written. IfErr written.1 (NotRead (Value A kind) (shape_of A kind) bytes.now)) }
+{
+    run_as(
+        kind,
+        WriteMembers {
+            alloc,
+            kind,
+            bytes,
+            options,
+        },
+    )
 }

@@ -59,18 +59,21 @@ fn write_source<A: Allocator + Copy>(
 }
 
 /// Writes why and where a read was refused.
-fn write_refusal<A: Allocator + Copy>(
+///
+/// # Errors
+/// `AllocError` where memory is refused.
+pub fn write_reason<A: Allocator + Copy>(
     sink: &mut JsonSink<A>,
-    head: &Head<'_>,
+    kind: Kind,
+    bytes: &[u8],
     refused: Refused,
 ) -> Result<(), AllocError> {
     let at = refused.at;
-    sink.member("result", "refused")?;
     sink.member("reason", refused.error.name())?;
     sink.count("at", at as u64)?;
     let path = FieldPath {
-        kind: head.kind,
-        bytes: head.bytes,
+        kind,
+        bytes,
         at,
         separator: ".",
     };
@@ -105,7 +108,8 @@ pub fn write_refused<A: Allocator + Copy>(
     refused: Refused,
 ) -> Result<(), AllocError> {
     begin(sink, head)?;
-    write_refusal(sink, head, refused)?;
+    sink.member("result", "refused")?;
+    write_reason(sink, head.kind, head.bytes, refused)?;
     sink.writer().end_object()
 }
 
