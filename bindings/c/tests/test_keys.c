@@ -176,6 +176,54 @@ static void subject_is_right(const struct row *row)
     }
 }
 
+/* The attributes of request_rsa, whose places are those that openssl asn1parse prints, and the extensions in it. */
+static void attributes_are_right(const struct row *row)
+{
+    struct cimaroly_request_attribute found = {{7, 7}, 7, {7, 7}};
+    struct cimaroly_extension extensions[3];
+    size_t count = 7;
+    uint32_t status = cimaroly_request_attributes(row->der, row->der_size, NULL, 0, &count);
+    expect(status == CIMAROLY_BUFFER_TOO_SHORT && count == 1, row, "how many attributes of a request");
+    status = cimaroly_request_attributes(row->der, row->der_size, &found, 1, &count);
+    expect(status == CIMAROLY_OK && count == 1, row, "the status of a request's attributes");
+    expect(is_content(row, found.identifier, "\x2A\x86\x48\x86\xF7\x0D\x01\x09\x0E"), row, "extensionRequest");
+    expect(found.tag == 0x31 && found.values.start == 327 && found.values.end == 374, row, "the values");
+    status = cimaroly_extensions(CIMAROLY_EXTENSIONS, row->der + found.values.start,
+                                 found.values.end - found.values.start, extensions, 3, &count);
+    expect(status == CIMAROLY_OK && count == 2, row, "the extensions that are asked for");
+}
+
+/* The numbers of rsa_private_key, whose sizes and first bytes are those that openssl rsa -text prints. */
+static void numbers_are_right(const struct row *row)
+{
+    static const struct {
+        size_t size;
+        uint8_t first[3];
+    } wanted[] = {{1, {0}},
+                  {129, {0x00, 0xEA, 0x7F}},
+                  {3, {0x01, 0x00, 0x01}},
+                  {129, {0x00, 0xC7, 0x9F}},
+                  {65, {0x00, 0xF9, 0x2E}},
+                  {65, {0x00, 0xF0, 0xEA}},
+                  {65, {0x00, 0xA2, 0x6D}},
+                  {64, {0x48, 0xCC, 0xB9}},
+                  {64, {0x37, 0x27, 0x6A}}};
+    struct cimaroly_rsa_private_key found;
+    memset(&found, GUARD_FILL, sizeof found);
+    expect(cimaroly_rsa_private_key(row->der, row->der_size, &found) == CIMAROLY_OK, row, "the status of numbers");
+    const struct cimaroly_span spans[] = {found.version,   found.modulus,   found.public_exponent,
+                                          found.private_exponent, found.prime1,    found.prime2,
+                                          found.exponent1, found.exponent2, found.coefficient};
+    for (size_t i = 0; i < sizeof spans / sizeof *spans; i++) {
+        size_t size = spans[i].end - spans[i].start;
+        expect(size == wanted[i].size, row, "a number's size");
+        expect(memcmp(row->der + spans[i].start, wanted[i].first, size < 3 ? size : 3) == 0, row, "a number");
+    }
+    expect(found.coefficient.end == row->der_size, row, "the last number");
+    expect(cimaroly_rsa_private_key(row->der, row->der_size - 1, &found) == CIMAROLY_REFUSED, row, "cut off");
+    expect(is_filled(&found, sizeof found, 0), row, "no numbers");
+}
+
 /* Values of further extensions: the policies of certificate_rsa (2.23.140.1.2.1), and values by RFC 5280, 4.2.2.1. */
 static void further_extensions_are_right(const struct row *row)
 {
@@ -223,9 +271,14 @@ static void test_row(const struct row *row)
 {
     key_is_right(row);
     signature_is_right(row);
-    if (checked(row, CIMAROLY_REQUEST) == CIMAROLY_REFUSED) {
+    size_t count = 7;
+    uint32_t status = cimaroly_request_attributes(row->der, row->der_size, NULL, 0, &count);
+    bool is_read = status == CIMAROLY_OK || status == CIMAROLY_BUFFER_TOO_SHORT;
+    expect(is_read == (checked(row, CIMAROLY_REQUEST) == CIMAROLY_OK), row, "a request's attributes");
+    if (!is_read) {
         struct cimaroly_attribute none[1];
-        size_t count = 7;
+        expect(count == 0, row, "no attributes of a request");
+        count = 7;
         uint32_t told = cimaroly_request_subject_attributes(row->der, row->der_size, none, 1, &count);
         expect(told == CIMAROLY_REFUSED && count == 0, row, "no attributes");
     }
@@ -233,6 +286,10 @@ static void test_row(const struct row *row)
         key_identifiers_are_right(row);
     if (is_text(row->cells[NAME], "request_ec"))
         subject_is_right(row);
+    if (is_text(row->cells[NAME], "request_rsa"))
+        attributes_are_right(row);
+    if (is_text(row->cells[NAME], "rsa_private_key"))
+        numbers_are_right(row);
     if (is_text(row->cells[NAME], "certificate_rsa")) {
         further_extensions_are_right(row);
         deviations_are_counted(row);

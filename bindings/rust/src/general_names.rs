@@ -6,7 +6,7 @@ use core::str;
 
 use crate::elements::{first_in, Element, Elements};
 use crate::few::Few;
-use crate::library::{self, GeneralNamePlace};
+use crate::library::{self, services, GeneralNamePlace};
 use crate::names::Name;
 use crate::oid::Oid;
 
@@ -37,7 +37,7 @@ pub enum GeneralName<'a> {
 }
 
 impl<'a> GeneralName<'a> {
-    fn of(name: Element<'a>) -> Self {
+    pub(crate) fn of(name: Element<'a>) -> Self {
         let Element { tag, content } = name;
         let other = GeneralName::Other { tag, content };
         // (under an explicit tag, which is a deviation, stands an element)
@@ -70,6 +70,9 @@ impl<'a> GeneralName<'a> {
 /// How many names the library is asked for; those behind are walked over.
 const FIRST: usize = 32;
 
+/// A call on an element that tells the names in it.
+type NamesCall = fn(&[u8], &mut [GeneralNamePlace], &mut usize) -> u32;
+
 /// The general names of a list, which [`crate::Certificate::alternative_names`] gives.
 #[derive(Clone)]
 pub struct GeneralNames<'a> {
@@ -87,7 +90,17 @@ impl Default for GeneralNames<'_> {
 impl<'a> GeneralNames<'a> {
     /// Those of the list that a value holds.
     pub(crate) fn of(list: &'a [u8]) -> Self {
-        let (few, has_more) = Few::told(|out, count| library::general_names(list, out, count));
+        Self::told(list, library::general_names)
+    }
+
+    /// Those of the name of a distribution point.
+    pub(crate) fn of_point(name: &'a [u8]) -> Self {
+        Self::told(name, services::point_names)
+    }
+
+    /// Those that a call tells of an element.
+    fn told(list: &'a [u8], call: NamesCall) -> Self {
+        let (few, has_more) = Few::told(|out, count| call(list, out, count));
         let mut rest = Elements::default();
         if has_more {
             rest = Elements(first_in(list));

@@ -5,6 +5,7 @@ use core::fmt;
 use crate::fields::Field;
 use crate::kind::Kind;
 use crate::library::keys::{self, Key, Signature};
+use crate::library::status;
 use crate::oid::Oid;
 
 /// A public key, a `SubjectPublicKeyInfo` (RFC 5280, 4.1.2.7).
@@ -190,5 +191,60 @@ impl<'a> SignatureAlgorithm<'a> {
     #[must_use]
     pub const fn digest(&self) -> Option<Digest> {
         self.digest
+    }
+}
+
+/// The numbers of an RSA private key by itself (RFC 8017, A.1.2), each in two's complement, the
+/// highest byte first. `{:?}` shows the public ones alone.
+#[derive(Clone, Copy, PartialEq, Eq)]
+#[non_exhaustive]
+pub struct RsaPrivateKey<'a> {
+    /// `version`: 0 of a key of two primes.
+    pub version: &'a [u8],
+    /// `modulus`.
+    pub modulus: &'a [u8],
+    /// `publicExponent`.
+    pub public_exponent: &'a [u8],
+    /// `privateExponent`.
+    pub private_exponent: &'a [u8],
+    /// `prime1`.
+    pub prime1: &'a [u8],
+    /// `prime2`.
+    pub prime2: &'a [u8],
+    /// `exponent1`.
+    pub exponent1: &'a [u8],
+    /// `exponent2`.
+    pub exponent2: &'a [u8],
+    /// `coefficient`.
+    pub coefficient: &'a [u8],
+}
+
+impl<'a> RsaPrivateKey<'a> {
+    /// The numbers of the key that the bytes encode; `None` where they encode none
+    /// ([`crate::Reader::check`] says why). It takes no memory, and copies nothing. In a private key
+    /// with its algorithm such a key is the content of `privateKey`.
+    #[must_use]
+    pub fn read(der: &'a [u8]) -> Option<Self> {
+        let mut at = keys::RsaPrivateKey::default();
+        let is_read = keys::rsa_private_key(der, &mut at) == status::OK;
+        is_read.then(|| RsaPrivateKey {
+            version: at.version.of(der),
+            modulus: at.modulus.of(der),
+            public_exponent: at.public_exponent.of(der),
+            private_exponent: at.private_exponent.of(der),
+            prime1: at.prime1.of(der),
+            prime2: at.prime2.of(der),
+            exponent1: at.exponent1.of(der),
+            exponent2: at.exponent2.of(der),
+            coefficient: at.coefficient.of(der),
+        })
+    }
+}
+
+impl fmt::Debug for RsaPrivateKey<'_> {
+    fn fmt(&self, f: &mut fmt::Formatter<'_>) -> fmt::Result {
+        let mut told = f.debug_struct("RsaPrivateKey");
+        told.field("modulus", &self.modulus).field("public_exponent", &self.public_exponent);
+        told.finish_non_exhaustive()
     }
 }

@@ -9,6 +9,7 @@
 pub(crate) mod keys;
 #[cfg(feature = "alloc")]
 pub(crate) mod making;
+pub(crate) mod services;
 
 use core::mem::{size_of_val, MaybeUninit};
 

@@ -29,6 +29,8 @@ impl Oid<'static> {
     pub const ORGANIZATIONAL_UNIT_NAME: Self = Oid(&[0x55, 4, 11]);
     /// `emailAddress`, an attribute (RFC 2985, 5.2.1).
     pub const EMAIL_ADDRESS: Self = Oid(&[0x2A, 0x86, 0x48, 0x86, 0xF7, 0x0D, 1, 9, 1]);
+    /// `extensionRequest`, an attribute of requests (RFC 2985, 5.4.2).
+    pub const EXTENSION_REQUEST: Self = Oid(&[0x2A, 0x86, 0x48, 0x86, 0xF7, 0x0D, 1, 9, 14]);
     /// `rsaEncryption`, of keys (RFC 8017, A.1).
     pub const RSA_ENCRYPTION: Self = Oid(&[0x2A, 0x86, 0x48, 0x86, 0xF7, 0x0D, 1, 1, 1]);
     /// `id-ecPublicKey`, of keys on a curve (RFC 5480, 2.1.1).
@@ -43,6 +45,10 @@ impl Oid<'static> {
     pub const SECP521R1: Self = Oid(&[0x2B, 0x81, 4, 0, 35]);
     /// `authorityInfoAccess`, an extension (RFC 5280, 4.2.2.1).
     pub const AUTHORITY_INFO_ACCESS: Self = Oid(&[0x2B, 6, 1, 5, 5, 7, 1, 1]);
+    /// `id-ad-ocsp`, a service (RFC 5280, 4.2.2.1).
+    pub const OCSP: Self = Oid(&[0x2B, 6, 1, 5, 5, 7, 48, 1]);
+    /// `id-ad-caIssuers`, a service (RFC 5280, 4.2.2.1).
+    pub const CA_ISSUERS: Self = Oid(&[0x2B, 6, 1, 5, 5, 7, 48, 2]);
     /// `subjectKeyIdentifier`, an extension (RFC 5280, 4.2.1.2).
     pub const SUBJECT_KEY_IDENTIFIER: Self = Oid(&[0x55, 0x1D, 14]);
     /// `keyUsage`, an extension (RFC 5280, 4.2.1.3).

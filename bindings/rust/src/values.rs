@@ -1,16 +1,20 @@
 //! Values of certificates and requests, which borrow from the input. They take no memory.
 
 use crate::elements::{first_in, Elements};
+use crate::few::Few;
 use crate::fields::{Certificate, Extension, Request};
 use crate::general_names::GeneralNames;
 use crate::keys::{PublicKey, SignatureAlgorithm};
 use crate::kind::Kind;
-use crate::library::keys::{self, IdentifierCall};
+use crate::library::keys::{self, IdentifierCall, RequestAttributePlace};
 use crate::library::{self, BasicConstraints, Span};
 use crate::names::{Name, Source};
 use crate::oid::Oid;
 use crate::times::Time;
 use crate::usages::KeyUsage;
+
+/// How many attributes of a request the library is asked for; those behind are walked over.
+const FIRST: usize = 8;
 
 impl<'a> Certificate<'a> {
     /// The name of the subject (RFC 5280, 4.1.2.6).
@@ -172,6 +176,23 @@ impl<'a> Request<'a> {
     #[must_use]
     pub fn public_key(&self) -> PublicKey<'a> {
         PublicKey::within(Kind::Request, self.whole, self.subject_public_key_info)
+    }
+
+    /// The extensions that are asked for, if any are (`extensionRequest`; RFC 2985, 5.4.2):
+    /// [`crate::Reader::extensions`] reads them.
+    #[must_use]
+    pub fn extension_request(&self) -> Option<&'a [u8]> {
+        let der = self.whole.bytes();
+        let call = |out: &mut [_], count: &mut _| keys::request_attributes(der, out, count);
+        let (few, _) = Few::<RequestAttributePlace, FIRST>::told(call);
+        let told = few.map(|it| (it.identifier.of(der), it.values.of(der)));
+        // (those behind the ones that are told)
+        let behind = Elements(self.attributes.content()).skip(FIRST).map(|it| {
+            let mut fields = it.inside().map(|it| it.content);
+            (fields.next().unwrap_or_default(), fields.next().unwrap_or_default())
+        });
+        let mut all = told.chain(behind);
+        all.find(|(oid, _)| *oid == Oid::EXTENSION_REQUEST.content()).map(|(_, values)| values)
     }
 
     /// The algorithm with which the subject signed it: what `signatureAlgorithm` says (RFC 2986, 4.2).

@@ -8,7 +8,7 @@ use std::fmt::Write as _;
 
 use cimaroly::{
     check_extension, Block, Certificate, Deviation, Digest, Error, Kind, Oid, PublicKey, Reader,
-    Request, SignatureAlgorithm,
+    Request, RsaPrivateKey, SignatureAlgorithm,
 };
 use support::{attribute, certificate_with, element, from_hex, rows, Row};
 
@@ -372,4 +372,38 @@ fn further_extensions_of_a_certificate() {
         let stated = if is_further { "DER" } else { "another extension" };
         assert_eq!(outcome(it.oid(), it.value()), stated, "{}", it.oid());
     }
+}
+
+/// The numbers of a private key, as OpenSSL prints them (openssl rsa -text).
+#[test]
+fn numbers_of_private_keys() {
+    let row = row_of("rsa_private_key");
+    let key = RsaPrivateKey::read(&row.der).unwrap();
+    assert_eq!((key.version, key.public_exponent), (&b"\0"[..], &b"\x01\0\x01"[..]));
+    assert_eq!((key.modulus.len(), &key.modulus[..3]), (129, &b"\0\xea\x7f"[..]));
+    assert_eq!((key.private_exponent.len(), &key.private_exponent[..3]), (129, &b"\0\xc7\x9f"[..]));
+    let halves = [key.prime1, key.prime2, key.exponent1, key.exponent2, key.coefficient];
+    assert_eq!(halves.map(<[u8]>::len), [65, 65, 65, 64, 64]);
+    let firsts: [&[u8]; 5] =
+        [b"\0\xf9\x2e", b"\0\xf0\xea", b"\0\xa2\x6d", b"\x48\xcc\xb9", b"\x37\x27\x6a"];
+    assert_eq!(halves.map(|it| &it[..3]), firsts);
+    assert_eq!(RsaPrivateKey::read(&row.der[1..]), None);
+    // (no secret is shown)
+    let shown = format!("{key:?}");
+    assert!(shown.contains("public_exponent: [1, 0, 1]") && !shown.contains("prime1"), "{shown}");
+}
+
+/// The extensions that a request asks for.
+#[test]
+fn extensions_of_requests() {
+    let mut memory = vec![Block::UNINIT; 65536];
+    let mut reader = Reader::new(&mut memory);
+    let row = row_of("request_rsa");
+    let value = reader.request(&row.der).unwrap().extension_request().unwrap();
+    let mut places = [cimaroly::ExtensionPlaces::default(); 4];
+    let extensions = reader.extensions(Kind::Extensions, value, &mut places).unwrap();
+    let found: Vec<Oid<'_>> = extensions.map(|it| it.oid()).collect();
+    assert_eq!(found, [Oid::SUBJECT_ALT_NAME, Oid::KEY_USAGE]);
+    let row = row_of("request_ec");
+    assert_eq!(reader.request(&row.der).unwrap().extension_request(), None);
 }

@@ -4,6 +4,7 @@ ghost use Rattle.std.specs.Prelude.{◌≡◌};
 ghost use Rattle.x509_der.specs.PrimitiveContent.{octets as bytes};
 ghost use Rattle.x509_der.specs.Tagged.{tagged};
 ghost use Rattle.x509_keys.specs.AlgorithmIdentifier.{algorithm_identifier};
+ghost use Rattle.x509_keys.specs.RsaPrivateKeys.{rsa_private_key};
 ghost use Rattle.x509_keys.specs.SubjectPublicKeyInfos.{subject_public_key_info};
 ghost use Rattle.picky_asn1_x509.specs.AuthorityKeyIdentifier.{authority_key_identifier};
 ghost use Rattle.picky_asn1_x509.specs.Certificates.{certificate};
@@ -11,7 +12,8 @@ ghost use Rattle.picky_asn1_x509.specs.Requests.{request};
 ghost use Rattle.x509_flat_values.specs.Covered.{CoversAll, CoversIf, no_span};
 ghost use Rattle.x509_flat_values.specs.Further.{ExtensionChecked};
 ghost use Rattle.x509_flat_values.specs.Keys.{KeyTold, no_key};
-ghost use Rattle.x509_flat_values.specs.Requests.{SubjectFills};
+ghost use Rattle.x509_flat_values.specs.PrivateKeys.{NumbersTold, no_numbers};
+ghost use Rattle.x509_flat_values.specs.Requests.{AttributesFill, SubjectFills};
 ghost use Rattle.x509_flat_values.specs.Signatures.{SignatureTold, no_signature};
 ghost use Rattle.x509_flat_values.specs.Told.{Told};
 ghost use Rattle.cimaroly_c.specs.Exports.{Answers, Arena};
@@ -20,7 +22,7 @@ use crate::over_keys as over;
 use x509_fields::Span;
 use x509_flat::check::Verdict;
 use x509_flat::status::Status;
-use x509_flat_values::{KeyPlaces, SignaturePlace};
+use x509_flat_values::{KeyPlaces, RequestAttributePlace, RsaPrivatePlaces, SignaturePlace};
 use x509_values::AttributePlace;
 
 /// Where the parts stand of the public key of a certificate, kind 1, of a request, kind 2, or of a key itself, kind 4.
@@ -97,6 +99,30 @@ pub extern "C" fn cimaroly_request_subject_attributes(
 {
     let told = over::subject_attributes(der, attributes);
     *count = told.size;
+    told.status.number()
+}
+
+/// Writes where the attributes of a request stand to the front of a buffer, as far as there is room.
+#[unsafe(no_mangle)]
+pub extern "C" fn cimaroly_request_attributes(
+    der: &[u8],
+    attributes: &mut [RequestAttributePlace],
+    count: &mut usize,
+) -> u32
+    ensures { Answers result (λ status. AttributesFill Arena der.now attributes.old attributes.new status count.new) }
+{
+    let told = over::request_attributes(der, attributes);
+    *count = told.size;
+    told.status.number()
+}
+
+/// Where the numbers of an RSA private key by itself stand.
+#[unsafe(no_mangle)]
+pub extern "C" fn cimaroly_rsa_private_key(der: &[u8], numbers: &mut RsaPrivatePlaces) -> u32
+    ensures { Answers result (λ status. Told (rsa_private_key {A = Arena}) der.now (λ v at. NumbersTold v der.now at) no_numbers status numbers.new) }
+{
+    let told = over::rsa_private_key(der);
+    *numbers = told.fields;
     told.status.number()
 }
 

@@ -22,7 +22,9 @@ mod oids;
 mod over;
 mod over_keys;
 mod over_making;
+mod over_services;
 mod pem;
+mod services;
 mod values;
 mod version;
 

@@ -4,6 +4,7 @@ ghost use Rattle.std.specs.Prelude.{◌≡◌, false};
 ghost use Rattle.x509_der.specs.PrimitiveContent.{octets as bytes};
 ghost use Rattle.x509_der.specs.Tagged.{tagged};
 ghost use Rattle.x509_keys.specs.AlgorithmIdentifier.{algorithm_identifier as identifiers};
+ghost use Rattle.x509_keys.specs.RsaPrivateKeys.{rsa_private_key as private_numbers};
 ghost use Rattle.x509_keys.specs.SubjectPublicKeyInfos.{subject_public_key_info};
 ghost use Rattle.picky_asn1_x509.specs.AuthorityKeyIdentifier.{authority_key_identifier as authorities};
 ghost use Rattle.picky_asn1_x509.specs.Certificates.{certificate};
@@ -11,7 +12,8 @@ ghost use Rattle.picky_asn1_x509.specs.Requests.{request};
 ghost use Rattle.x509_flat_values.specs.Covered.{CoversAll, CoversIf, no_span};
 ghost use Rattle.x509_flat_values.specs.Further.{ExtensionChecked};
 ghost use Rattle.x509_flat_values.specs.Keys.{KeyTold, no_key};
-ghost use Rattle.x509_flat_values.specs.Requests.{SubjectFills};
+ghost use Rattle.x509_flat_values.specs.PrivateKeys.{NumbersTold, no_numbers};
+ghost use Rattle.x509_flat_values.specs.Requests.{AttributesFill, SubjectFills};
 ghost use Rattle.x509_flat_values.specs.Signatures.{SignatureTold, no_signature};
 ghost use Rattle.x509_flat_values.specs.Told.{Told};
 ghost use Rattle.cimaroly_c.specs.Exports.{Arena};
@@ -26,7 +28,8 @@ use x509_fields::Span;
 use x509_flat::check::Checked;
 use x509_flat::status::{Answer, Sized};
 use x509_flat_values::{
-    KeyPlaces, SignaturePlace, further, key_identifiers, keys, requests, signatures,
+    KeyPlaces, RequestAttributePlace, RsaPrivatePlaces, SignaturePlace, further, key_identifiers,
+    keys, private_keys, request_attributes as attributes, requests, signatures,
 };
 use x509_values::AttributePlace;
 
@@ -98,6 +101,26 @@ pub(crate) fn subject_attributes(bytes: &[u8], out: &mut [AttributePlace]) -> Si
     let block = OneBlock::from_mut(&mut nothing);
     let arena = Bump::new(&block);
     requests::subject_attributes(&arena, bytes, out)
+}
+
+/// The attributes of a request.
+pub(crate) fn request_attributes(bytes: &[u8], out: &mut [RequestAttributePlace]) -> Sized
+    ensures { AttributesFill Arena bytes.now out.old out.new result.status result.size }
+{
+    let mut nothing = Lent::nothing();
+    let block = OneBlock::from_mut(&mut nothing);
+    let arena = Bump::new(&block);
+    attributes::request_attributes(&arena, bytes, out)
+}
+
+/// The numbers of an RSA private key.
+pub(crate) fn rsa_private_key(bytes: &[u8]) -> Answer<RsaPrivatePlaces>
+    ensures { Told (private_numbers {A = Arena}) bytes.now (λ v at. NumbersTold v bytes.now at) no_numbers result.status result.fields }
+{
+    let mut nothing = Lent::nothing();
+    let block = OneBlock::from_mut(&mut nothing);
+    let arena = Bump::new(&block);
+    private_keys::rsa_private_key(&arena, bytes)
 }
 
 /// What identifies a certificate's key.

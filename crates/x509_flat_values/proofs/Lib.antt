@@ -6,3 +6,9 @@ pub mod KeyWalks
 pub mod SignatureWalks
 pub mod LastFields
 pub mod Checking
+pub mod Listing
+pub mod Sequences
+pub mod Points
+pub mod PointNames
+pub mod PrivateKeyWalks
+pub mod RequestAttributes

@@ -266,8 +266,9 @@ impl<A: Allocator + Copy> Task<A> for WriteMembers<'_, A> {
                     extent: Extent::Fields(options),
                 };
                 let written = write_value(&mut sink, alloc, read, &value);
+                let count = places.len();
                 drop(value);
-                (written, Ok(places.len()))
+                (written, Ok(count))
             }
             Err(refused) => (write_reason(&mut sink, kind, bytes, refused), Err(refused)),
         };

@@ -9,7 +9,7 @@ pub mod general_names;
 pub mod hosts;
 pub mod moment;
 pub mod purposes;
-mod put;
+pub mod put;
 mod times;
 pub mod usage;
 pub mod value;

@@ -4,7 +4,7 @@ ghost use Rattle.std.specs.Prelude.{◌≡◌, ◌∷◌, ◌++◌, [], List, le
 ghost use Rattle.x509_values.specs.Told.{filled};
 
 /// Writes an item behind so many that were put in front of a slice, where there is room for it.
-pub(crate) fn put<P: Copy>(item: P, count: usize, out: &mut [P])
+pub fn put<P: Copy>(item: P, count: usize, out: &mut [P])
     ensures { (done base : List P) → count ≡ length done → out.old ≡ filled done base →
         out.new ≡ filled (done ++ item ∷ []) base }
 {

@@ -26,8 +26,34 @@ pub(crate) struct Signature {
     pub(crate) digest: u32,
 }
 
+/// `struct cimaroly_request_attribute`.
+#[derive(Clone, Copy, Default)]
+#[repr(C)]
+pub(crate) struct RequestAttributePlace {
+    pub(crate) identifier: Span,
+    pub(crate) tag: u8,
+    pub(crate) values: Span,
+}
+
+/// `struct cimaroly_rsa_private_key`.
+#[derive(Default)]
+#[repr(C)]
+pub(crate) struct RsaPrivateKey {
+    pub(crate) version: Span,
+    pub(crate) modulus: Span,
+    pub(crate) public_exponent: Span,
+    pub(crate) private_exponent: Span,
+    pub(crate) prime1: Span,
+    pub(crate) prime2: Span,
+    pub(crate) exponent1: Span,
+    pub(crate) exponent2: Span,
+    pub(crate) coefficient: Span,
+}
+
 mod c {
-    use super::{AttributePlace, Key, Signature, Span, Verdict};
+    use super::{
+        AttributePlace, Key, RequestAttributePlace, RsaPrivateKey, Signature, Span, Verdict,
+    };
 
     extern "C" {
         pub(super) fn cimaroly_public_key(
@@ -48,6 +74,18 @@ mod c {
             attributes: *mut AttributePlace,
             room: usize,
             count: *mut usize,
+        ) -> u32;
+        pub(super) fn cimaroly_request_attributes(
+            der: *const u8,
+            der_size: usize,
+            attributes: *mut RequestAttributePlace,
+            room: usize,
+            count: *mut usize,
+        ) -> u32;
+        pub(super) fn cimaroly_rsa_private_key(
+            der: *const u8,
+            der_size: usize,
+            numbers: *mut RsaPrivateKey,
         ) -> u32;
         pub(super) fn cimaroly_subject_key_identifier(
             value: *const u8,
@@ -87,6 +125,21 @@ pub(crate) fn request_subject_attributes(
     let (at, room) = (out.as_mut_ptr(), out.len());
     // SAFETY: as above; `out` has room for `room` places, of which any numbers are one.
     unsafe { c::cimaroly_request_subject_attributes(der.as_ptr(), der.len(), at, room, count) }
+}
+
+pub(crate) fn request_attributes(
+    der: &[u8],
+    out: &mut [RequestAttributePlace],
+    count: &mut usize,
+) -> u32 {
+    let (at, room) = (out.as_mut_ptr(), out.len());
+    // SAFETY: as above; `out` has room for `room` places, of which any numbers are one.
+    unsafe { c::cimaroly_request_attributes(der.as_ptr(), der.len(), at, room, count) }
+}
+
+pub(crate) fn rsa_private_key(der: &[u8], told: &mut RsaPrivateKey) -> u32 {
+    // SAFETY: as above; any numbers are places.
+    unsafe { c::cimaroly_rsa_private_key(der.as_ptr(), der.len(), told) }
 }
 
 /// A call on an extension's value that tells where the octets stand that identify a key.

@@ -1,0 +1,25 @@
+use Rattle.std.proofs.Common.{length, refl}
+use Rattle.x509_der.specs.facts.Fields.{stands_whole}
+use Rattle.x509_distribution_points.specs.DistributionPointName.{distribution_point_name}
+use Rattle.x509_fields.specs.Spans.{FieldIn, all_of}
+use Rattle.x509_flat.proofs.Fills.{filled, not_filled, from_start}
+use Rattle.x509_flat_values.specs.Points.{FullNamesHeld}
+use Rattle.x509_flat_values.proofs.point_names.point_names.Goals as goal
+
+pub returns-in-Ok : goal.returns-in-Ok
+returns-in-Ok g c =
+    let h = c.in-Ok.ensures in
+    let w = h.1.whole in
+    let there : FieldIn distribution_point_name h.0 (all_of c.args.bytes.now) c.args.bytes.now h.1.tally = record {
+      slice = c.args.bytes.now;
+      at = (stands_whole distribution_point_name c.spellings_are_lawful.ensures.lawful h.0 c.args.bytes.now h.1.tally w.spelled).field;
+      end = from_start c.args.bytes.now;
+    } in
+    filled distribution_point_name c.args.bytes.now (FullNamesHeld _ c.args.bytes.now c.args.out.now c.names_of.new.out) c.args.out.now c.names_of.new.out c.front_of.result.status c.names_of.result c.front_of.result.size (length c.args.out.now)
+    (record { value = h.0; tally = h.1.tally; whole = w; told = c.names_of.ensures h.0 h.1.tally there })
+    c.front_of.ensures.size refl c.front_of.ensures.status
+
+pub returns-in-Err : goal.returns-in-Err
+returns-in-Err g c =
+    not_filled distribution_point_name c.args.bytes.now (FullNamesHeld _ c.args.bytes.now c.args.out.now c.args.out.now) c.args.out.now c.args.out.now c.in-Err.error c.unsized_of.result.status c.unsized_of.result.size
+    c.in-Err.ensures refl c.unsized_of.ensures.status c.unsized_of.ensures.size
