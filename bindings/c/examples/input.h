@@ -61,4 +61,16 @@ static inline uint8_t *decode_pem(const uint8_t *text, size_t text_size, const c
     return NULL;
 }
 
+/* The bytes of a file in DER, or those of its first PEM block with a label, in memory from malloc; or NULL. */
+static inline uint8_t *read_der(const char *path, const char *label, size_t *size)
+{
+    uint8_t *bytes = read_file(path, size);
+
+    if (bytes == NULL || strstr((const char *)bytes, "-----BEGIN ") == NULL)
+        return bytes;
+    uint8_t *der = decode_pem(bytes, *size, label, size);
+    free(bytes);
+    return der;
+}
+
 #endif
