@@ -37,7 +37,7 @@ BUDGETS = [
     (4, ["x509_outline_parts"]),
     (2, ["x509_outline"]),
     (2, ["x509_more_outlines", "x509_list_outlines"]),
-    (2, ["x509_outline_kinds"]),
+    (3, ["x509_outline_kinds", "x509_inspect_outlines"]),
     (4, ["x509_make"]),
     (10, ["x509_signing", "x509_signature_algorithms", "x509_pem_writer", "x509_flat_make"]),
     (4, ["x509_make_parts", "x509_oids_by_name"]),

@@ -1,5 +1,9 @@
 //! What is done with bytes as an outline.
 
+ghost use Rattle.std.specs.Prelude.{IfOk};
+ghost use Rattle.x509_outline_kinds.specs.Outcomes.{Finds};
+ghost use Rattle.x509_outline_kinds.specs.Shapes.{Value, shape_of};
+
 use std::alloc::{AllocError, Allocator};
 use x509_der::{
     FromDer, Place, ReadError, Refused, WriteError, read_explained, read_located, to_vec,
@@ -250,7 +254,9 @@ pub fn searched_outline<A: Allocator + Copy>(
     alloc: A,
     kind: OutlineKind,
     bytes: &[u8],
-) -> Result<Searched<A>, Refused> {
+) -> Result<Searched<A>, Refused>
+    ensures { IfOk result (λ searched. Finds (Value A kind) (shape_of A kind) bytes.now searched.places.items) }
+{
     let asked = Asked {
         kind,
         bytes,
