@@ -230,6 +230,39 @@ struct cimaroly_general_name {
     struct cimaroly_span content; /* what stands under the tag */
 };
 
+/* Where an attribute of a request stands (RFC 2986, 4.1). */
+struct cimaroly_request_attribute {
+    struct cimaroly_span identifier; /* the content of its type, an OBJECT IDENTIFIER */
+    uint8_t tag;                     /* 0x31, but of a type that isn't known perhaps another */
+    struct cimaroly_span values;     /* the content of its SET: the values, one behind another */
+};
+
+/* Where the numbers of an RSA private key stand (RFC 8017, A.1.2): the contents of INTEGERs, in two's complement. */
+struct cimaroly_rsa_private_key {
+    struct cimaroly_span version;
+    struct cimaroly_span modulus;
+    struct cimaroly_span public_exponent;
+    struct cimaroly_span private_exponent;
+    struct cimaroly_span prime1;
+    struct cimaroly_span prime2;
+    struct cimaroly_span exponent1;
+    struct cimaroly_span exponent2;
+    struct cimaroly_span coefficient;
+};
+
+/* Where a service of an authority or a subject is found (RFC 5280, 4.2.2). */
+struct cimaroly_access {
+    struct cimaroly_span method;           /* the content of accessMethod, an OBJECT IDENTIFIER */
+    struct cimaroly_general_name location; /* accessLocation */
+};
+
+/* Where revocation lists are found (RFC 5280, 4.2.1.13). What is absent is 0..0. */
+struct cimaroly_point {
+    struct cimaroly_span name;    /* the content of distributionPoint, as cimaroly_point_names takes it */
+    struct cimaroly_span reasons; /* the content of reasons: the number of unused bits, and the bits */
+    struct cimaroly_span issuer;  /* the content of cRLIssuer: general names, one behind another */
+};
+
 /* What basic constraints say (RFC 5280, 4.2.1.9). */
 struct cimaroly_constraints {
     bool is_ca;           /* false where cA is absent */
@@ -465,6 +498,27 @@ uint32_t cimaroly_request_subject_attributes(const uint8_t *der, size_t der_size
                                              struct cimaroly_attribute *attributes, size_t room, size_t *count);
 
 /*
+ * Writes where the attributes of a request stand (RFC 2986, 4.1), to the front of `attributes`, which has room for `room`
+ * of them, in order. Under 2A 86 48 86 F7 0D 01 09 0E stand the extensions that are asked for (RFC 2985, 5.4.2): the
+ * value is what cimaroly_extensions takes as CIMAROLY_EXTENSIONS. It takes no memory.
+ *
+ * CIMAROLY_OK: *count is how many there are.
+ * CIMAROLY_BUFFER_TOO_SHORT: so too, and as many are written as there is room for.
+ * CIMAROLY_REFUSED: the input encodes no request.
+ */
+uint32_t cimaroly_request_attributes(const uint8_t *der, size_t der_size,
+                                     struct cimaroly_request_attribute *attributes, size_t room, size_t *count);
+
+/*
+ * Where the numbers of an RSA private key by itself stand (RFC 8017, A.1.2), which is also the content of `privateKey` in
+ * a private key with its algorithm. It takes no memory, and copies no number.
+ *
+ * CIMAROLY_OK.
+ * CIMAROLY_REFUSED: the input encodes no such key, and all spans are 0..0.
+ */
+uint32_t cimaroly_rsa_private_key(const uint8_t *der, size_t der_size, struct cimaroly_rsa_private_key *numbers);
+
+/*
  * Where the octets stand that identify a certificate's key (RFC 5280, 4.2.1.2), in the value of the extension 55 1D 0E;
  * or those that identify its issuer's (4.2.1.1), in that of 55 1D 23. They take no memory.
  *
@@ -485,6 +539,49 @@ uint32_t cimaroly_authority_key_identifier(const uint8_t *value, size_t value_si
  */
 uint32_t cimaroly_check_extension(const uint8_t *identifier, size_t identifier_size, const uint8_t *value,
                                   size_t value_size, struct cimaroly_verdict *verdict);
+
+/*
+ * Writes where the access descriptions stand of authorityInfoAccess or subjectInfoAccess (RFC 5280, 4.2.2), whose values
+ * are those of the extensions 2B 06 01 05 05 07 01 01 and 2B 06 01 05 05 07 01 0B, to the front of `accesses`, which has
+ * room for `room` of them, in order. An OCSP responder's address is the location of the method
+ * 2B 06 01 05 05 07 30 01, and that of the issuer's certificate of 2B 06 01 05 05 07 30 02. It takes no memory.
+ *
+ * CIMAROLY_OK: *count is how many there are.
+ * CIMAROLY_BUFFER_TOO_SHORT: so too, and as many are written as there is room for.
+ * CIMAROLY_REFUSED: the input encodes no such list.
+ */
+uint32_t cimaroly_access_descriptions(const uint8_t *value, size_t value_size, struct cimaroly_access *accesses,
+                                      size_t room, size_t *count);
+
+/*
+ * Writes where the identifiers stand of the policies under which a certificate is issued (RFC 5280, 4.2.1.4), whose
+ * value is that of the extension 55 1D 20, to the front of `policies`, which has room for `room` of them, in order: their
+ * contents, as cimaroly_oid_text and cimaroly_oid_name take them. It takes no memory.
+ *
+ * CIMAROLY_OK, CIMAROLY_BUFFER_TOO_SHORT, CIMAROLY_REFUSED: as of cimaroly_access_descriptions.
+ */
+uint32_t cimaroly_policies(const uint8_t *value, size_t value_size, struct cimaroly_span *policies, size_t room,
+                           size_t *count);
+
+/*
+ * Writes where the distribution points stand of cRLDistributionPoints or freshestCRL (RFC 5280, 4.2.1.13 and 4.2.1.15),
+ * whose values are those of the extensions 55 1D 1F and 55 1D 2E, to the front of `points`, which has room for `room` of
+ * them, in order. It takes no memory.
+ *
+ * CIMAROLY_OK, CIMAROLY_BUFFER_TOO_SHORT, CIMAROLY_REFUSED: as of cimaroly_access_descriptions.
+ */
+uint32_t cimaroly_distribution_points(const uint8_t *value, size_t value_size, struct cimaroly_point *points,
+                                      size_t room, size_t *count);
+
+/*
+ * Writes where the general names of a distribution point's name stand, to the front of `names`, which has room for `room`
+ * of them, in order. A name that is relative to the list's issuer has none. Places count from the name's first byte. It
+ * takes no memory.
+ *
+ * CIMAROLY_OK, CIMAROLY_BUFFER_TOO_SHORT, CIMAROLY_REFUSED: as of cimaroly_general_names.
+ */
+uint32_t cimaroly_point_names(const uint8_t *name, size_t name_size, struct cimaroly_general_name *names, size_t room,
+                              size_t *count);
 
 /*
  * Writes where each extension stands, in the order of the input, to the front of `extensions`, which has room for

@@ -8,7 +8,7 @@ pub mod LastFields
 pub mod Checking
 pub mod Listing
 pub mod Sequences
-pub mod Points
+pub mod PointWalks
 pub mod PointNames
 pub mod PrivateKeyWalks
 pub mod RequestAttributes

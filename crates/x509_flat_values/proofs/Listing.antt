@@ -6,6 +6,7 @@ use Rattle.x509_der.specs.Shape.{Shape, Lawful, IsElement}
 use Rattle.x509_der.specs.Tagged.{tagged, ContentAt}
 use Rattle.x509_der.specs.Tally.{Tally}
 use Rattle.x509_der.specs.laws.Items.{items_lawful}
+use Rattle.x509_der.specs.laws.NotEmpty.{full}
 use Rattle.x509_der.specs.laws.Tagged.{tagged_lawful}
 use Rattle.x509_fields.specs.Spans.{FieldIn}
 use Rattle.x509_fields.specs.declared.span.Span.{Span}
@@ -24,7 +25,7 @@ pub record ListContent {V : Type 0} (t : ℕ) (s : Shape V) (v : List V) (span :
 
 pub list_content_at : {V : Type 0} (t : ℕ) (s : Shape V) → is_tag t ≡ true → Lawful s → IsElement s → (v : List V) (span : Span) (string : List ℕ) (whole : Tally) (f : FieldIn (tagged t (items s)) v span string whole) (w w1 : Rest) (e : Element) → Over string span w → Finds w w1 e → ListContent t s v span f.slice string whole e.inside
 list_content_at t s fits lawful element_of v span string whole f w w1 e over finds =
-    let l : Lawful (tagged t (items s)) = tagged_lawful t (items s) (items_lawful s lawful (full s element_of)) in
+    let l : Lawful (tagged t (items s)) = tagged_lawful t (items s) (items_lawful s lawful (full s element_of) element_of.free) in
     let k : ContentAt t (items s) v span.start f.slice string whole = l.parts v f.slice f.at.tally f.at.spelled span.start string whole f.at.part in
     let o = over f.slice (covered (tagged t (items s)) v span string whole f) in
     let r = finds t k.content [] fits (o.0 ∙ k.bytes ∙ sym (append-nil (element t k.content))) in

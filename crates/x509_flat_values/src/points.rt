@@ -35,10 +35,13 @@ pub struct PointPlace {
 fn content_if(fields: &mut Elements<'_>, tag: u8) -> Span
     ensures { TakesIf tag fields.old fields.new result }
 {
-    match fields.bytes() {
-        [first, ..] if *first == tag => fields.take().inside.span(),
-        _ => nowhere(),
+    let [first, ..] = fields.bytes() else {
+        return nowhere();
+    };
+    if *first != tag {
+        return nowhere();
     }
+    fields.take().inside.span()
 }
 
 /// Distribution points, of which the fields are told.

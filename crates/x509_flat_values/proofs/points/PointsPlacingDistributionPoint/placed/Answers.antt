@@ -1,4 +1,4 @@
-use Rattle.x509_flat_values.proofs.Points.{point_told}
+use Rattle.x509_flat_values.proofs.PointWalks.{point_told}
 use Rattle.x509_flat_values.proofs.points.PointsPlacingDistributionPoint.placed.Goals as goal
 
 pub returns : goal.returns

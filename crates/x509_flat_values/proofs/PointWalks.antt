@@ -1,5 +1,5 @@
 -- The fields of a distribution point, which are walked over.
-use Rattle.std.proofs.Common.{◌≡◌, ◌==◌, true, false, ℕ, ◌+◌, ◌<◌, List, [], ◌++◌, length, Option, Some, None, refl, sym, ap, ◌∙◌, arith, inl, inr, append-nil, lit<}
+use Rattle.std.proofs.Common.{◌≡◌, ◌==◌, true, false, ℕ, ◌+◌, ◌<◌, List, [], ◌++◌, length, Option, Some, None, refl, sym, ap, ◌∙◌, arith, inl, inr, append-nil, eq-eqb, true≢false}
 use Rattle.x509_der.specs.BitString.{bit_strings}
 use Rattle.x509_der.specs.Element.{element, header, is_tag}
 use Rattle.x509_der.specs.Fields.{Stands}
@@ -43,9 +43,9 @@ past t s fits None m p q string whole old new span f rest at g (inr h) = record 
 }
 past t s fits (Some v) m p q string whole old new span f rest at g (inl h) =
     let k : ContentAt t s v m p string whole = f.parts in
-    let r = h.2.0 t k.content q fits (rest ∙ ap (λ x. x ++ q) k.bytes) in
+    let r = h.2 t k.content q fits (rest ∙ ap (λ x. x ++ q) k.bytes) in
     record {
-      held = held_in t k.content p m h.1.inside span k.bytes r.content (r.at ∙ ap (λ x. x + header k.content) at) h.2.1;
+      held = held_in t k.content p m h.1.inside span k.bytes r.content (r.at ∙ ap (λ x. x + header k.content) at) h.3;
       rest = r.rest;
       at = omega (arith, r.behind, at, ap length k.bytes, element_length t k.content);
     }
