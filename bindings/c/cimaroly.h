@@ -238,7 +238,7 @@ struct cimaroly_request_attribute {
 };
 
 /* Where the numbers of an RSA private key stand (RFC 8017, A.1.2): the contents of INTEGERs, in two's complement. */
-struct cimaroly_rsa_private_key {
+struct cimaroly_rsa_numbers {
     struct cimaroly_span version;
     struct cimaroly_span modulus;
     struct cimaroly_span public_exponent;
@@ -516,7 +516,7 @@ uint32_t cimaroly_request_attributes(const uint8_t *der, size_t der_size,
  * CIMAROLY_OK.
  * CIMAROLY_REFUSED: the input encodes no such key, and all spans are 0..0.
  */
-uint32_t cimaroly_rsa_private_key(const uint8_t *der, size_t der_size, struct cimaroly_rsa_private_key *numbers);
+uint32_t cimaroly_rsa_private_key(const uint8_t *der, size_t der_size, struct cimaroly_rsa_numbers *numbers);
 
 /*
  * Where the octets stand that identify a certificate's key (RFC 5280, 4.2.1.2), in the value of the extension 55 1D 0E;

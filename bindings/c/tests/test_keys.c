@@ -208,7 +208,7 @@ static void numbers_are_right(const struct row *row)
                   {65, {0x00, 0xA2, 0x6D}},
                   {64, {0x48, 0xCC, 0xB9}},
                   {64, {0x37, 0x27, 0x6A}}};
-    struct cimaroly_rsa_private_key found;
+    struct cimaroly_rsa_numbers found;
     memset(&found, GUARD_FILL, sizeof found);
     expect(cimaroly_rsa_private_key(row->der, row->der_size, &found) == CIMAROLY_OK, row, "the status of numbers");
     const struct cimaroly_span spans[] = {found.version,   found.modulus,   found.public_exponent,

@@ -35,7 +35,7 @@ pub(crate) struct RequestAttributePlace {
     pub(crate) values: Span,
 }
 
-/// `struct cimaroly_rsa_private_key`.
+/// `struct cimaroly_rsa_numbers`.
 #[derive(Default)]
 #[repr(C)]
 pub(crate) struct RsaPrivateKey {
