@@ -159,7 +159,7 @@ def errors():
 
 def rules():
     """What may be wrong with certificates."""
-    path, texts, rows = "crates/x509_rules/src/rule.rt", "crates/x509_rules/src/texts.rt", tables.named("rules")
+    path, said, rows = "crates/x509_rules/src/rule.rt", "crates/x509_rules/src/said.rt", tables.named("rules")
     yield enum(path, "Rule", [(it.variant, tables.sentence(f"{it.clause}: {it.text}")) for it in rows])
     variants = [f"Rule::{it.variant}" for it in rows]
     yield list_of(path, "    /// All rules, in the order of the places that they name.", "pub const ALL: [Rule; {}]", variants, "    ")
@@ -173,21 +173,32 @@ def rules():
     for method, answer in (
         ("severity(self) -> Severity", lambda it: f"Severity::{it.severity.capitalize()}"),
         ("clause(self) -> &'static str", lambda it: f'"{it.clause}"'),
-        ("text(self) -> &'static str", lambda it: f'"{it.text}"'),
-        ("reason(self) -> &'static str", lambda it: f'"{tables.sentence(it.reason)}"'),
+        ("text(self) -> &'static str", lambda it: f"texts::{constant(it)}"),
+        ("reason(self) -> &'static str", lambda it: f"reasons::{constant(it)}"),
     ):
         behind = f"    pub fn {method} {{\n        match self {{"
-        lines = [line for it in rows for line in laid_out(f"            Rule::{it.variant} =>", answer(it))]
-        yield Region(texts, behind, "        }", lines)
+        lines = [f"            Rule::{it.variant} => {answer(it)}," for it in rows]
+        yield Region(said, behind, "        }", lines)
+    yield constants("texts", rows, lambda it: it.text)
+    yield constants("reasons", rows, lambda it: tables.sentence(it.reason))
 
 
-def laid_out(pattern, answer, width=100):
-    """An arm of a match, with the answer on a line of its own where it is too long."""
-    line = f"{pattern} {answer},"
-    if len(line) <= width:
-        return [line]
-    indent = " " * (len(pattern) - len(pattern.lstrip()))
-    return [f"{pattern} {{", f"{indent}    {answer}", f"{indent}}}"]
+def constant(rule):
+    """The name of a rule's text or reason."""
+    return rule.name.upper().replace("-", "_")
+
+
+def constants(module, rows, text):
+    """A module of texts, one for each rule."""
+    front = "pub(crate) const {}: &str ="
+    lines = [line for it in rows for line in (*laid_out(front.format(constant(it)), f'"{text(it)}";'), "")]
+    return Region(f"crates/x509_rules/src/{module}.rt", "// From tools/tables/rules.tsv.", "// Until here.", lines)
+
+
+def laid_out(front, text, width=100):
+    """A constant, with its text on a line of its own where it is too long."""
+    line = f"{front} {text}"
+    return [line] if len(line) <= width else [front, f"    {text}"]
 
 
 def content(identifier):

@@ -21,7 +21,7 @@ def der_of(pem):
 def summary(*words, data=None):
     """What the summary says, by its labels."""
     text, _, _ = run("show", *words, data=data)
-    return dict(re.findall(r"^  ([\w-]+) +(.*)$", text.decode().partition("\n\n")[0], re.MULTILINE))
+    return dict(re.findall(r"^  ([\w-]+(?: DN)?) +(.*)$", text.decode().partition("\n\n")[0], re.MULTILINE))
 
 
 def pin_of(public):
@@ -118,12 +118,59 @@ class Lines(unittest.TestCase):
         self.assertEqual((out, status), (b"certificate\n", 1))
         self.assertRegex(error.decode(), r"^cimaroly: [^\n]*: certificate: refused: malformed time ")
 
+    def test_paths(self):
+        """A path ends with the names of nodes in each other, wherever the first of them stands."""
+        said, path = summary(GOOD), "Certificate.tbsCertificate.validity.notAfter"
+        for names in ("validity.notAfter", "tbsCertificate.validity.notAfter", path):
+            self.assertEqual(run("show", "--fields", names, GOOD)[0].decode(), said["valid"].split(" to ")[1] + "\n")
+        report = json.loads(run("show", "--json", GOOD)[0])["Certificate"]["tbsCertificate"]
+        items = {it["name"]: it for it in report["extensions"]["items"]}
+        wanted = {
+            "subject.commonName": ["example.org"],
+            "subject.organizationalUnitName": ["Dept A", "Dept B"],
+            "id-ce-subjectAltName.dNSName": [it["value"] for it in items["id-ce-subjectAltName"]["items"]],
+            "subjectPublicKeyInfo.algorithm.algorithm": [report["subjectPublicKeyInfo"]["algorithm"]["algorithm"]["name"]],
+            "extensions.id-ce-subjectKeyIdentifier": [items["id-ce-subjectKeyIdentifier"]["value"]],
+        }
+        out, _, status = run("show", "--fields", ",".join(wanted), GOOD)
+        self.assertEqual((out.decode(), status), ("\t".join("; ".join(it) for it in wanted.values()) + "\n", 0))
+        # of a node with nodes in it the values of those stand in the cell
+        first, last = said["valid"].split(" to ")
+        out, _, _ = run("show", "--fields", "tbsCertificate.validity", GOOD)
+        self.assertEqual(out.decode(), f"notBefore {first}, notAfter {last}\n")
+
+    def test_secret_paths(self):
+        key = f"{DATA}/private_key_ed25519.pem"
+        hidden = run("show", "--fields", "PrivateKeyInfo.privateKey", key)[0].decode()
+        self.assertRegex(hidden, r"^\d+ bytes, not shown\n$")
+        shown = run("show", "--secrets", "--fields", "PrivateKeyInfo.privateKey", key)[0].decode()
+        self.assertIn(shown.strip().replace(":", ""), der_of(read("private_key_ed25519.pem")).hex())
+
+    def test_rfc4514(self):
+        """The subject's and the issuer's names are as OpenSSL's by RFC 2253, which RFC 4514 took over."""
+        count = 0
+        for path in CERTIFICATES:
+            said = summary("--rfc4514", path)
+            for label in ("subject", "issuer"):
+                form = "rfc2253,-esc_msb,utf8"
+                wanted = openssl("x509", "-in", path, "-noout", f"-{label}", "-nameopt", form).strip().partition("=")[2]
+                # an attribute without a name in RFC 4514, 3, is in hexadecimal there
+                if re.search(r"(^|[,+])(?!(CN|L|ST|O|OU|C|STREET|DC|UID)=)[A-Za-z]+=", wanted):
+                    continue
+                self.assertEqual(said[f"{label} DN"], wanted, path)
+                cell = run("show", "--rfc4514", "--fields", label, path)[0].decode()
+                self.assertEqual(cell, f"{wanted}\n")
+                count += 1
+        self.assertGreater(count, 4)
+
     def test_usage(self):
         out, error, status = run("show", "--fields", "subject,colour", GOOD)
         self.assertEqual((out, status), (b"", 2))
         self.assertIn(b"no field is named 'colour'", error)
         self.assertEqual(run("show", "--fields", ",".join(33 * ["type"]), GOOD)[2], 2)
-        for words in (["--json", "--brief"], ["--fields", "key", "--brief"], ["--fields", "key", "--json"]):
+        for path in ("subject.", ".notAfter", "a..b"):
+            self.assertEqual(run("show", "--fields", path, GOOD)[2], 2)
+        for words in (["--rfc4514", "--json"], ["--rfc4514", "--brief"], ["--json", "--brief"], ["--fields", "key", "--brief"], ["--fields", "key", "--json"]):
             self.assertEqual(run("show", *words, GOOD)[2], 2)
 
 

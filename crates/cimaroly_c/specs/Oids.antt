@@ -1,7 +1,8 @@
 -- What is written of object identifiers and names.
-use Rattle.std.specs.Prelude.{◌≡◌, ℕ, ◌<◌, ◌≤◌, ◌^◌, List, ◌++◌, ◌⊎◌, drop, length}
+use Rattle.std.specs.Prelude.{◌≡◌, ℕ, ◌-◌, ◌<◌, ◌≤◌, ◌^◌, min, Bool, List, ◌++◌, ◌⊎◌, drop, length}
 use Rattle.x509_der.specs.ObjectIdentifier.{IsOid}
 use Rattle.x509_der.specs.Tally.{Tally}
+use Rattle.x509_name_text.specs.Texts.{IsName, NameAttribute, TellsShown, name_text}
 use Rattle.x509_names.specs.Names.{Sets, name}
 use Rattle.x509_oid_text.specs.Texts.{OfText}
 
@@ -24,6 +25,17 @@ abbrev pub SomeTextWritten : List ℕ → List ℕ → ℕ → ℕ → Type 0
 SomeTextWritten old new status size =
     ((status ≡ 0) × (size ≤ length old) × (text : List ℕ) × (size ≡ length text) × (new ≡ text ++ drop size old))
     ⊎ ((status ≡ 3) × (length old < size) × (new ≡ old))
+
+-- the text of a name stands in front of what the buffer had behind it; or the buffer is shorter than the text, and as it was
+abbrev pub NameTextTold : List ℕ → List ℕ → List ℕ → ℕ → ℕ → Type 0
+NameTextTold text old new status size =
+    ((status ≡ 0) × (size ≡ length text) × (size ≤ length old) × (new ≡ text ++ drop size old))
+    ⊎ ((status ≡ 3) × (size ≡ min (2 ^ 64 - 1) (length text)) × (length old < size) × (new ≡ old))
+
+-- of any name, by a test for which characters are shown as they are, that text is told, unless the bytes are refused
+abbrev pub TellsName : List ℕ → List ℕ → List ℕ → ℕ → ℕ → Type 0
+TellsName der old new status size =
+    (shown : ℕ → Bool) (sets : List (List NameAttribute)) → TellsShown shown → IsName sets der → (status ≡ 1) ⊎ NameTextTold (name_text shown sets) old new status size
 
 -- the bytes encode no name
 pub record NoName (A : Type 0) (der : List ℕ) : Type 0 where

@@ -2,7 +2,7 @@
 
 ghost use Rattle.std.specs.Prelude.{List, ℕ};
 ghost use Rattle.cimaroly_c.specs.Exports.{Arena};
-ghost use Rattle.cimaroly_c.specs.Oids.{NameTextWritten, NameWritten, SomeTextWritten, TextWritten};
+ghost use Rattle.cimaroly_c.specs.Oids.{NameTextWritten, NameWritten, SomeTextWritten, TellsName, TextWritten};
 
 use crate::over_keys::is_name;
 use x509_flat::status::Status;
@@ -56,7 +56,8 @@ pub extern "C" fn cimaroly_oid_name(content: &[u8], out: &mut [u8], size: &mut u
 
 /// Writes the text of a name to the front of a buffer, if there is room for it.
 fn write_name_text(name: &[u8], out: &mut [u8], size: &mut usize) -> u32
-    ensures { SomeTextWritten out.old out.new result size.new }
+    ensures some { SomeTextWritten out.old out.new result size.new }
+    ensures exact { TellsName name.now out.old out.new result size.new }
 {
     match name_text(name, out) {
         Ok(len) => {
@@ -73,7 +74,8 @@ fn write_name_text(name: &[u8], out: &mut [u8], size: &mut usize) -> u32
 /// Writes the text of a name by RFC 4514 to the front of a buffer.
 #[unsafe(no_mangle)]
 pub extern "C" fn cimaroly_name_text(name: &[u8], out: &mut [u8], size: &mut usize) -> u32
-    ensures { NameTextWritten Arena name.now out.old out.new result size.new }
+    ensures written { NameTextWritten Arena name.now out.old out.new result size.new }
+    ensures exact { TellsName name.now out.old out.new result size.new }
 {
     if is_name(name) {
         return write_name_text(name, out, size);

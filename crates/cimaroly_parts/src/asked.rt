@@ -5,9 +5,9 @@ use crate::terminal::Terminal;
 use anyhow::Error;
 use cimaroly_outlines::{OutlineSettings, SerialNumber};
 use cimaroly_work::time::moment_of;
-use cimaroly_work::{Action, ColumnList, Format, RuleSet, Settings, Stop};
+use cimaroly_work::{Action, CellList, Format, RuleSet, Settings, Stop};
 use clap::ArgMatches;
-use x509_inspect::{Column, Identifiers, Kind, Moment, Options, Secrets};
+use x509_inspect::{Cell, Identifiers, Kind, Moment, NameForm, Options, Secrets};
 use x509_report_parts::shown::ShownBytes;
 use x509_report_parts::{Colours, Layout};
 
@@ -34,7 +34,7 @@ pub(crate) fn colours_of(matches: &ArgMatches<'_>, terminal: Terminal) -> Colour
 }
 
 /// Settings that ask for nothing but an action, as text.
-pub(crate) fn plain(action: Action) -> Settings {
+pub(crate) fn plain(action: Action) -> Settings<'static> {
     Settings {
         action,
         format: Format::Text,
@@ -42,6 +42,7 @@ pub(crate) fn plain(action: Action) -> Settings {
         options: Options {
             secrets: Secrets::Hidden,
             identifiers: Identifiers::Named,
+            names: NameForm::InOrder,
         },
         layout: Layout::PLAIN,
         at: None,
@@ -65,27 +66,27 @@ fn layout_of(matches: &ArgMatches<'_>, terminal: Terminal) -> Layout {
     }
 }
 
-/// The columns that are asked for, by their names with commas between them.
-fn columns_of(names: &str) -> Result<ColumnList, Stop> {
-    let mut columns = ColumnList::new();
+/// The cells that are asked for, by their names with commas between them.
+fn cells_of(names: &str) -> Result<CellList<'_>, Stop> {
+    let mut cells = CellList::new();
     for name in names.split(',') {
-        let Some(column) = Column::from_name(name) else {
+        let Some(cell) = Cell::from_name(name) else {
             return Err(Stop::usage(Error::msg(format_args!(
                 "no field is named '{}': see cimaroly help show",
                 ShownBytes(name.as_bytes())
             ))));
         };
-        if !columns.push(column) {
+        if !cells.push(cell) {
             return Err(Stop::usage(Error::msg("at most 32 fields can be printed")));
         }
     }
-    Ok(columns)
+    Ok(cells)
 }
 
 /// In which form `cimaroly show` prints.
-fn show_format(matches: &ArgMatches<'_>) -> Result<Format, Stop> {
+fn show_format<'m>(matches: &ArgMatches<'m>) -> Result<Format<'m>, Stop> {
     if let Some(names) = matches.get_str("fields") {
-        return Ok(Format::Table(columns_of(names)?));
+        return Ok(Format::Table(cells_of(names)?));
     }
     if matches.get_flag("json") {
         Ok(Format::Json)
@@ -119,10 +120,10 @@ fn outlines_of(matches: &ArgMatches<'_>) -> OutlineSettings {
 }
 
 /// What `cimaroly show` is asked for.
-pub(crate) fn show_settings(
-    matches: &ArgMatches<'_>,
+pub(crate) fn show_settings<'m>(
+    matches: &ArgMatches<'m>,
     terminal: Terminal,
-) -> Result<Settings, Stop> {
+) -> Result<Settings<'m>, Stop> {
     let secrets = if matches.get_flag("secrets") {
         Secrets::Shown
     } else {
@@ -133,12 +134,18 @@ pub(crate) fn show_settings(
     } else {
         Identifiers::Named
     };
+    let names = if matches.get_flag("rfc4514") {
+        NameForm::Rfc4514
+    } else {
+        NameForm::InOrder
+    };
     Ok(Settings {
         format: show_format(matches)?,
         kind: kind_of(matches),
         options: Options {
             secrets,
             identifiers,
+            names,
         },
         layout: layout_of(matches, terminal),
         outlines: OutlineSettings {
@@ -168,7 +175,7 @@ pub(crate) fn time_of(matches: &ArgMatches<'_>) -> Result<Option<Moment>, Stop> 
 pub(crate) fn check_settings(
     matches: &ArgMatches<'_>,
     terminal: Terminal,
-) -> Result<Settings, Stop> {
+) -> Result<Settings<'static>, Stop> {
     let format = if matches.get_flag("quiet") {
         Format::Quiet
     } else if matches.get_flag("json") {
@@ -193,7 +200,7 @@ pub(crate) fn check_settings(
 }
 
 /// What `cimaroly der` is asked for.
-pub(crate) fn der_settings(matches: &ArgMatches<'_>) -> Settings {
+pub(crate) fn der_settings(matches: &ArgMatches<'_>) -> Settings<'static> {
     let format = if matches.get_flag("pem") {
         Format::Pem
     } else {
@@ -208,7 +215,7 @@ pub(crate) fn der_settings(matches: &ArgMatches<'_>) -> Settings {
 }
 
 /// What `cimaroly tree` is asked for.
-pub(crate) fn tree_settings(matches: &ArgMatches<'_>, terminal: Terminal) -> Settings {
+pub(crate) fn tree_settings(matches: &ArgMatches<'_>, terminal: Terminal) -> Settings<'static> {
     Settings {
         layout: layout_of(matches, terminal),
         ..plain(Action::Tree)
@@ -216,7 +223,7 @@ pub(crate) fn tree_settings(matches: &ArgMatches<'_>, terminal: Terminal) -> Set
 }
 
 /// What `cimaroly match` is asked for.
-pub(crate) fn match_settings(matches: &ArgMatches<'_>) -> Settings {
+pub(crate) fn match_settings(matches: &ArgMatches<'_>) -> Settings<'static> {
     let format = if matches.get_flag("quiet") {
         Format::Quiet
     } else {
@@ -230,7 +237,7 @@ pub(crate) fn match_settings(matches: &ArgMatches<'_>) -> Settings {
 }
 
 /// What `cimaroly signed` is asked for.
-pub(crate) fn signed_settings(matches: &ArgMatches<'_>) -> Settings {
+pub(crate) fn signed_settings(matches: &ArgMatches<'_>) -> Settings<'static> {
     Settings {
         format: Format::Quiet,
         outlines: outlines_of(matches),
@@ -239,7 +246,7 @@ pub(crate) fn signed_settings(matches: &ArgMatches<'_>) -> Settings {
 }
 
 /// How progress is told: a bar only where no text comes between.
-pub(crate) fn telling_of(settings: Settings, terminal: Terminal) -> Telling {
+pub(crate) fn telling_of(settings: Settings<'_>, terminal: Terminal) -> Telling {
     let is_alone = !terminal.has_output || settings.format == Format::Quiet;
     match settings.has_progress {
         false => Telling::Never,

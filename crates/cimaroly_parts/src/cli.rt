@@ -45,7 +45,7 @@ pub(crate) const FOLDERS: &str = "Files, or folders with everything in them; - i
 
 /// What `--fields` takes.
 const COLUMNS: &str =
-    "Print some of file, line, type, length, deviations, subject, issuer, serialNumber, notBefore, notAfter, names, key, signatureAlgorithm, sha256, sha1 and pin, with commas between them";
+    "Print some of file, line, type, length, deviations, subject, issuer, serialNumber, notBefore, notAfter, names, key, signatureAlgorithm, sha256, sha1, pin, and paths such as subject.commonName, with commas between them";
 
 /// What `--color` takes.
 const WHEN: [&'static str; 3] = ["auto", "always", "never"];
@@ -143,6 +143,13 @@ fn show_command<'a>(alloc: Global) -> Result<Command<'a>, AllocError> {
         .value_name("NAMES")
         .help(COLUMNS)
         .conflicts_with("json")?;
+    let names = flag(
+        alloc,
+        "rfc4514",
+        "Write names by RFC 4514 too, as in CN=example.org,C=DE",
+    )
+    .conflicts_with("json")?
+    .conflicts_with("brief")?;
     Command::new(alloc, "show")
         .about("Shows what each structure contains, and where")
         .arg(flag(alloc, "json", "Print one JSON object for each structure"))?
@@ -150,6 +157,7 @@ fn show_command<'a>(alloc: Global) -> Result<Command<'a>, AllocError> {
         .arg(fields)?
         .arg(flag(alloc, "secrets", "Show the secret numbers of private keys"))?
         .arg(flag(alloc, "oids", "Show object identifiers in dotted form too"))?
+        .arg(names)?
         .arg(outline_option(alloc))?
         .arg(serial_option(alloc))?
         .arg(flag(
@@ -263,7 +271,7 @@ fn command<'a>(alloc: Global) -> Result<Command<'a>, AllocError> {
 pub(crate) fn work_into<R, W: Write>(
     rt: &R,
     matches: &ArgMatches<'_>,
-    settings: Settings,
+    settings: Settings<'_>,
     telling: Telling,
     out: &mut W,
 ) -> Result<Tally, Stop>
@@ -290,7 +298,7 @@ where
 pub(crate) fn work<R>(
     rt: &R,
     matches: &ArgMatches<'_>,
-    settings: Settings,
+    settings: Settings<'_>,
     telling: Telling,
 ) -> Result<Tally, Stop>
 where

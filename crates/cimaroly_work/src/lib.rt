@@ -2,7 +2,7 @@
 #![tactic(auto)]
 
 pub mod assemble;
-mod columns;
+mod cells;
 mod encoding;
 mod fault;
 pub mod form;
@@ -20,7 +20,7 @@ mod stop;
 mod structure;
 pub mod time;
 
-pub use crate::columns::ColumnList;
+pub use crate::cells::CellList;
 pub use crate::rule_set::RuleSet;
 pub use crate::session::{NOTHING, Session};
 pub use crate::settings::{Action, Format, Settings};

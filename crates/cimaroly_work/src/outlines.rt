@@ -1,6 +1,6 @@
 //! What is done with outlines: of structures that are refused, and of revocation lists.
 
-use crate::columns::ColumnList;
+use crate::cells::CellList;
 use crate::lines::{write_named, write_searched};
 use crate::session::Session;
 use crate::settings::{Action, Format, Settings};
@@ -22,7 +22,7 @@ use x509_report_parts::values::Count;
 /// What there is to be said of an outline: of extensions that the encoding keeps as octets where that is asked for.
 fn found_in(
     alloc: Global,
-    settings: &Settings,
+    settings: &Settings<'_>,
     kind: OutlineKind,
     bytes: &[u8],
 ) -> Result<Searched<Global>, Refused> {
@@ -150,9 +150,7 @@ impl<W: Write> Session<'_, W> {
             (_, Format::Json) => self.outline_json(source, kind, bytes, self.outline_extent()),
             (Action::Show, Format::Text) => self.show_outline(source, kind, bytes),
             (Action::Show, Format::Brief) => self.brief_outline(source, kind, bytes),
-            (Action::Show, Format::Table(columns)) => {
-                self.outline_row(source, kind, bytes, columns)
-            }
+            (Action::Show, Format::Table(cells)) => self.outline_row(source, kind, bytes, cells),
             _ => self.check_outline(source, kind, bytes),
         }
     }
@@ -270,7 +268,14 @@ impl<W: Write> Session<'_, W> {
         let settings = self.settings.outlines;
         let asked = settings.in_text(kind, bytes);
         write_named(&mut self.text, source, kind.name())?;
-        match write_outline_row(self.alloc, source, asked, Told::Brief, &mut self.text) {
+        match write_outline_row(
+            self.alloc,
+            source,
+            asked,
+            Told::Brief,
+            self.settings.options,
+            &mut self.text,
+        ) {
             Ok(Ok(deviations)) => {
                 self.tally.add(deviations);
                 if deviations > 0 {
@@ -293,12 +298,19 @@ impl<W: Write> Session<'_, W> {
         source: Source<'_>,
         kind: OutlineKind,
         bytes: &[u8],
-        columns: ColumnList,
+        cells: CellList<'_>,
     ) -> Result<(), Stop> {
         let settings = self.settings.outlines;
         let asked = settings.in_text(kind, bytes);
-        let told = Told::Columns(columns.as_slice());
-        match write_outline_row(self.alloc, source, asked, told, &mut self.text) {
+        let told = Told::Cells(cells.as_slice());
+        match write_outline_row(
+            self.alloc,
+            source,
+            asked,
+            told,
+            self.settings.options,
+            &mut self.text,
+        ) {
             Ok(Ok(deviations)) => {
                 self.tally.add(deviations);
                 self.put_text()

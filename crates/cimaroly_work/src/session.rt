@@ -33,7 +33,7 @@ pub struct Session<'w, W: Write> {
     /// What is written to.
     pub out: &'w mut W,
     /// What was asked for.
-    pub settings: Settings,
+    pub settings: Settings<'w>,
     /// What was found.
     pub tally: Tally,
     pub(crate) text: String,
@@ -52,7 +52,7 @@ pub struct Session<'w, W: Write> {
 
 impl<'w, W: Write> Session<'w, W> {
     /// Nothing was found yet.
-    pub fn new(alloc: Global, out: &'w mut W, settings: Settings) -> Self {
+    pub fn new(alloc: Global, out: &'w mut W, settings: Settings<'w>) -> Self {
         Session {
             alloc,
             out,

@@ -1,6 +1,6 @@
 //! What the command line asks for.
 
-use crate::columns::ColumnList;
+use crate::cells::CellList;
 use crate::rule_set::RuleSet;
 use cimaroly_outlines::OutlineSettings;
 use x509_inspect::{Kind, Moment, Options};
@@ -34,7 +34,7 @@ impl Action {
 
 /// In which form something is printed.
 #[derive(Clone, Copy, Debug, PartialEq, Eq)]
-pub enum Format {
+pub enum Format<'a> {
     /// As text.
     Text,
     /// One JSON object a line.
@@ -45,17 +45,17 @@ pub enum Format {
     Pem,
     /// One line for each structure, with the most important.
     Brief,
-    /// One line for each structure, with columns.
-    Table(ColumnList),
+    /// One line for each structure, with cells.
+    Table(CellList<'a>),
 }
 
 /// What the command line asks for.
 #[derive(Clone, Copy, Debug, PartialEq, Eq)]
-pub struct Settings {
+pub struct Settings<'a> {
     /// What is done.
     pub action: Action,
     /// In which form it is printed.
-    pub format: Format,
+    pub format: Format<'a>,
     /// As which type everything is read; `None` where labels say it.
     pub kind: Option<Kind>,
     /// What reports tell.

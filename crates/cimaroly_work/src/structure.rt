@@ -1,6 +1,6 @@
 //! What is done with one structure.
 
-use crate::columns::ColumnList;
+use crate::cells::CellList;
 use crate::lines::{write_dated, write_read, write_refused, write_searched, write_structure};
 use crate::session::Session;
 use crate::settings::{Action, Format, Settings};
@@ -112,7 +112,7 @@ impl<W: Write> Session<'_, W> {
             (_, Format::Json) => self.json_at(source, kind, bytes),
             (Action::Show, Format::Text) => self.show(source, kind, bytes),
             (Action::Show, Format::Brief) => self.brief(source, kind, bytes),
-            (Action::Show, Format::Table(columns)) => self.row(source, kind, bytes, columns),
+            (Action::Show, Format::Table(cells)) => self.row(source, kind, bytes, cells),
             (Action::Match, _) => self.pin(source, kind, bytes),
             _ => self.check(source, kind, bytes),
         }
@@ -220,6 +220,7 @@ impl<W: Write> Session<'_, W> {
             source,
             kind,
             bytes,
+            options: self.settings.options,
         };
         write_structure(&mut self.text, source, kind)?;
         match write_row(self.alloc, row, Told::Brief, &mut self.text) {
@@ -245,14 +246,15 @@ impl<W: Write> Session<'_, W> {
         source: Source<'_>,
         kind: Kind,
         bytes: &[u8],
-        columns: ColumnList,
+        cells: CellList<'_>,
     ) -> Result<(), Stop> {
         let row = Row {
             source,
             kind,
             bytes,
+            options: self.settings.options,
         };
-        let told = Told::Columns(columns.as_slice());
+        let told = Told::Cells(cells.as_slice());
         match write_row(self.alloc, row, told, &mut self.text) {
             Ok(Ok(deviations)) => {
                 self.tally.add(deviations);

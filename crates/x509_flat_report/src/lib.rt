@@ -10,7 +10,7 @@ use std::alloc::{AllocError, Allocator};
 use x509_der::{ReadError, Refused};
 use x509_flat::kind::Kind;
 use x509_flat::status::{Sized, Status};
-use x509_inspect::{Identifiers, Kind as Inspected, Options, Secrets, members};
+use x509_inspect::{Identifiers, Kind as Inspected, NameForm, Options, Secrets, members};
 
 /// What writes bytes as a type as one object in JSON.
 pub trait Reporter {
@@ -76,8 +76,8 @@ fn inspected(kind: Kind) -> Inspected
 
 /// How a report tells fields.
 fn options(secrets: bool) -> Options
-    ensures shown { IsTrue secrets → result ≡ record { secrets = Secrets.Shown; identifiers = Identifiers.Named } }
-    ensures hidden { (IsTrue secrets → ⊥) → result ≡ record { secrets = Secrets.Hidden; identifiers = Identifiers.Named } }
+    ensures shown { IsTrue secrets → result ≡ record { secrets = Secrets.Shown; identifiers = Identifiers.Named; names = NameForm.InOrder } }
+    ensures hidden { (IsTrue secrets → ⊥) → result ≡ record { secrets = Secrets.Hidden; identifiers = Identifiers.Named; names = NameForm.InOrder } }
 {
     let secrets = if secrets {
         Secrets::Shown
@@ -87,6 +87,7 @@ fn options(secrets: bool) -> Options
     Options {
         secrets,
         identifiers: Identifiers::Named,
+        names: NameForm::InOrder,
     }
 }
 

@@ -3,14 +3,14 @@
 ghost use Rattle.std.specs.Prelude.{IfOk, IfErr};
 ghost use Rattle.x509_inspect.specs.Outcomes.{Counts, NotRead, WantsMemory};
 
+use crate::cells::{Cell, Line, has_pin, write_cells};
 use crate::told::{Task, pin_told, read_told};
 use std::alloc::Allocator;
 use std::fmt::{self, Write};
 use x509_der::{FromDer, Refused};
-use x509_fingerprints::{Fingerprints, HexDigits, Keyed, Pin};
-use x509_inspect_parts::{Kind, Source};
-use x509_report::{Column, Reported};
-use x509_report_parts::shown::ShownBytes;
+use x509_fingerprints::Keyed;
+use x509_inspect_parts::{Kind, Options, Source};
+use x509_report::Reported;
 
 /// A structure that is told on one line.
 #[derive(Clone, Copy, Drop)]
@@ -21,6 +21,8 @@ pub struct Row<'a> {
     pub kind: Kind,
     /// The bytes.
     pub bytes: &'a [u8],
+    /// What is told.
+    pub options: Options,
 }
 
 /// What a line tells.
@@ -28,61 +30,8 @@ pub struct Row<'a> {
 pub enum Told<'a> {
     /// The most important.
     Brief,
-    /// Columns, with tabs between them.
-    Columns(&'a [Column]),
-}
-
-/// What was found out of a structure.
-#[derive(Clone, Copy, Drop)]
-struct Found {
-    deviations: usize,
-    pin: Option<Pin>,
-}
-
-/// Writes what stands in a column.
-fn write_cell<T: Reported, W: Write>(
-    out: &mut W,
-    row: &Row<'_>,
-    value: &T,
-    found: Found,
-    column: Column,
-) -> fmt::Result {
-    match column {
-        Column::File => write!(out, "{}", ShownBytes(row.source.file.as_bytes())),
-        Column::Line => match row.source.block {
-            Some((line, _)) => write!(out, "{line}"),
-            None => Ok(()),
-        },
-        Column::Type => out.write_str(row.kind.name()),
-        Column::Length => write!(out, "{}", row.bytes.len()),
-        Column::Deviations => write!(out, "{}", found.deviations),
-        Column::Sha256 => write!(out, "{}", HexDigits(&Fingerprints::of(row.bytes).sha256)),
-        Column::Sha1 => write!(out, "{}", HexDigits(&Fingerprints::of(row.bytes).sha1)),
-        Column::Pin => match found.pin {
-            Some(pin) => write!(out, "{pin}"),
-            None => Ok(()),
-        },
-        _ => value.column(column, out),
-    }
-}
-
-/// Writes columns, with tabs between them, and a line feed.
-fn write_cells<T: Reported, W: Write>(
-    out: &mut W,
-    row: &Row<'_>,
-    value: &T,
-    found: Found,
-    columns: &[Column],
-) -> fmt::Result {
-    let mut is_first = true;
-    for column in columns {
-        if !is_first {
-            out.write_str("\t")?;
-        }
-        is_first = false;
-        write_cell(out, row, value, found, *column)?;
-    }
-    out.write_str("\n")
+    /// Cells, with tabs between them.
+    Cells(&'a [Cell<'a>]),
 }
 
 /// Writes the line of a value.
@@ -101,15 +50,21 @@ fn write_value<T: Reported + Keyed<A>, A: Allocator + Copy, W: Write>(
     let (told, deviations) = asked;
     match told {
         Told::Brief => Ok(value.brief(out)),
-        Told::Columns(columns) => {
-            let has_pin = columns.iter().any(|column| *column == Column::Pin);
-            let pin = if has_pin {
+        Told::Cells(cells) => {
+            let pin = if has_pin(cells) {
                 pin_told(alloc, value)?
             } else {
                 None
             };
-            let found = Found { deviations, pin };
-            Ok(write_cells(out, row, value, found, columns))
+            let line = Line {
+                source: row.source,
+                kind: row.kind.name(),
+                bytes: row.bytes,
+                deviations,
+                pin,
+                options: row.options,
+            };
+            Ok(write_cells(alloc, out, &line, value, cells))
         }
     }
 }

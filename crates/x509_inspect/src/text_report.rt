@@ -3,6 +3,7 @@
 ghost use Rattle.std.specs.Prelude.{IfOk, IfErr};
 ghost use Rattle.x509_inspect.specs.Outcomes.{Counts, NotRead, WantsMemory};
 
+use crate::names::{NameTexts, Names};
 use crate::told::{Task, pin_told, read_told};
 use std::alloc::Allocator;
 use std::fmt::{self, Display, Write};
@@ -26,6 +27,8 @@ pub struct TextReport<'a, T: Reported> {
     pub places: &'a [Place],
     /// The pin of the public key, if the value holds one.
     pub pin: Option<Pin>,
+    /// The names of the subject and the issuer by RFC 4514, where they are asked for.
+    pub names: Names<'a>,
     /// What is told.
     pub options: Options,
     /// How it is laid out.
@@ -127,6 +130,7 @@ impl<T: Reported> TextReport<'_, T> {
         out.unseen(colours.end())?;
         out.write_str("\n")?;
         self.value.summary(out)?;
+        self.names.write_lines(out)?;
         self.write_digests(out)?;
         self.write_deviations(out)
     }
@@ -187,11 +191,15 @@ fn write_report<T: Reported + Keyed<A>, A: Allocator + Copy, W: Write>(
     let (bytes, places) = input;
     let (options, layout) = form;
     let pin = pin_told(alloc, value)?;
+    let Ok(texts) = NameTexts::of(alloc, value, bytes, options.names) else {
+        return Ok(Err(fmt::Error));
+    };
     let report = TextReport {
         value,
         bytes,
         places,
         pin,
+        names: texts.as_names(),
         options,
         layout,
     };

@@ -5,25 +5,26 @@ use std::alloc::{AllocError, Allocator};
 use std::fmt::{self, Write};
 use x509_der::{Place, Refused};
 use x509_fingerprints::Pin;
-use x509_inspect::{Options, TextReport};
+use x509_inspect::{NameTexts, Names, Options, TextReport};
 use x509_report::Reported;
 use x509_report_outlines::Keyholder;
 use x509_report_parts::Layout;
 
-/// Writes the report of a value: of what it was read from, the deviations in that, and the pin.
+/// Writes the report of a value: of what it was read from, the deviations in that, the pin, and names.
 fn write_report<'x, R: Reported, W: Write>(
     out: &mut W,
     report: &'x R,
-    input: (&'x [u8], &'x [Place], Option<Pin>),
+    input: (&'x [u8], &'x [Place], Option<Pin>, Names<'x>),
     form: (Options, Layout),
 ) -> fmt::Result {
-    let (bytes, places, pin) = input;
+    let (bytes, places, pin, names) = input;
     let (options, layout) = form;
     let text = TextReport {
         value: report,
         bytes,
         places,
         pin,
+        names,
         options,
         layout,
     };
@@ -59,7 +60,10 @@ impl<A: Allocator + Copy, W: Write> Task<A> for WriteText<'_, '_, A, W> {
             Ok(pin) => pin,
             Err(AllocError) => return Ok(Err(fmt::Error)),
         };
-        let input = (bytes, places, pin);
+        let Ok(texts) = NameTexts::of(alloc, report, bytes, options.names) else {
+            return Ok(Err(fmt::Error));
+        };
+        let input = (bytes, places, pin, texts.as_names());
         let written = write_report(out, report, input, (options, layout));
         Ok(written.map(|()| places.len()))
     }

@@ -4,65 +4,9 @@ use crate::task::{Asked, Task, pin_of, run_as};
 use std::alloc::{AllocError, Allocator};
 use std::fmt::{self, Write};
 use x509_der::{Place, Refused};
-use x509_fingerprints::{Fingerprints, HexDigits, Pin};
-use x509_inspect::{Column, Source, Told};
+use x509_inspect::{Line, Options, Source, Told, write_cells};
 use x509_report::Reported;
 use x509_report_outlines::Keyholder;
-use x509_report_parts::shown::ShownBytes;
-
-/// What was found out of an outline.
-#[derive(Clone, Copy, Drop)]
-struct Found<'a> {
-    source: Source<'a>,
-    asked: Asked<'a>,
-    deviations: usize,
-    pin: Option<Pin>,
-}
-
-/// Writes what stands in a column.
-fn write_cell<R: Reported, W: Write>(
-    out: &mut W,
-    report: &R,
-    found: &Found<'_>,
-    column: Column,
-) -> fmt::Result {
-    let bytes = found.asked.bytes;
-    match column {
-        Column::File => write!(out, "{}", ShownBytes(found.source.file.as_bytes())),
-        Column::Line => match found.source.block {
-            Some((line, _)) => write!(out, "{line}"),
-            None => Ok(()),
-        },
-        Column::Type => out.write_str(found.asked.kind.name()),
-        Column::Length => write!(out, "{}", bytes.len()),
-        Column::Deviations => write!(out, "{}", found.deviations),
-        Column::Sha256 => write!(out, "{}", HexDigits(&Fingerprints::of(bytes).sha256)),
-        Column::Sha1 => write!(out, "{}", HexDigits(&Fingerprints::of(bytes).sha1)),
-        Column::Pin => match found.pin {
-            Some(pin) => write!(out, "{pin}"),
-            None => Ok(()),
-        },
-        _ => report.column(column, out),
-    }
-}
-
-/// Writes columns, with tabs between them, and a line feed.
-fn write_cells<R: Reported, W: Write>(
-    out: &mut W,
-    report: &R,
-    found: &Found<'_>,
-    columns: &[Column],
-) -> fmt::Result {
-    let mut is_first = true;
-    for column in columns {
-        if !is_first {
-            out.write_str("\t")?;
-        }
-        is_first = false;
-        write_cell(out, report, found, *column)?;
-    }
-    out.write_str("\n")
-}
 
 /// The writing of a line.
 #[derive(Drop)]
@@ -71,6 +15,7 @@ struct WriteRow<'a, 'w, A, W: Write> {
     source: Source<'a>,
     asked: Asked<'a>,
     told: Told<'a>,
+    options: Options,
     out: &'w mut W,
 }
 
@@ -87,6 +32,7 @@ impl<A: Allocator + Copy, W: Write> Task<A> for WriteRow<'_, '_, A, W> {
             source,
             asked,
             told,
+            options,
             out,
         } = self;
         let deviations = places.len();
@@ -96,14 +42,16 @@ impl<A: Allocator + Copy, W: Write> Task<A> for WriteRow<'_, '_, A, W> {
         };
         let written = match told {
             Told::Brief => report.brief(out),
-            Told::Columns(columns) => {
-                let found = Found {
+            Told::Cells(cells) => {
+                let line = Line {
                     source,
-                    asked,
+                    kind: asked.kind.name(),
+                    bytes: asked.bytes,
                     deviations,
                     pin,
+                    options,
                 };
-                write_cells(out, report, &found, columns)
+                write_cells(alloc, out, &line, report, cells)
             }
         };
         Ok(written.map(|()| deviations))
@@ -124,6 +72,7 @@ pub fn write_outline_row<A: Allocator + Copy, W: Write>(
     source: Source<'_>,
     asked: Asked<'_>,
     told: Told<'_>,
+    options: Options,
     out: &mut W,
 ) -> Result<Result<usize, fmt::Error>, Refused> {
     let task = WriteRow {
@@ -131,6 +80,7 @@ pub fn write_outline_row<A: Allocator + Copy, W: Write>(
         source,
         asked,
         told,
+        options,
         out,
     };
     run_as(alloc, asked, task)

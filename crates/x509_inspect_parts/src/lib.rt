@@ -15,7 +15,7 @@ mod unread;
 
 pub use crate::json_line::{Extent, Head, Source, push_note};
 pub use crate::kind::Kind;
-pub use crate::options::Options;
+pub use crate::options::{NameForm, Options};
 pub use crate::refusal::RefusalLine;
 pub use crate::standing::Standing;
 pub use crate::tree::{Form, TreeError, write_tree};

@@ -1,5 +1,8 @@
 //! Attributes of requests (RFC 2986, 4.1).
 
+ghost use Rattle.std.specs.Prelude.{OnOk};
+ghost use Rattle.x509_make_parts.specs.Appending.{Appends, AppendsElement};
+
 use crate::extension_values::purposes;
 use crate::extensions::extensions;
 use json::Value;
@@ -45,7 +48,9 @@ fn attribute_value<A: Allocator + Copy>(
     maker: &mut Maker<A>,
     kind: Kind,
     node: &Value<'_, A>,
-) -> Done {
+) -> Done
+    ensures { OnOk result (Appends maker.old.out.items maker.new.out.items) }
+{
     match kind {
         Kind::ExtensionRequest => extensions(maker, node),
         Kind::ContentType => identified(maker, 0x06, node),
@@ -66,9 +71,11 @@ fn attribute_values<A: Allocator + Copy>(
     maker: &mut Maker<A>,
     kind: Kind,
     node: &Value<'_, A>,
-) -> Done {
+) -> Done
+    ensures { OnOk result (AppendsElement 49 maker.old.out.items maker.new.out.items) }
+{
     let start = maker.open();
-    for (index, item) in items_of(&mut maker.place, node)?.iter().enumerate() {
+    'items: for (index, item) in items_of(&mut maker.place, node)?.iter().enumerate() {
         maker.place.enter(index);
         attribute_value(maker, kind, item)?;
         maker.place.leave();
@@ -78,7 +85,9 @@ fn attribute_values<A: Allocator + Copy>(
 }
 
 /// Appends an attribute: its values in `items`, or the whole SET in hexadecimal in `der` or `value`.
-fn attribute<A: Allocator + Copy>(maker: &mut Maker<A>, node: &Value<'_, A>) -> Done {
+fn attribute<A: Allocator + Copy>(maker: &mut Maker<A>, node: &Value<'_, A>) -> Done
+    ensures { OnOk result (AppendsElement 48 maker.old.out.items maker.new.out.items) }
+{
     let start = maker.open();
     let mut fields = Fields::of(&mut maker.place, node)?;
     let identifier = own_identifier(maker.alloc, &mut maker.place, &mut fields)?;
@@ -94,7 +103,9 @@ fn attribute<A: Allocator + Copy>(maker: &mut Maker<A>, node: &Value<'_, A>) -> 
 }
 
 /// Appends the SET that the member `der`, or else `value`, gives in hexadecimal.
-fn set_given<A: Allocator + Copy>(maker: &mut Maker<A>, fields: &mut Fields<'_, '_, A>) -> Done {
+fn set_given<A: Allocator + Copy>(maker: &mut Maker<A>, fields: &mut Fields<'_, '_, A>) -> Done
+    ensures { OnOk result (Appends maker.old.out.items maker.new.out.items) }
+{
     if fields.has("der") {
         fields.pass(&["value", "length"]);
         let set = fields.need(&mut maker.place, "der")?;
@@ -111,12 +122,14 @@ fn set_given<A: Allocator + Copy>(maker: &mut Maker<A>, fields: &mut Fields<'_, 
 ///
 /// # Errors
 /// `Not` where there is no list, and those of what stands in it.
-pub(crate) fn attributes<A: Allocator + Copy>(maker: &mut Maker<A>, node: &Value<'_, A>) -> Done {
+pub(crate) fn attributes<A: Allocator + Copy>(maker: &mut Maker<A>, node: &Value<'_, A>) -> Done
+    ensures { OnOk result (AppendsElement 160 maker.old.out.items maker.new.out.items) }
+{
     let start = maker.open();
     if let Value::Object(_) = node {
         check_members(&mut maker.place, node, &["items"])?;
     }
-    for (index, item) in items_of(&mut maker.place, node)?.iter().enumerate() {
+    'items: for (index, item) in items_of(&mut maker.place, node)?.iter().enumerate() {
         let from = maker.open();
         maker.place.enter(index);
         attribute(maker, item)?;

@@ -1,5 +1,8 @@
 //! Certificates by their fields (RFC 5280, 4.1).
 
+ghost use Rattle.std.specs.Prelude.{OnOk};
+ghost use Rattle.x509_make_parts.specs.Appending.{Appends, AppendsElement};
+
 use crate::extensions::extensions;
 use crate::members::{has_items, key_member, name_member, version_in};
 use json::Value;
@@ -47,7 +50,9 @@ fn usual_version<A: Allocator + Copy>(node: &Value<'_, A>) -> u64 {
 ///
 /// # Errors
 /// `OutOfMemory`.
-pub(crate) fn put_version<A: Allocator + Copy>(maker: &mut Maker<A>, version: u64) -> Done {
+pub(crate) fn put_version<A: Allocator + Copy>(maker: &mut Maker<A>, version: u64) -> Done
+    ensures { OnOk result (Appends maker.old.out.items maker.new.out.items) }
+{
     if version == 0 {
         return Ok(());
     }
@@ -61,7 +66,9 @@ fn time_member<A: Allocator + Copy>(
     maker: &mut Maker<A>,
     fields: &mut Fields<'_, '_, A>,
     member: &'static str,
-) -> Done {
+) -> Done
+    ensures { OnOk result (Appends maker.old.out.items maker.new.out.items) }
+{
     let from = maker.open();
     let node = fields.need(&mut maker.place, member)?;
     time(maker, node)?;
@@ -75,7 +82,9 @@ fn time_member<A: Allocator + Copy>(
 pub(crate) fn validity<A: Allocator + Copy>(
     maker: &mut Maker<A>,
     fields: &mut Fields<'_, '_, A>,
-) -> Done {
+) -> Done
+    ensures { OnOk result (AppendsElement 48 maker.old.out.items maker.new.out.items) }
+{
     let start = maker.open();
     time_member(maker, fields, "notBefore")?;
     time_member(maker, fields, "notAfter")?;
@@ -86,7 +95,9 @@ pub(crate) fn validity<A: Allocator + Copy>(
 fn validity_member<A: Allocator + Copy>(
     maker: &mut Maker<A>,
     fields: &mut Fields<'_, '_, A>,
-) -> Done {
+) -> Done
+    ensures { OnOk result (AppendsElement 48 maker.old.out.items maker.new.out.items) }
+{
     let from = maker.open();
     let node = fields.need(&mut maker.place, "validity")?;
     let mut times = Fields::of(&mut maker.place, node)?;
@@ -101,7 +112,9 @@ fn unique_identifier<A: Allocator + Copy>(
     fields: &mut Fields<'_, '_, A>,
     member: &'static str,
     tag: u8,
-) -> Done {
+) -> Done
+    ensures { OnOk result (Appends maker.old.out.items maker.new.out.items) }
+{
     if let Some(told) = fields.enter(&mut maker.place, member) {
         bits(maker, tag, told)?;
         maker.place.leave();
@@ -114,7 +127,9 @@ fn extensions_member<A: Allocator + Copy>(
     maker: &mut Maker<A>,
     node: &Value<'_, A>,
     fields: &mut Fields<'_, '_, A>,
-) -> Done {
+) -> Done
+    ensures { OnOk result (Appends maker.old.out.items maker.new.out.items) }
+{
     let start = maker.open();
     let is_any = has_items(node, "extensions");
     if let Some(list) = fields.enter(&mut maker.place, "extensions") {
@@ -131,7 +146,9 @@ fn extensions_member<A: Allocator + Copy>(
 ///
 /// # Errors
 /// `Missing`, and those of what stands in it.
-pub fn tbs_certificate<A: Allocator + Copy>(maker: &mut Maker<A>, node: &Value<'_, A>) -> Done {
+pub fn tbs_certificate<A: Allocator + Copy>(maker: &mut Maker<A>, node: &Value<'_, A>) -> Done
+    ensures { OnOk result (AppendsElement 48 maker.old.out.items maker.new.out.items) }
+{
     let start = maker.open();
     let mut fields = Fields::of(&mut maker.place, node)?;
     let version = version_of(&mut maker.place, node, &mut fields)?;
@@ -153,7 +170,9 @@ pub fn tbs_certificate<A: Allocator + Copy>(maker: &mut Maker<A>, node: &Value<'
 ///
 /// # Errors
 /// `Missing`, and those of what stands in it.
-pub fn certificate<A: Allocator + Copy>(maker: &mut Maker<A>, node: &Value<'_, A>) -> Done {
+pub fn certificate<A: Allocator + Copy>(maker: &mut Maker<A>, node: &Value<'_, A>) -> Done
+    ensures { OnOk result (AppendsElement 48 maker.old.out.items maker.new.out.items) }
+{
     let start = maker.open();
     let mut fields = Fields::of(&mut maker.place, node)?;
     let inside = fields.need(&mut maker.place, "tbsCertificate")?;

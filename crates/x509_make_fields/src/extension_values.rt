@@ -1,5 +1,8 @@
 //! What extensions hold, by their fields.
 
+ghost use Rattle.std.specs.Prelude.{◌≡◌, OnOk};
+ghost use Rattle.x509_make_parts.specs.Appending.{Appends, AppendsElement};
+
 use crate::key_usage::key_usage;
 use crate::members::flag_in;
 use json::Value;
@@ -16,7 +19,9 @@ use x509_make_values::octets::{given, octets};
 pub(crate) fn value_octets<A: Allocator + Copy>(
     maker: &mut Maker<A>,
     fields: &mut Fields<'_, '_, A>,
-) -> Done {
+) -> Done
+    ensures { OnOk result (AppendsElement 4 maker.old.out.items maker.new.out.items) }
+{
     fields.pass(&["asn1", "length"]);
     let value = fields.need(&mut maker.place, "value")?;
     octets(maker, 0x04, value)?;
@@ -29,7 +34,9 @@ pub(crate) fn value_octets<A: Allocator + Copy>(
 pub(crate) fn value_given<A: Allocator + Copy>(
     maker: &mut Maker<A>,
     fields: &mut Fields<'_, '_, A>,
-) -> Done {
+) -> Done
+    ensures { OnOk result (Appends maker.old.out.items maker.new.out.items) }
+{
     if let Some(elements) = fields.enter(&mut maker.place, "der") {
         given(maker, elements)?;
         maker.place.leave();
@@ -47,7 +54,9 @@ pub(crate) fn value_given<A: Allocator + Copy>(
 pub(crate) fn value_integer<A: Allocator + Copy>(
     maker: &mut Maker<A>,
     fields: &mut Fields<'_, '_, A>,
-) -> Done {
+) -> Done
+    ensures { OnOk result (AppendsElement 2 maker.old.out.items maker.new.out.items) }
+{
     fields.pass(&["asn1"]);
     let value = fields.need(&mut maker.place, "value")?;
     if let Value::String(content) = value {
@@ -63,7 +72,9 @@ pub(crate) fn value_integer<A: Allocator + Copy>(
 fn told_bits<A: Allocator + Copy>(
     maker: &mut Maker<A>,
     fields: &mut Fields<'_, '_, A>,
-) -> Result<Option<u64>, Fault> {
+) -> Result<Option<u64>, Fault>
+    ensures { maker.new.out ≡ maker.old.out }
+{
     let Some(told) = fields.enter(&mut maker.place, "bits") else {
         return Ok(None);
     };
@@ -76,7 +87,9 @@ fn told_bits<A: Allocator + Copy>(
 pub(crate) fn value_usage<A: Allocator + Copy>(
     maker: &mut Maker<A>,
     fields: &mut Fields<'_, '_, A>,
-) -> Done {
+) -> Done
+    ensures { OnOk result (Appends maker.old.out.items maker.new.out.items) }
+{
     fields.pass(&["asn1"]);
     let told = told_bits(maker, fields)?;
     if let Some(element) = fields.enter(&mut maker.place, "der") {
@@ -96,7 +109,9 @@ pub(crate) fn value_names<A: Allocator + Copy>(
     maker: &mut Maker<A>,
     node: &Value<'_, A>,
     fields: &mut Fields<'_, '_, A>,
-) -> Done {
+) -> Done
+    ensures { OnOk result (AppendsElement 48 maker.old.out.items maker.new.out.items) }
+{
     if let Some(list) = fields.enter(&mut maker.place, "value") {
         general_names(maker, list)?;
         maker.place.leave();
@@ -110,9 +125,11 @@ pub(crate) fn value_names<A: Allocator + Copy>(
 ///
 /// # Errors
 /// `Not` where there is no list, and those of `identified`.
-pub fn purposes<A: Allocator + Copy>(maker: &mut Maker<A>, node: &Value<'_, A>) -> Done {
+pub fn purposes<A: Allocator + Copy>(maker: &mut Maker<A>, node: &Value<'_, A>) -> Done
+    ensures { OnOk result (AppendsElement 48 maker.old.out.items maker.new.out.items) }
+{
     let start = maker.open();
-    for (index, item) in items_of(&mut maker.place, node)?.iter().enumerate() {
+    'items: for (index, item) in items_of(&mut maker.place, node)?.iter().enumerate() {
         maker.place.enter(index);
         identified(maker, 0x06, item)?;
         maker.place.leave();
@@ -126,7 +143,9 @@ pub(crate) fn value_purposes<A: Allocator + Copy>(
     maker: &mut Maker<A>,
     node: &Value<'_, A>,
     fields: &mut Fields<'_, '_, A>,
-) -> Done {
+) -> Done
+    ensures { OnOk result (AppendsElement 48 maker.old.out.items maker.new.out.items) }
+{
     if let Some(list) = fields.enter(&mut maker.place, "value") {
         purposes(maker, list)?;
         maker.place.leave();
@@ -142,7 +161,9 @@ fn authority_flag<A: Allocator + Copy>(
     fields: &mut Fields<'_, '_, A>,
     member: &'static str,
     tells_no: bool,
-) -> Done {
+) -> Done
+    ensures { OnOk result (Appends maker.old.out.items maker.new.out.items) }
+{
     let Some(told) = fields.enter(&mut maker.place, member) else {
         return Ok(());
     };
@@ -159,7 +180,9 @@ fn path_length<A: Allocator + Copy>(
     maker: &mut Maker<A>,
     fields: &mut Fields<'_, '_, A>,
     member: &'static str,
-) -> Done {
+) -> Done
+    ensures { OnOk result (Appends maker.old.out.items maker.new.out.items) }
+{
     let Some(told) = fields.enter(&mut maker.place, member) else {
         return Ok(());
     };
@@ -177,7 +200,9 @@ fn path_length<A: Allocator + Copy>(
 pub(crate) fn constraints<A: Allocator + Copy>(
     maker: &mut Maker<A>,
     fields: &mut Fields<'_, '_, A>,
-) -> Done {
+) -> Done
+    ensures { OnOk result (AppendsElement 48 maker.old.out.items maker.new.out.items) }
+{
     let start = maker.open();
     authority_flag(maker, fields, "cA", true)?;
     path_length(maker, fields, "pathLenConstraint")?;
@@ -188,7 +213,9 @@ pub(crate) fn constraints<A: Allocator + Copy>(
 pub(crate) fn short_constraints<A: Allocator + Copy>(
     maker: &mut Maker<A>,
     fields: &mut Fields<'_, '_, A>,
-) -> Done {
+) -> Done
+    ensures { OnOk result (AppendsElement 48 maker.old.out.items maker.new.out.items) }
+{
     let start = maker.open();
     authority_flag(maker, fields, "ca", false)?;
     path_length(maker, fields, "pathLen")?;
@@ -199,7 +226,9 @@ pub(crate) fn short_constraints<A: Allocator + Copy>(
 fn authority_names<A: Allocator + Copy>(
     maker: &mut Maker<A>,
     fields: &mut Fields<'_, '_, A>,
-) -> Done {
+) -> Done
+    ensures { OnOk result (Appends maker.old.out.items maker.new.out.items) }
+{
     let start = maker.open();
     let Some(names) = fields.enter(&mut maker.place, "authorityCertIssuer") else {
         return Ok(());
@@ -216,7 +245,9 @@ fn authority_names<A: Allocator + Copy>(
 pub(crate) fn authority<A: Allocator + Copy>(
     maker: &mut Maker<A>,
     fields: &mut Fields<'_, '_, A>,
-) -> Done {
+) -> Done
+    ensures { OnOk result (AppendsElement 48 maker.old.out.items maker.new.out.items) }
+{
     let start = maker.open();
     if let Some(key) = fields.enter(&mut maker.place, "keyIdentifier") {
         octets(maker, 0x80, key)?;

@@ -1,5 +1,8 @@
 //! Extensions.
 
+ghost use Rattle.std.specs.Prelude.{OnOk};
+ghost use Rattle.x509_make_parts.specs.Appending.{Appends, AppendsElement};
+
 use crate::extension_values::{
     authority, constraints, value_given, value_integer, value_names, value_octets, value_purposes,
     value_usage,
@@ -29,7 +32,9 @@ fn held<A: Allocator + Copy>(
     identifier: &ObjectIdentifier<A>,
     node: &Value<'_, A>,
     fields: &mut Fields<'_, '_, A>,
-) -> Done {
+) -> Done
+    ensures { OnOk result (Appends maker.old.out.items maker.new.out.items) }
+{
     match arc_of(identifier) {
         Some(14) => value_octets(maker, fields),
         Some(15) => value_usage(maker, fields),
@@ -50,7 +55,9 @@ pub(crate) fn critical<A: Allocator + Copy>(
     maker: &mut Maker<A>,
     fields: &mut Fields<'_, '_, A>,
     usual: bool,
-) -> Done {
+) -> Done
+    ensures { OnOk result (Appends maker.old.out.items maker.new.out.items) }
+{
     let mut is_critical = usual;
     if let Some(told) = fields.enter(&mut maker.place, "critical") {
         is_critical = flag_in(&mut maker.place, told)?;
@@ -63,7 +70,9 @@ pub(crate) fn critical<A: Allocator + Copy>(
 }
 
 /// Appends an extension.
-fn extension<A: Allocator + Copy>(maker: &mut Maker<A>, node: &Value<'_, A>) -> Done {
+fn extension<A: Allocator + Copy>(maker: &mut Maker<A>, node: &Value<'_, A>) -> Done
+    ensures { OnOk result (AppendsElement 48 maker.old.out.items maker.new.out.items) }
+{
     let start = maker.open();
     let mut fields = Fields::of(&mut maker.place, node)?;
     let identifier = own_identifier(maker.alloc, &mut maker.place, &mut fields)?;
@@ -80,11 +89,13 @@ fn extension<A: Allocator + Copy>(maker: &mut Maker<A>, node: &Value<'_, A>) -> 
 ///
 /// # Errors
 /// `Not` where there is no list, and those of what stands in it.
-pub fn extension_items<A: Allocator + Copy>(maker: &mut Maker<A>, node: &Value<'_, A>) -> Done {
+pub fn extension_items<A: Allocator + Copy>(maker: &mut Maker<A>, node: &Value<'_, A>) -> Done
+    ensures { OnOk result (Appends maker.old.out.items maker.new.out.items) }
+{
     if let Value::Object(_) = node {
         check_members(&mut maker.place, node, &["items"])?;
     }
-    for (index, item) in items_of(&mut maker.place, node)?.iter().enumerate() {
+    'items: for (index, item) in items_of(&mut maker.place, node)?.iter().enumerate() {
         let from = maker.open();
         maker.place.enter(index);
         extension(maker, item)?;
@@ -98,7 +109,9 @@ pub fn extension_items<A: Allocator + Copy>(maker: &mut Maker<A>, node: &Value<'
 ///
 /// # Errors
 /// As `extension_items`.
-pub fn extensions<A: Allocator + Copy>(maker: &mut Maker<A>, node: &Value<'_, A>) -> Done {
+pub fn extensions<A: Allocator + Copy>(maker: &mut Maker<A>, node: &Value<'_, A>) -> Done
+    ensures { OnOk result (AppendsElement 48 maker.old.out.items maker.new.out.items) }
+{
     let start = maker.open();
     extension_items(maker, node)?;
     maker.close(start, 0x30)

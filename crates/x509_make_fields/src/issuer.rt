@@ -1,8 +1,9 @@
 //! What is taken byte for byte of the issuer's certificate, its subject and the identifier of its key, and of a request,
 //! its subject and its key.
 
-ghost use Rattle.std.specs.Prelude.{IfSome};
+ghost use Rattle.std.specs.Prelude.{IfSome, OnOk};
 ghost use Rattle.x509_make_fields.specs.KeyBits.{KeyBits};
+ghost use Rattle.x509_make_parts.specs.Appending.{Appends};
 
 use crate::pem::pem_bytes;
 use std::alloc::Allocator;
@@ -131,7 +132,9 @@ fn request<A: Allocator + Copy>(alloc: A, text: &str) -> Result<Vec<u8, A>, Faul
 ///
 /// # Errors
 /// `Not` where it is no request.
-pub(crate) fn requested_subject<A: Allocator + Copy>(maker: &mut Maker<A>, text: &str) -> Done {
+pub(crate) fn requested_subject<A: Allocator + Copy>(maker: &mut Maker<A>, text: &str) -> Done
+    ensures { OnOk result (Appends maker.old.out.items maker.new.out.items) }
+{
     let bytes = request(maker.alloc, text)?;
     match requested(bytes.as_slice()) {
         Some(subject) => maker.put(subject.whole),
@@ -143,7 +146,9 @@ pub(crate) fn requested_subject<A: Allocator + Copy>(maker: &mut Maker<A>, text:
 ///
 /// # Errors
 /// `Not` where it is no request.
-pub(crate) fn requested_key<A: Allocator + Copy>(maker: &mut Maker<A>, text: &str) -> Done {
+pub(crate) fn requested_key<A: Allocator + Copy>(maker: &mut Maker<A>, text: &str) -> Done
+    ensures { OnOk result (Appends maker.old.out.items maker.new.out.items) }
+{
     let bytes = request(maker.alloc, text)?;
     let key = requested(bytes.as_slice()).and_then(|subject| first(subject.rest));
     match key {
@@ -161,7 +166,9 @@ fn certificate<A: Allocator + Copy>(alloc: A, text: &str) -> Result<Vec<u8, A>, 
 ///
 /// # Errors
 /// `Not` where it is no certificate.
-pub(crate) fn subject_of<A: Allocator + Copy>(maker: &mut Maker<A>, text: &str) -> Done {
+pub(crate) fn subject_of<A: Allocator + Copy>(maker: &mut Maker<A>, text: &str) -> Done
+    ensures { OnOk result (Appends maker.old.out.items maker.new.out.items) }
+{
     let bytes = certificate(maker.alloc, text)?;
     match subject(bytes.as_slice()) {
         Some(name) => maker.put(name),
@@ -173,7 +180,9 @@ pub(crate) fn subject_of<A: Allocator + Copy>(maker: &mut Maker<A>, text: &str) 
 ///
 /// # Errors
 /// `Not` where it is no certificate, `Said` where it has none.
-pub(crate) fn key_identifier_of<A: Allocator + Copy>(maker: &mut Maker<A>, text: &str) -> Done {
+pub(crate) fn key_identifier_of<A: Allocator + Copy>(maker: &mut Maker<A>, text: &str) -> Done
+    ensures { OnOk result (Appends maker.old.out.items maker.new.out.items) }
+{
     let bytes = certificate(maker.alloc, text)?;
     match key_identifier(bytes.as_slice()) {
         Some(identifier) => maker.put(identifier),

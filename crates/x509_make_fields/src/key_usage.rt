@@ -1,5 +1,8 @@
 //! Key usages (RFC 5280, 4.2.1.3).
 
+ghost use Rattle.std.specs.Prelude.{OnOk};
+ghost use Rattle.x509_make_parts.specs.Appending.{AppendsElement};
+
 use json::Value;
 use std::alloc::Allocator;
 use x509_der::BitString;
@@ -59,7 +62,9 @@ pub fn key_usage<A: Allocator + Copy>(
     maker: &mut Maker<A>,
     list: &Value<'_, A>,
     told: Option<u64>,
-) -> Done {
+) -> Done
+    ensures { OnOk result (AppendsElement 3 maker.old.out.items maker.new.out.items) }
+{
     let Value::Array(names) = list else {
         return Err(Fault::Not("a list of key usages"));
     };

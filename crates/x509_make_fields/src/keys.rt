@@ -3,6 +3,7 @@
 ghost use Rattle.std.specs.Prelude.{◌≡◌, ◌++◌, List, ℕ, OnOk};
 ghost use Rattle.sha1.specs.Sha1.{sha1};
 ghost use Rattle.x509_make_fields.specs.KeyBits.{KeyBits};
+ghost use Rattle.x509_make_parts.specs.Appending.{Appends, AppendsElement};
 
 use crate::issuer::{key_bits, requested_key};
 use crate::pem::{is_request, pem_bytes};
@@ -18,7 +19,9 @@ use x509_make_values::bits::bits;
 ///
 /// # Errors
 /// `Missing`, and those of what stands in it.
-pub fn rsa_public_key<A: Allocator + Copy>(maker: &mut Maker<A>, node: &Value<'_, A>) -> Done {
+pub fn rsa_public_key<A: Allocator + Copy>(maker: &mut Maker<A>, node: &Value<'_, A>) -> Done
+    ensures { OnOk result (AppendsElement 48 maker.old.out.items maker.new.out.items) }
+{
     let start = maker.open();
     let mut fields = Fields::of(&mut maker.place, node)?;
     integer_member(maker, &mut fields, "modulus")?;
@@ -28,7 +31,9 @@ pub fn rsa_public_key<A: Allocator + Copy>(maker: &mut Maker<A>, node: &Value<'_
 }
 
 /// Appends a public key in its BIT STRING.
-fn subject_key<A: Allocator + Copy>(maker: &mut Maker<A>, node: &Value<'_, A>) -> Done {
+fn subject_key<A: Allocator + Copy>(maker: &mut Maker<A>, node: &Value<'_, A>) -> Done
+    ensures { OnOk result (AppendsElement 3 maker.old.out.items maker.new.out.items) }
+{
     if node.get("modulus").is_none() {
         return bits(maker, 0x03, node);
     }
@@ -42,7 +47,9 @@ fn subject_key<A: Allocator + Copy>(maker: &mut Maker<A>, node: &Value<'_, A>) -
 ///
 /// # Errors
 /// `Not` where a node is none, and those of what stands in it.
-pub fn public_key<A: Allocator + Copy>(maker: &mut Maker<A>, node: &Value<'_, A>) -> Done {
+pub fn public_key<A: Allocator + Copy>(maker: &mut Maker<A>, node: &Value<'_, A>) -> Done
+    ensures { OnOk result (Appends maker.old.out.items maker.new.out.items) }
+{
     if let Value::String(text) = node {
         if is_request(*text) {
             return requested_key(maker, *text);

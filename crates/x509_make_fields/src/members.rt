@@ -1,5 +1,8 @@
 //! Members of a structure that are values of one kind.
 
+ghost use Rattle.std.specs.Prelude.{OnOk};
+ghost use Rattle.x509_make_parts.specs.Appending.{Appends, AppendsElement};
+
 use crate::issuer::requested_subject;
 use crate::keys::public_key;
 use crate::pem::is_pem;
@@ -42,7 +45,9 @@ pub(crate) fn name_member<A: Allocator + Copy>(
     maker: &mut Maker<A>,
     fields: &mut Fields<'_, '_, A>,
     member: &'static str,
-) -> Done {
+) -> Done
+    ensures { OnOk result (AppendsElement 48 maker.old.out.items maker.new.out.items) }
+{
     let from = maker.open();
     let node = fields.need(&mut maker.place, member)?;
     name(maker, node)?;
@@ -56,7 +61,9 @@ pub(crate) fn name_member<A: Allocator + Copy>(
 pub(crate) fn subject_member<A: Allocator + Copy>(
     maker: &mut Maker<A>,
     fields: &mut Fields<'_, '_, A>,
-) -> Done {
+) -> Done
+    ensures { OnOk result (Appends maker.old.out.items maker.new.out.items) }
+{
     let from = maker.open();
     match fields.need(&mut maker.place, "subject")? {
         Value::String(text) if is_pem(*text) => requested_subject(maker, *text)?,
@@ -73,7 +80,9 @@ pub(crate) fn key_member<A: Allocator + Copy>(
     maker: &mut Maker<A>,
     fields: &mut Fields<'_, '_, A>,
     member: &'static str,
-) -> Done {
+) -> Done
+    ensures { OnOk result (Appends maker.old.out.items maker.new.out.items) }
+{
     let from = maker.open();
     let node = fields.need(&mut maker.place, member)?;
     public_key(maker, node)?;

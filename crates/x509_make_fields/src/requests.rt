@@ -1,5 +1,8 @@
 //! Requests by their fields (RFC 2986, 4).
 
+ghost use Rattle.std.specs.Prelude.{OnOk};
+ghost use Rattle.x509_make_parts.specs.Appending.{AppendsElement};
+
 use crate::attributes::attributes;
 use crate::members::{key_member, name_member};
 use json::Value;
@@ -24,7 +27,9 @@ fn version_of<A: Allocator + Copy>(place: &mut Place, node: &Value<'_, A>) -> Re
 }
 
 /// Appends the version of a request, which is v1 where none is told.
-fn version<A: Allocator + Copy>(maker: &mut Maker<A>, fields: &mut Fields<'_, '_, A>) -> Done {
+fn version<A: Allocator + Copy>(maker: &mut Maker<A>, fields: &mut Fields<'_, '_, A>) -> Done
+    ensures { OnOk result (AppendsElement 2 maker.old.out.items maker.new.out.items) }
+{
     let mut version = 0;
     if let Some(told) = fields.enter(&mut maker.place, "version") {
         version = version_of(&mut maker.place, told)?;
@@ -37,7 +42,9 @@ fn version<A: Allocator + Copy>(maker: &mut Maker<A>, fields: &mut Fields<'_, '_
 ///
 /// # Errors
 /// `Missing`, and those of what stands in it.
-pub fn request_info<A: Allocator + Copy>(maker: &mut Maker<A>, node: &Value<'_, A>) -> Done {
+pub fn request_info<A: Allocator + Copy>(maker: &mut Maker<A>, node: &Value<'_, A>) -> Done
+    ensures { OnOk result (AppendsElement 48 maker.old.out.items maker.new.out.items) }
+{
     let start = maker.open();
     let mut fields = Fields::of(&mut maker.place, node)?;
     version(maker, &mut fields)?;
@@ -58,7 +65,9 @@ pub fn request_info<A: Allocator + Copy>(maker: &mut Maker<A>, node: &Value<'_, 
 ///
 /// # Errors
 /// `Missing`, and those of what stands in it.
-pub fn request<A: Allocator + Copy>(maker: &mut Maker<A>, node: &Value<'_, A>) -> Done {
+pub fn request<A: Allocator + Copy>(maker: &mut Maker<A>, node: &Value<'_, A>) -> Done
+    ensures { OnOk result (AppendsElement 48 maker.old.out.items maker.new.out.items) }
+{
     let start = maker.open();
     let mut fields = Fields::of(&mut maker.place, node)?;
     let inside = fields.need(&mut maker.place, "certificationRequestInfo")?;

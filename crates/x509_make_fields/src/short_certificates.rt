@@ -1,5 +1,8 @@
 //! Certificates in the short form.
 
+ghost use Rattle.std.specs.Prelude.{OnOk};
+ghost use Rattle.x509_make_parts.specs.Appending.{Appends, AppendsElement};
+
 use crate::certificates::{put_version, validity};
 use crate::issuer::subject_of;
 use crate::members::{key_member, subject_member};
@@ -14,7 +17,9 @@ use x509_make_parts::{Done, Maker};
 use x509_make_values::Fields;
 
 /// Appends the issuer: the subject, that of a certificate in PEM, or a name.
-fn issuer<A: Allocator + Copy>(maker: &mut Maker<A>, fields: &mut Fields<'_, '_, A>) -> Done {
+fn issuer<A: Allocator + Copy>(maker: &mut Maker<A>, fields: &mut Fields<'_, '_, A>) -> Done
+    ensures { OnOk result (Appends maker.old.out.items maker.new.out.items) }
+{
     let told = fields.need(&mut maker.place, "issuer")?;
     match told {
         Value::String("subject") => {
@@ -35,7 +40,9 @@ fn issuer<A: Allocator + Copy>(maker: &mut Maker<A>, fields: &mut Fields<'_, '_,
 }
 
 /// Appends the extensions under [3], if there are any.
-fn tail<A: Allocator + Copy>(maker: &mut Maker<A>, root: &Value<'_, A>, key: &[u8]) -> Done {
+fn tail<A: Allocator + Copy>(maker: &mut Maker<A>, root: &Value<'_, A>, key: &[u8]) -> Done
+    ensures { OnOk result (Appends maker.old.out.items maker.new.out.items) }
+{
     let start = maker.open();
     if short_extensions(maker, root, key)? {
         return maker.close(start, 0xa3);
@@ -49,7 +56,9 @@ fn tail<A: Allocator + Copy>(maker: &mut Maker<A>, root: &Value<'_, A>, key: &[u
 ///
 /// # Errors
 /// `Missing` or `Unknown`, and those of what stands in it.
-pub fn short_certificate<A: Allocator + Copy>(maker: &mut Maker<A>, root: &Value<'_, A>) -> Done {
+pub fn short_certificate<A: Allocator + Copy>(maker: &mut Maker<A>, root: &Value<'_, A>) -> Done
+    ensures { OnOk result (AppendsElement 48 maker.old.out.items maker.new.out.items) }
+{
     let start = maker.open();
     let mut fields = Fields::of(&mut maker.place, root)?;
     fields.pass(&["type"]);

@@ -1,5 +1,8 @@
 //! Extensions of a short description.
 
+ghost use Rattle.std.specs.Prelude.{OnOk};
+ghost use Rattle.x509_make_parts.specs.Appending.{Appends, AppendsElement};
+
 use crate::extension_values::{purposes, short_constraints};
 use crate::extensions::{critical, extension_items};
 use crate::issuer::key_identifier_of;
@@ -39,7 +42,9 @@ pub(crate) const OF_CERTIFICATES: [&'static str; 8] = [
 ];
 
 /// Appends the bytes that a text says in hexadecimal.
-fn put_hex<A: Allocator + Copy>(maker: &mut Maker<A>, text: &str) -> Done {
+fn put_hex<A: Allocator + Copy>(maker: &mut Maker<A>, text: &str) -> Done
+    ensures { OnOk result (Appends maker.old.out.items maker.new.out.items) }
+{
     let bytes = hex_bytes(maker.alloc, text)?;
     maker.put(bytes.as_slice())
 }
@@ -49,7 +54,9 @@ fn subject_identifier<A: Allocator + Copy>(
     maker: &mut Maker<A>,
     node: &Value<'_, A>,
     key: &[u8],
-) -> Done {
+) -> Done
+    ensures { OnOk result (AppendsElement 4 maker.old.out.items maker.new.out.items) }
+{
     let text = text_of(node, "hash, or hexadecimal bytes")?;
     let start = maker.open();
     if text == "hash" {
@@ -62,11 +69,9 @@ fn subject_identifier<A: Allocator + Copy>(
 
 /// Appends the identifier of the issuer's key: of the key itself, where the issuer is the subject, or out of the
 /// issuer's certificate.
-fn issuer_digest<A: Allocator + Copy>(
-    maker: &mut Maker<A>,
-    root: &Value<'_, A>,
-    key: &[u8],
-) -> Done {
+fn issuer_digest<A: Allocator + Copy>(maker: &mut Maker<A>, root: &Value<'_, A>, key: &[u8]) -> Done
+    ensures { OnOk result (Appends maker.old.out.items maker.new.out.items) }
+{
     match root.get("issuer") {
         Some(Value::String("subject")) => key_digest(maker, key),
         Some(Value::String(issuer)) if is_pem(*issuer) => key_identifier_of(maker, *issuer),
@@ -82,7 +87,9 @@ fn issuer_identifier<A: Allocator + Copy>(
     root: &Value<'_, A>,
     node: &Value<'_, A>,
     key: &[u8],
-) -> Done {
+) -> Done
+    ensures { OnOk result (AppendsElement 48 maker.old.out.items maker.new.out.items) }
+{
     let text = text_of(node, "keyid, or hexadecimal bytes")?;
     let start = maker.open();
     if text == "keyid" {
@@ -101,7 +108,9 @@ fn held<A: Allocator + Copy>(
     short: Short,
     node: &Value<'_, A>,
     key: &[u8],
-) -> Done {
+) -> Done
+    ensures { OnOk result (Appends maker.old.out.items maker.new.out.items) }
+{
     match short {
         Short::Names | Short::IssuerNames => general_names(maker, node),
         Short::KeyUsage => key_usage(maker, node, None),
@@ -124,7 +133,9 @@ fn with_members<A: Allocator + Copy>(
     short: Short,
     node: &Value<'_, A>,
     key: &[u8],
-) -> Done {
+) -> Done
+    ensures { OnOk result (Appends maker.old.out.items maker.new.out.items) }
+{
     let mut fields = Fields::of(&mut maker.place, node)?;
     critical(maker, &mut fields, short.is_critical(root, node))?;
     let string = maker.open();
@@ -146,7 +157,9 @@ fn extension<A: Allocator + Copy>(
     short: Short,
     node: &Value<'_, A>,
     key: &[u8],
-) -> Done {
+) -> Done
+    ensures { OnOk result (AppendsElement 48 maker.old.out.items maker.new.out.items) }
+{
     let start = maker.open();
     identifier(maker, 0x06, short.identifier())?;
     if let Value::Object(_) = node {
@@ -169,7 +182,9 @@ fn of_member<A: Allocator + Copy>(
     name: &str,
     node: &Value<'_, A>,
     key: &[u8],
-) -> Done {
+) -> Done
+    ensures { OnOk result (Appends maker.old.out.items maker.new.out.items) }
+{
     match Short::of(name) {
         Some(short) => extension(maker, root, short, node, key),
         None if name == "extensions" => extension_items(maker, node),
@@ -185,12 +200,14 @@ pub(crate) fn short_extensions<A: Allocator + Copy>(
     maker: &mut Maker<A>,
     root: &Value<'_, A>,
     key: &[u8],
-) -> Result<bool, Fault> {
+) -> Result<bool, Fault>
+    ensures { OnOk result (AppendsElement 48 maker.old.out.items maker.new.out.items) }
+{
     let start = maker.open();
     let Value::Object(members) = root else {
         return Err(Fault::Not("an object"));
     };
-    for (index, (name, node)) in members.iter().enumerate() {
+    'members: for (index, (name, node)) in members.iter().enumerate() {
         let from = maker.open();
         maker.place.enter(index);
         of_member(maker, root, *name, node, key)?;

@@ -1,5 +1,8 @@
 //! Requests in the short form.
 
+ghost use Rattle.std.specs.Prelude.{OnOk};
+ghost use Rattle.x509_make_parts.specs.Appending.{Appends, AppendsElement};
+
 use crate::members::{key_member, subject_member};
 use crate::short_extensions::{OF_REQUESTS, short_extensions};
 use json::Value;
@@ -34,7 +37,9 @@ fn extension_request<A: Allocator + Copy>(
     maker: &mut Maker<A>,
     root: &Value<'_, A>,
     key: &[u8],
-) -> Done {
+) -> Done
+    ensures { OnOk result (Appends maker.old.out.items maker.new.out.items) }
+{
     let start = maker.open();
     identifier(maker, 0x06, "1.2.840.113549.1.9.14")?;
     let set = maker.open();
@@ -51,7 +56,9 @@ fn extension_request<A: Allocator + Copy>(
 ///
 /// # Errors
 /// `Missing` or `Unknown`, and those of what stands in it.
-pub fn short_request<A: Allocator + Copy>(maker: &mut Maker<A>, root: &Value<'_, A>) -> Done {
+pub fn short_request<A: Allocator + Copy>(maker: &mut Maker<A>, root: &Value<'_, A>) -> Done
+    ensures { OnOk result (AppendsElement 48 maker.old.out.items maker.new.out.items) }
+{
     let start = maker.open();
     let mut fields = Fields::of(&mut maker.place, root)?;
     fields.pass(&["type"]);

@@ -1,5 +1,8 @@
 //! Algorithm identifiers.
 
+ghost use Rattle.std.specs.Prelude.{OnOk};
+ghost use Rattle.x509_make_parts.specs.Appending.{Appends, AppendsElement};
+
 use json::Value;
 use std::alloc::Allocator;
 use x509_der::ObjectIdentifier;
@@ -34,7 +37,9 @@ fn is_rsa<A: Allocator>(algorithm: &ObjectIdentifier<A>) -> bool {
 }
 
 /// Appends an algorithm with NULL, where it has that, or with nothing.
-fn plain<A: Allocator + Copy>(maker: &mut Maker<A>, algorithm: &ObjectIdentifier<A>) -> Done {
+fn plain<A: Allocator + Copy>(maker: &mut Maker<A>, algorithm: &ObjectIdentifier<A>) -> Done
+    ensures { OnOk result (AppendsElement 48 maker.old.out.items maker.new.out.items) }
+{
     let start = maker.open();
     put_identifier(maker, 0x06, algorithm)?;
     if has_null(algorithm) {
@@ -44,7 +49,9 @@ fn plain<A: Allocator + Copy>(maker: &mut Maker<A>, algorithm: &ObjectIdentifier
 }
 
 /// Appends a hash function with NULL, as RSASSA-PSS has it (RFC 4055, 2.1).
-fn hash<A: Allocator + Copy>(maker: &mut Maker<A>, node: &Value<'_, A>) -> Done {
+fn hash<A: Allocator + Copy>(maker: &mut Maker<A>, node: &Value<'_, A>) -> Done
+    ensures { OnOk result (AppendsElement 48 maker.old.out.items maker.new.out.items) }
+{
     let start = maker.open();
     identified(maker, 0x06, node)?;
     maker.element(0x05, &[])?;
@@ -52,7 +59,9 @@ fn hash<A: Allocator + Copy>(maker: &mut Maker<A>, node: &Value<'_, A>) -> Done 
 }
 
 /// Appends a mask generation function (RFC 4055, 2.2).
-fn mask<A: Allocator + Copy>(maker: &mut Maker<A>, node: &Value<'_, A>) -> Done {
+fn mask<A: Allocator + Copy>(maker: &mut Maker<A>, node: &Value<'_, A>) -> Done
+    ensures { OnOk result (AppendsElement 48 maker.old.out.items maker.new.out.items) }
+{
     let start = maker.open();
     let mut fields = Fields::of(&mut maker.place, node)?;
     let function = fields.need(&mut maker.place, "algorithm")?;
@@ -66,7 +75,9 @@ fn mask<A: Allocator + Copy>(maker: &mut Maker<A>, node: &Value<'_, A>) -> Done 
 }
 
 /// Appends the parameters of RSASSA-PSS (RFC 4055, 3.1).
-fn pss<A: Allocator + Copy>(maker: &mut Maker<A>, node: &Value<'_, A>) -> Done {
+fn pss<A: Allocator + Copy>(maker: &mut Maker<A>, node: &Value<'_, A>) -> Done
+    ensures { OnOk result (AppendsElement 48 maker.old.out.items maker.new.out.items) }
+{
     let start = maker.open();
     let mut fields = Fields::of(&mut maker.place, node)?;
     let digest = fields.need(&mut maker.place, "hashAlgorithm")?;
@@ -88,7 +99,9 @@ fn pss<A: Allocator + Copy>(maker: &mut Maker<A>, node: &Value<'_, A>) -> Done {
 }
 
 /// Appends the parameters of authenticated encryption with AES (RFC 5084, 3.2).
-fn aes<A: Allocator + Copy>(maker: &mut Maker<A>, node: &Value<'_, A>) -> Done {
+fn aes<A: Allocator + Copy>(maker: &mut Maker<A>, node: &Value<'_, A>) -> Done
+    ensures { OnOk result (AppendsElement 48 maker.old.out.items maker.new.out.items) }
+{
     let start = maker.open();
     let mut fields = Fields::of(&mut maker.place, node)?;
     let nonce = fields.need(&mut maker.place, "aes-nonce")?;
@@ -103,7 +116,9 @@ fn aes<A: Allocator + Copy>(maker: &mut Maker<A>, node: &Value<'_, A>) -> Done {
 
 /// Appends parameters: those of RSASSA-PSS or AES by their fields, NULL, the octets of an initialization vector in a
 /// node, or the object identifier of a curve.
-fn parameters<A: Allocator + Copy>(maker: &mut Maker<A>, node: &Value<'_, A>) -> Done {
+fn parameters<A: Allocator + Copy>(maker: &mut Maker<A>, node: &Value<'_, A>) -> Done
+    ensures { OnOk result (Appends maker.old.out.items maker.new.out.items) }
+{
     if node.get("hashAlgorithm").is_some() {
         return pss(maker, node);
     }
@@ -124,7 +139,9 @@ fn parameters<A: Allocator + Copy>(maker: &mut Maker<A>, node: &Value<'_, A>) ->
 ///
 /// # Errors
 /// `Not` where a node is none, and those of what stands in it.
-pub fn algorithm<A: Allocator + Copy>(maker: &mut Maker<A>, node: &Value<'_, A>) -> Done {
+pub fn algorithm<A: Allocator + Copy>(maker: &mut Maker<A>, node: &Value<'_, A>) -> Done
+    ensures { OnOk result (AppendsElement 48 maker.old.out.items maker.new.out.items) }
+{
     if let Value::String(text) = node {
         let named = identifier_of(maker.alloc, *text)?;
         return plain(maker, &named);
@@ -147,7 +164,9 @@ pub fn algorithm<A: Allocator + Copy>(maker: &mut Maker<A>, node: &Value<'_, A>)
 }
 
 /// Appends parameters of which only the element is known: that of the member `der`, or as those of other algorithms.
-fn raw_parameters<A: Allocator + Copy>(maker: &mut Maker<A>, node: &Value<'_, A>) -> Done {
+fn raw_parameters<A: Allocator + Copy>(maker: &mut Maker<A>, node: &Value<'_, A>) -> Done
+    ensures { OnOk result (Appends maker.old.out.items maker.new.out.items) }
+{
     match node.get("der") {
         Some(element) => {
             check_leaf(&mut maker.place, node)?;
@@ -161,7 +180,9 @@ fn raw_parameters<A: Allocator + Copy>(maker: &mut Maker<A>, node: &Value<'_, A>
 ///
 /// # Errors
 /// As `algorithm`.
-pub fn raw_algorithm<A: Allocator + Copy>(maker: &mut Maker<A>, node: &Value<'_, A>) -> Done {
+pub fn raw_algorithm<A: Allocator + Copy>(maker: &mut Maker<A>, node: &Value<'_, A>) -> Done
+    ensures { OnOk result (AppendsElement 48 maker.old.out.items maker.new.out.items) }
+{
     let start = maker.open();
     let mut fields = Fields::of(&mut maker.place, node)?;
     let member = fields.need(&mut maker.place, "algorithm")?;

@@ -1,5 +1,8 @@
 //! Members of a structure that are values of one kind.
 
+ghost use Rattle.std.specs.Prelude.{OnOk};
+ghost use Rattle.x509_make_parts.specs.Appending.{AppendsElement};
+
 use crate::algorithms::algorithm;
 use json::Value;
 use std::alloc::Allocator;
@@ -16,7 +19,9 @@ pub fn integer_member<A: Allocator + Copy>(
     maker: &mut Maker<A>,
     fields: &mut Fields<'_, '_, A>,
     member: &'static str,
-) -> Done {
+) -> Done
+    ensures { OnOk result (AppendsElement 2 maker.old.out.items maker.new.out.items) }
+{
     let from = maker.open();
     let node = fields.need(&mut maker.place, member)?;
     integer(maker, 0x02, node)?;
@@ -31,7 +36,9 @@ pub fn algorithm_member<A: Allocator + Copy>(
     maker: &mut Maker<A>,
     fields: &mut Fields<'_, '_, A>,
     member: &'static str,
-) -> Done {
+) -> Done
+    ensures { OnOk result (AppendsElement 48 maker.old.out.items maker.new.out.items) }
+{
     let from = maker.open();
     let node = fields.need(&mut maker.place, member)?;
     algorithm(maker, node)?;
@@ -46,7 +53,9 @@ pub fn bits_member<A: Allocator + Copy>(
     maker: &mut Maker<A>,
     fields: &mut Fields<'_, '_, A>,
     member: &'static str,
-) -> Done {
+) -> Done
+    ensures { OnOk result (AppendsElement 3 maker.old.out.items maker.new.out.items) }
+{
     let from = maker.open();
     let node = fields.need(&mut maker.place, member)?;
     bits(maker, 0x03, node)?;

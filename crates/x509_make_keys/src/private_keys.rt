@@ -1,5 +1,8 @@
 //! Private keys.
 
+ghost use Rattle.std.specs.Prelude.{OnOk};
+ghost use Rattle.x509_make_parts.specs.Appending.{Appends, AppendsElement};
+
 use crate::members::{algorithm_member, integer_member};
 use json::Value;
 use std::alloc::Allocator;
@@ -24,7 +27,9 @@ const NUMBERS: [&'static str; 8] = [
 ];
 
 /// Appends the version of an RSA private key: two-prime is 0, and a report tells others by their numbers.
-fn rsa_version<A: Allocator + Copy>(maker: &mut Maker<A>, fields: &mut Fields<'_, '_, A>) -> Done {
+fn rsa_version<A: Allocator + Copy>(maker: &mut Maker<A>, fields: &mut Fields<'_, '_, A>) -> Done
+    ensures { OnOk result (AppendsElement 2 maker.old.out.items maker.new.out.items) }
+{
     let from = maker.open();
     let Some(node) = fields.enter(&mut maker.place, "version") else {
         return number(maker, 0x02, 0);
@@ -43,11 +48,13 @@ fn rsa_version<A: Allocator + Copy>(maker: &mut Maker<A>, fields: &mut Fields<'_
 ///
 /// # Errors
 /// `Missing`, and those of what stands in it.
-pub fn rsa_private_key<A: Allocator + Copy>(maker: &mut Maker<A>, node: &Value<'_, A>) -> Done {
+pub fn rsa_private_key<A: Allocator + Copy>(maker: &mut Maker<A>, node: &Value<'_, A>) -> Done
+    ensures { OnOk result (AppendsElement 48 maker.old.out.items maker.new.out.items) }
+{
     let start = maker.open();
     let mut fields = Fields::of(&mut maker.place, node)?;
     rsa_version(maker, &mut fields)?;
-    for member in &NUMBERS {
+    'numbers: for member in &NUMBERS {
         integer_member(maker, &mut fields, *member)?;
     }
     fields.finish(&mut maker.place)?;
@@ -70,7 +77,9 @@ fn check_ec_version<A: Allocator + Copy>(
 }
 
 /// Appends the curve of a private key under [0], where it is told.
-fn curve<A: Allocator + Copy>(maker: &mut Maker<A>, fields: &mut Fields<'_, '_, A>) -> Done {
+fn curve<A: Allocator + Copy>(maker: &mut Maker<A>, fields: &mut Fields<'_, '_, A>) -> Done
+    ensures { OnOk result (Appends maker.old.out.items maker.new.out.items) }
+{
     let from = maker.open();
     if let Some(node) = fields.enter(&mut maker.place, "parameters") {
         identified(maker, 0x06, node)?;
@@ -81,7 +90,9 @@ fn curve<A: Allocator + Copy>(maker: &mut Maker<A>, fields: &mut Fields<'_, '_, 
 }
 
 /// Appends the public key beside a private key under [1], where it is told.
-fn public_bits<A: Allocator + Copy>(maker: &mut Maker<A>, fields: &mut Fields<'_, '_, A>) -> Done {
+fn public_bits<A: Allocator + Copy>(maker: &mut Maker<A>, fields: &mut Fields<'_, '_, A>) -> Done
+    ensures { OnOk result (Appends maker.old.out.items maker.new.out.items) }
+{
     let from = maker.open();
     if let Some(node) = fields.enter(&mut maker.place, "publicKey") {
         bits(maker, 0x03, node)?;
@@ -95,7 +106,9 @@ fn public_bits<A: Allocator + Copy>(maker: &mut Maker<A>, fields: &mut Fields<'_
 ///
 /// # Errors
 /// `Missing`, and those of what stands in it.
-pub fn ec_private_key<A: Allocator + Copy>(maker: &mut Maker<A>, node: &Value<'_, A>) -> Done {
+pub fn ec_private_key<A: Allocator + Copy>(maker: &mut Maker<A>, node: &Value<'_, A>) -> Done
+    ensures { OnOk result (AppendsElement 48 maker.old.out.items maker.new.out.items) }
+{
     let start = maker.open();
     let mut fields = Fields::of(&mut maker.place, node)?;
     check_ec_version(&mut maker.place, &mut fields)?;
@@ -112,7 +125,9 @@ pub fn ec_private_key<A: Allocator + Copy>(maker: &mut Maker<A>, node: &Value<'_
 
 /// Appends a private key in its OCTET STRING: of RSA or an elliptic curve by its fields, and any other by its octets (RFC
 /// 8410, 7).
-fn key_octets<A: Allocator + Copy>(maker: &mut Maker<A>, node: &Value<'_, A>) -> Done {
+fn key_octets<A: Allocator + Copy>(maker: &mut Maker<A>, node: &Value<'_, A>) -> Done
+    ensures { OnOk result (AppendsElement 4 maker.old.out.items maker.new.out.items) }
+{
     let start = maker.open();
     if node.get("modulus").is_some() {
         rsa_private_key(maker, node)?;
@@ -147,7 +162,9 @@ fn version_of<A: Allocator + Copy>(
 ///
 /// # Errors
 /// `Missing`, and those of what stands in it.
-pub fn private_key_info<A: Allocator + Copy>(maker: &mut Maker<A>, node: &Value<'_, A>) -> Done {
+pub fn private_key_info<A: Allocator + Copy>(maker: &mut Maker<A>, node: &Value<'_, A>) -> Done
+    ensures { OnOk result (AppendsElement 48 maker.old.out.items maker.new.out.items) }
+{
     let start = maker.open();
     let mut fields = Fields::of(&mut maker.place, node)?;
     fields.pass(&["skipped"]);

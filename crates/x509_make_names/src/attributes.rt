@@ -1,7 +1,8 @@
 //! Attributes of names.
 
-ghost use Rattle.std.specs.Prelude.{◌≡◌};
+ghost use Rattle.std.specs.Prelude.{◌≡◌, OnOk};
 ghost use Rattle.x509_make_names.specs.UsualTags.{IsIa5, IsPrintable};
+ghost use Rattle.x509_make_parts.specs.Appending.{Appends, AppendsElement};
 
 use json::Value;
 use std::alloc::Allocator;
@@ -44,7 +45,9 @@ pub fn string_value<A: Allocator + Copy>(
     maker: &mut Maker<A>,
     node: &Value<'_, A>,
     usual: u8,
-) -> Done {
+) -> Done
+    ensures { OnOk result (Appends maker.old.out.items maker.new.out.items) }
+{
     if let Value::Object(_) = node {
         let mut fields = Fields::of(&mut maker.place, node)?;
         fields.pass(&STRING);
@@ -57,7 +60,9 @@ pub fn string_value<A: Allocator + Copy>(
 ///
 /// # Errors
 /// As `own_identifier` and `typed`, and `Unknown` or `Twice`.
-pub(crate) fn attribute<A: Allocator + Copy>(maker: &mut Maker<A>, node: &Value<'_, A>) -> Done {
+pub(crate) fn attribute<A: Allocator + Copy>(maker: &mut Maker<A>, node: &Value<'_, A>) -> Done
+    ensures { OnOk result (AppendsElement 48 maker.old.out.items maker.new.out.items) }
+{
     let start = maker.open();
     let mut fields = Fields::of(&mut maker.place, node)?;
     let identifier = own_identifier(maker.alloc, &mut maker.place, &mut fields)?;
@@ -76,7 +81,9 @@ pub(crate) fn assigned<A: Allocator + Copy>(
     maker: &mut Maker<A>,
     key: &str,
     value: &Value<'_, A>,
-) -> Done {
+) -> Done
+    ensures { OnOk result (AppendsElement 48 maker.old.out.items maker.new.out.items) }
+{
     let start = maker.open();
     let identifier = identifier_of(maker.alloc, key)?;
     put_identifier(maker, 0x06, &identifier)?;

@@ -1,5 +1,8 @@
 //! General names: `DNS:example.org` and the like, or by their fields.
 
+ghost use Rattle.std.specs.Prelude.{OnOk};
+ghost use Rattle.x509_make_parts.specs.Appending.{Appends, AppendsElement};
+
 use crate::line::line;
 use crate::names::name;
 use crate::other_names::{edi_party, other_name};
@@ -16,7 +19,9 @@ const FORM: &'static str =
     "a name of a form, as DNS:example.org, IP:192.0.2.7 or email:a@b.example";
 
 /// Appends a text in ASCII under a tag.
-fn ascii<A: Allocator + Copy>(maker: &mut Maker<A>, tag: u8, text: &str) -> Done {
+fn ascii<A: Allocator + Copy>(maker: &mut Maker<A>, tag: u8, text: &str) -> Done
+    ensures { OnOk result (AppendsElement tag maker.old.out.items maker.new.out.items) }
+{
     if !text.is_ascii() {
         return Err(Fault::Not("ASCII (a domain is written with its xn-- labels)"));
     }
@@ -24,14 +29,18 @@ fn ascii<A: Allocator + Copy>(maker: &mut Maker<A>, tag: u8, text: &str) -> Done
 }
 
 /// Appends a name under [4].
-fn directory_line<A: Allocator + Copy>(maker: &mut Maker<A>, text: &str) -> Done {
+fn directory_line<A: Allocator + Copy>(maker: &mut Maker<A>, text: &str) -> Done
+    ensures { OnOk result (AppendsElement 164 maker.old.out.items maker.new.out.items) }
+{
     let start = maker.open();
     line(maker, text)?;
     maker.close(start, 0xa4)
 }
 
 /// Appends a general name that is written as `DNS:example.org`, as in OpenSSL's configuration.
-fn general_line<A: Allocator + Copy>(maker: &mut Maker<A>, text: &str) -> Done {
+fn general_line<A: Allocator + Copy>(maker: &mut Maker<A>, text: &str) -> Done
+    ensures { OnOk result (Appends maker.old.out.items maker.new.out.items) }
+{
     let Some((form, value)) = text.split_once(':') else {
         return Err(Fault::Not(FORM));
     };
@@ -47,14 +56,18 @@ fn general_line<A: Allocator + Copy>(maker: &mut Maker<A>, text: &str) -> Done {
 }
 
 /// Appends a text in ASCII that a node says, under a tag.
-fn ascii_of<A: Allocator + Copy>(maker: &mut Maker<A>, tag: u8, node: &Value<'_, A>) -> Done {
+fn ascii_of<A: Allocator + Copy>(maker: &mut Maker<A>, tag: u8, node: &Value<'_, A>) -> Done
+    ensures { OnOk result (AppendsElement tag maker.old.out.items maker.new.out.items) }
+{
     check_leaf(&mut maker.place, node)?;
     let text = text_of(node, "a text")?;
     ascii(maker, tag, text)
 }
 
 /// Appends a name under [4].
-fn directory_name<A: Allocator + Copy>(maker: &mut Maker<A>, node: &Value<'_, A>) -> Done {
+fn directory_name<A: Allocator + Copy>(maker: &mut Maker<A>, node: &Value<'_, A>) -> Done
+    ensures { OnOk result (AppendsElement 164 maker.old.out.items maker.new.out.items) }
+{
     let start = maker.open();
     name(maker, node)?;
     maker.close(start, 0xa4)
@@ -65,7 +78,9 @@ fn with_fields<A: Allocator + Copy>(
     maker: &mut Maker<A>,
     is_party: bool,
     node: &Value<'_, A>,
-) -> Done {
+) -> Done
+    ensures { OnOk result (Appends maker.old.out.items maker.new.out.items) }
+{
     let mut fields = Fields::of(&mut maker.place, node)?;
     if is_party {
         edi_party(maker, &mut fields)?;
@@ -76,7 +91,9 @@ fn with_fields<A: Allocator + Copy>(
 }
 
 /// Appends a general name of a form.
-fn of_form<A: Allocator + Copy>(maker: &mut Maker<A>, form: &str, node: &Value<'_, A>) -> Done {
+fn of_form<A: Allocator + Copy>(maker: &mut Maker<A>, form: &str, node: &Value<'_, A>) -> Done
+    ensures { OnOk result (Appends maker.old.out.items maker.new.out.items) }
+{
     match form {
         "rfc822Name" => ascii_of(maker, 0x81, node),
         "dNSName" => ascii_of(maker, 0x82, node),
@@ -91,7 +108,9 @@ fn of_form<A: Allocator + Copy>(maker: &mut Maker<A>, form: &str, node: &Value<'
 }
 
 /// Appends a general name: `DNS:example.org`, an object with its form as `field`, or one with its form as its member.
-fn general_name<A: Allocator + Copy>(maker: &mut Maker<A>, node: &Value<'_, A>) -> Done {
+fn general_name<A: Allocator + Copy>(maker: &mut Maker<A>, node: &Value<'_, A>) -> Done
+    ensures { OnOk result (Appends maker.old.out.items maker.new.out.items) }
+{
     if let Value::String(text) = node {
         return general_line(maker, *text);
     }
@@ -114,8 +133,10 @@ fn general_name<A: Allocator + Copy>(maker: &mut Maker<A>, node: &Value<'_, A>) 
 ///
 /// # Errors
 /// `Not` where there is no list, and those of what stands in it.
-pub fn general_items<A: Allocator + Copy>(maker: &mut Maker<A>, node: &Value<'_, A>) -> Done {
-    for (index, item) in items_of(&mut maker.place, node)?.iter().enumerate() {
+pub fn general_items<A: Allocator + Copy>(maker: &mut Maker<A>, node: &Value<'_, A>) -> Done
+    ensures { OnOk result (Appends maker.old.out.items maker.new.out.items) }
+{
+    'items: for (index, item) in items_of(&mut maker.place, node)?.iter().enumerate() {
         let from = maker.open();
         maker.place.enter(index);
         general_name(maker, item)?;
@@ -129,7 +150,9 @@ pub fn general_items<A: Allocator + Copy>(maker: &mut Maker<A>, node: &Value<'_,
 ///
 /// # Errors
 /// As `general_items`.
-pub fn general_names<A: Allocator + Copy>(maker: &mut Maker<A>, node: &Value<'_, A>) -> Done {
+pub fn general_names<A: Allocator + Copy>(maker: &mut Maker<A>, node: &Value<'_, A>) -> Done
+    ensures { OnOk result (AppendsElement 48 maker.old.out.items maker.new.out.items) }
+{
     let start = maker.open();
     general_items(maker, node)?;
     maker.close(start, 0x30)

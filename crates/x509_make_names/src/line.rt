@@ -1,5 +1,9 @@
 //! Names on one line: `/C=DE/CN=example.org`, in order, and `CN=example.org, C=DE`, the last first (RFC 4514, 2.1).
 
+ghost use Rattle.std.specs.Prelude.{ℕ, OnOk};
+ghost use Rattle.x509_make_names.specs.SetOrder.{AppendsAttributes};
+ghost use Rattle.x509_make_parts.specs.Appending.{Appends, AppendsElement};
+
 use crate::attributes::usual_tag;
 use crate::sets::{keep_from, put_sorted};
 use std::alloc::Allocator;
@@ -87,7 +91,9 @@ fn trimmed(text: &str) -> &str {
 }
 
 /// Appends a value: a text, or behind `#` an element in hexadecimal (RFC 4514, 2.4).
-fn line_value<A: Allocator + Copy>(maker: &mut Maker<A>, tag: u8, text: &str) -> Done {
+fn line_value<A: Allocator + Copy>(maker: &mut Maker<A>, tag: u8, text: &str) -> Done
+    ensures { OnOk result (Appends maker.old.out.items maker.new.out.items) }
+{
     if let Some(digits) = text.strip_prefix('#') {
         let element = hex_bytes(maker.alloc, digits)?;
         return maker.put(element.as_slice());
@@ -101,7 +107,9 @@ fn line_value<A: Allocator + Copy>(maker: &mut Maker<A>, tag: u8, text: &str) ->
 }
 
 /// Appends an attribute that is written as `CN=example.org`.
-fn assignment<A: Allocator + Copy>(maker: &mut Maker<A>, text: &str) -> Done {
+fn assignment<A: Allocator + Copy>(maker: &mut Maker<A>, text: &str) -> Done
+    ensures { OnOk result (AppendsElement 48 maker.old.out.items maker.new.out.items) }
+{
     let (key, value) = cut(text, b'=');
     let Some(value) = value else {
         return Err(Fault::Not("a name: each part is as CN=example.org"));
@@ -113,26 +121,38 @@ fn assignment<A: Allocator + Copy>(maker: &mut Maker<A>, text: &str) -> Done {
     maker.close(start, 0x30)
 }
 
-/// Appends a set that is written as `CN=a+UID=b`.
-fn set_line<A: Allocator + Copy>(maker: &mut Maker<A>, text: &str) -> Done {
+/// Appends the attributes that are written as `CN=a+UID=b`, in the order of DER.
+fn attributes_of_line<A: Allocator + Copy>(maker: &mut Maker<A>, text: &str) -> Done
+    ensures { OnOk result ((count : ℕ) × AppendsAttributes A count maker.old.out.items maker.new.out.items) }
+{
     let start = maker.open();
     let mut elements = Vec::new(maker.alloc);
     let mut rest = Some(text);
-    for _ in 0..text.len().saturating_add(1) {
+    'attributes: for _ in 0..text.len().saturating_add(1) {
         let Some(line) = rest else { break };
         let (front, more) = cut(line, b'+');
         assignment(maker, front)?;
         keep_from(maker, start, &mut elements)?;
         rest = more;
     }
-    put_sorted(maker, elements)?;
+    put_sorted(maker, elements)
+}
+
+/// Appends a set that is written as `CN=a+UID=b`.
+fn set_line<A: Allocator + Copy>(maker: &mut Maker<A>, text: &str) -> Done
+    ensures { OnOk result (AppendsElement 49 maker.old.out.items maker.new.out.items) }
+{
+    let start = maker.open();
+    attributes_of_line(maker, text)?;
     maker.close(start, 0x31)
 }
 
 /// Appends the sets of a name behind slashes, in order.
-fn sets_in_order<A: Allocator + Copy>(maker: &mut Maker<A>, text: &str) -> Done {
+fn sets_in_order<A: Allocator + Copy>(maker: &mut Maker<A>, text: &str) -> Done
+    ensures { OnOk result (Appends maker.old.out.items maker.new.out.items) }
+{
     let mut rest = Some(text);
-    for _ in 0..text.len().saturating_add(1) {
+    'sets: for _ in 0..text.len().saturating_add(1) {
         let Some(line) = rest else { break };
         let (front, more) = cut(line, b'/');
         set_line(maker, front)?;
@@ -167,7 +187,9 @@ fn check_marks(part: &str) -> Done {
 }
 
 /// Appends the sets of a name between commas, the last first.
-fn sets_reversed<A: Allocator + Copy>(maker: &mut Maker<A>, text: &str) -> Done {
+fn sets_reversed<A: Allocator + Copy>(maker: &mut Maker<A>, text: &str) -> Done
+    ensures { OnOk result (Appends maker.old.out.items maker.new.out.items) }
+{
     let parts = parts_of(maker.alloc, text)?;
     if let [first, _, ..] = parts.as_slice() {
         if first.trim().starts_with("C=") {
@@ -176,7 +198,7 @@ fn sets_reversed<A: Allocator + Copy>(maker: &mut Maker<A>, text: &str) -> Done 
             ));
         }
     }
-    for part in parts.as_slice().iter().rev() {
+    'parts: for part in parts.as_slice().iter().rev() {
         check_marks(*part)?;
         set_line(maker, *part)?;
     }
@@ -187,7 +209,9 @@ fn sets_reversed<A: Allocator + Copy>(maker: &mut Maker<A>, text: &str) -> Done 
 ///
 /// # Errors
 /// `Not` where it is none, `Said` where it stands between commas and begins with the country, and those of its parts.
-pub(crate) fn line<A: Allocator + Copy>(maker: &mut Maker<A>, text: &str) -> Done {
+pub(crate) fn line<A: Allocator + Copy>(maker: &mut Maker<A>, text: &str) -> Done
+    ensures { OnOk result (AppendsElement 48 maker.old.out.items maker.new.out.items) }
+{
     let start = maker.open();
     match text.strip_prefix('/') {
         Some(list) => sets_in_order(maker, list)?,

@@ -1,5 +1,8 @@
 //! General names that are structures of their own.
 
+ghost use Rattle.std.specs.Prelude.{OnOk};
+ghost use Rattle.x509_make_parts.specs.Appending.{AppendsElement};
+
 use crate::attributes::string_value;
 use std::alloc::Allocator;
 use x509_make_parts::{Done, Maker};
@@ -13,7 +16,9 @@ fn tagged_text<A: Allocator + Copy>(
     fields: &mut Fields<'_, '_, A>,
     name: &'static str,
     tag: u8,
-) -> Done {
+) -> Done
+    ensures { OnOk result (AppendsElement tag maker.old.out.items maker.new.out.items) }
+{
     let start = maker.open();
     let text = fields.need(&mut maker.place, name)?;
     string_value(maker, text, UTF8)?;
@@ -28,7 +33,9 @@ fn tagged_text<A: Allocator + Copy>(
 pub(crate) fn other_name<A: Allocator + Copy>(
     maker: &mut Maker<A>,
     fields: &mut Fields<'_, '_, A>,
-) -> Done {
+) -> Done
+    ensures { OnOk result (AppendsElement 160 maker.old.out.items maker.new.out.items) }
+{
     let start = maker.open();
     let form = fields.need(&mut maker.place, "type-id")?;
     identified(maker, 0x06, form)?;
@@ -45,7 +52,9 @@ pub(crate) fn other_name<A: Allocator + Copy>(
 pub(crate) fn edi_party<A: Allocator + Copy>(
     maker: &mut Maker<A>,
     fields: &mut Fields<'_, '_, A>,
-) -> Done {
+) -> Done
+    ensures { OnOk result (AppendsElement 165 maker.old.out.items maker.new.out.items) }
+{
     let start = maker.open();
     if fields.has("nameAssigner") {
         tagged_text(maker, fields, "nameAssigner", 0xa0)?;

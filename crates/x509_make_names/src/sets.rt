@@ -1,7 +1,7 @@
 //! Elements of a SET OF in order.
 
 ghost use Rattle.std.specs.Prelude.{◌≡◌, ◌++◌, ◌∷◌, [], List, ℕ, take, drop, flat_map, OnOk, IfOk, Vec};
-ghost use Rattle.x509_make_names.specs.SetOrder.{IsSetContent};
+ghost use Rattle.x509_make_names.specs.SetOrder.{IsSetContent, Keeps};
 
 use std::alloc::Allocator;
 use x509_make_parts::{Done, Fault, Maker};
@@ -42,6 +42,7 @@ pub(crate) fn keep_from<A: Allocator + Copy>(
     elements: &mut Vec<Vec<u8, A>, A>,
 ) -> Done
     ensures rest { OnOk result (maker.new.out.items ≡ take start maker.old.out.items) }
+    ensures kept { OnOk result (Keeps A (drop start maker.old.out.items) elements.old.items elements.new.items) }
 {
     let element = taken_back(maker, start)?;
     match elements.push(element) {

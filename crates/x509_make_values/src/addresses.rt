@@ -1,5 +1,8 @@
 //! Addresses of the internet protocol.
 
+ghost use Rattle.std.specs.Prelude.{OnOk};
+ghost use Rattle.x509_make_parts.specs.Appending.{AppendsElement};
+
 use crate::octets::octets;
 use json::Value;
 use std::alloc::Allocator;
@@ -11,7 +14,9 @@ use x509_make_parts::{Done, Fault, Maker};
 ///
 /// # Errors
 /// `Not` where it is none.
-pub fn address_text<A: Allocator + Copy>(maker: &mut Maker<A>, tag: u8, text: &str) -> Done {
+pub fn address_text<A: Allocator + Copy>(maker: &mut Maker<A>, tag: u8, text: &str) -> Done
+    ensures { OnOk result (AppendsElement tag maker.old.out.items maker.new.out.items) }
+{
     if let Ok(address) = Ipv4Addr::parse_ascii(text.as_bytes()) {
         return maker.element(tag, &address.octets());
     }
@@ -26,7 +31,9 @@ pub fn address_text<A: Allocator + Copy>(maker: &mut Maker<A>, tag: u8, text: &s
 ///
 /// # Errors
 /// `Not` where it says none, and those of `check_leaf`.
-pub fn address<A: Allocator + Copy>(maker: &mut Maker<A>, tag: u8, node: &Value<'_, A>) -> Done {
+pub fn address<A: Allocator + Copy>(maker: &mut Maker<A>, tag: u8, node: &Value<'_, A>) -> Done
+    ensures { OnOk result (AppendsElement tag maker.old.out.items maker.new.out.items) }
+{
     if node.get("length").is_some() {
         return octets(maker, tag, node);
     }

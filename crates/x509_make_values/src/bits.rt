@@ -1,5 +1,8 @@
 //! BIT STRINGs.
 
+ghost use Rattle.std.specs.Prelude.{OnOk};
+ghost use Rattle.x509_make_parts.specs.Appending.{AppendsElement};
+
 use crate::hexadecimal::hex_bytes;
 use json::Value;
 use std::alloc::Allocator;
@@ -24,7 +27,9 @@ fn count_of<A: Allocator + Copy>(node: &Value<'_, A>, bytes: usize) -> Result<us
 ///
 /// # Errors
 /// `Not` where it says none, `Said` where `bits` doesn't fit, and those of `check_leaf`.
-pub fn bits<A: Allocator + Copy>(maker: &mut Maker<A>, tag: u8, node: &Value<'_, A>) -> Done {
+pub fn bits<A: Allocator + Copy>(maker: &mut Maker<A>, tag: u8, node: &Value<'_, A>) -> Done
+    ensures { OnOk result (AppendsElement tag maker.old.out.items maker.new.out.items) }
+{
     check_leaf(&mut maker.place, node)?;
     let text = text_of(node, "hexadecimal bytes")?;
     let bytes = hex_bytes(maker.alloc, text)?;

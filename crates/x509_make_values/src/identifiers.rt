@@ -3,6 +3,7 @@
 ghost use Rattle.std.specs.Prelude.{◌≡◌, ◌++◌, List, ℕ, OnOk, IfOk};
 ghost use Rattle.x509_der.specs.Element.{element};
 ghost use Rattle.x509_der.specs.ObjectIdentifier.{oid_content};
+ghost use Rattle.x509_make_parts.specs.Appending.{AppendsElement};
 ghost use Rattle.x509_oids_by_name.specs.Names.{Names};
 
 use crate::fields::Fields;
@@ -135,7 +136,9 @@ pub fn identifier_in<A: Allocator + Copy>(
 ///
 /// # Errors
 /// As `identifier_in`.
-pub fn identified<A: Allocator + Copy>(maker: &mut Maker<A>, tag: u8, node: &Value<'_, A>) -> Done {
+pub fn identified<A: Allocator + Copy>(maker: &mut Maker<A>, tag: u8, node: &Value<'_, A>) -> Done
+    ensures { OnOk result (AppendsElement tag maker.old.out.items maker.new.out.items) }
+{
     let found = identifier_in(maker.alloc, &mut maker.place, node)?;
     put_identifier(maker, tag, &found)
 }

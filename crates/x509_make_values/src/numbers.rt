@@ -3,6 +3,7 @@
 ghost use Rattle.std.specs.Prelude.{◌≡◌, ◌++◌, List, ℕ, IsTrue, OnOk};
 ghost use Rattle.x509_der.specs.Element.{element};
 ghost use Rattle.x509_der.specs.Integer.{is_minimal, natural_content};
+ghost use Rattle.x509_make_parts.specs.Appending.{AppendsElement};
 
 use crate::hexadecimal::hex_bytes;
 use json::Value;
@@ -25,7 +26,9 @@ pub fn number<A: Allocator + Copy>(maker: &mut Maker<A>, tag: u8, number: u64) -
 }
 
 /// Appends a number that isn't negative, of its bytes in hexadecimal.
-fn unsigned<A: Allocator + Copy>(maker: &mut Maker<A>, tag: u8, text: &str) -> Done {
+fn unsigned<A: Allocator + Copy>(maker: &mut Maker<A>, tag: u8, text: &str) -> Done
+    ensures { OnOk result (AppendsElement tag maker.old.out.items maker.new.out.items) }
+{
     let bytes = hex_bytes(maker.alloc, text.strip_prefix("0x").unwrap_or(text))?;
     if bytes.is_empty() {
         return Err(Fault::Not("a number"));
@@ -67,7 +70,9 @@ pub fn number_of<A: Allocator + Copy>(node: &Value<'_, A>) -> Result<u64, Fault>
 ///
 /// # Errors
 /// `Not` where a node says none, `Said` where it is hidden, and those of `check_leaf`.
-pub fn integer<A: Allocator + Copy>(maker: &mut Maker<A>, tag: u8, node: &Value<'_, A>) -> Done {
+pub fn integer<A: Allocator + Copy>(maker: &mut Maker<A>, tag: u8, node: &Value<'_, A>) -> Done
+    ensures { OnOk result (AppendsElement tag maker.old.out.items maker.new.out.items) }
+{
     check_leaf(&mut maker.place, node)?;
     check_shown(node)?;
     if let Value::String(text) = node {

@@ -2,6 +2,7 @@
 
 ghost use Rattle.std.specs.Prelude.{◌≡◌, ◌++◌, List, ℕ, OnOk};
 ghost use Rattle.x509_der.specs.Element.{element};
+ghost use Rattle.x509_make_parts.specs.Appending.{Appends};
 
 use crate::hexadecimal::hex_bytes;
 use json::Value;
@@ -31,7 +32,9 @@ pub fn octets<A: Allocator + Copy>(maker: &mut Maker<A>, tag: u8, node: &Value<'
 ///
 /// # Errors
 /// As `octets`.
-pub fn given<A: Allocator + Copy>(maker: &mut Maker<A>, node: &Value<'_, A>) -> Done {
+pub fn given<A: Allocator + Copy>(maker: &mut Maker<A>, node: &Value<'_, A>) -> Done
+    ensures { OnOk result (Appends maker.old.out.items maker.new.out.items) }
+{
     check_leaf(&mut maker.place, node)?;
     let bytes = bytes_of(maker.alloc, node)?;
     maker.put(bytes.as_slice())

@@ -2,6 +2,7 @@
 
 ghost use Rattle.std.specs.Prelude.{◌≡◌, ◌==◌, ◌++◌, if◌then◌else◌, OnOk};
 ghost use Rattle.x509_der.specs.Element.{element};
+ghost use Rattle.x509_make_parts.specs.Appending.{Appends};
 ghost use Rattle.x509_prim.specs.Utf16.{utf16_bytes};
 
 use crate::octets::given;
@@ -94,7 +95,9 @@ fn tag_in<A: Allocator + Copy>(node: &Value<'_, A>, usual: u8) -> Option<u8> {
 ///
 /// # Errors
 /// `Not` where `asn1` names no type, or the text has a character that the type doesn't have.
-pub fn typed<A: Allocator + Copy>(maker: &mut Maker<A>, node: &Value<'_, A>, usual: u8) -> Done {
+pub fn typed<A: Allocator + Copy>(maker: &mut Maker<A>, node: &Value<'_, A>, usual: u8) -> Done
+    ensures { OnOk result (Appends maker.old.out.items maker.new.out.items) }
+{
     if let Some(element) = node.get("der") {
         return given(maker, element);
     }

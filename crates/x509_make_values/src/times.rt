@@ -1,6 +1,7 @@
 //! UTCTimes and GeneralizedTimes.
 
-ghost use Rattle.std.specs.Prelude.{◌≤◌, IfSome};
+ghost use Rattle.std.specs.Prelude.{◌≤◌, IfSome, OnOk};
+ghost use Rattle.x509_make_parts.specs.Appending.{Appends};
 
 use json::Value;
 use std::alloc::Allocator;
@@ -83,7 +84,9 @@ fn is_utc<A: Allocator + Copy>(node: &Value<'_, A>, year: u16) -> Result<bool, F
 const THERE: &'static str = "a day and a time that there are";
 
 /// Appends a UTCTime.
-fn utc_time<A: Allocator + Copy>(maker: &mut Maker<A>, second: &Second) -> Done {
+fn utc_time<A: Allocator + Copy>(maker: &mut Maker<A>, second: &Second) -> Done
+    ensures { OnOk result (Appends maker.old.out.items maker.new.out.items) }
+{
     let [month, day, hour, minute, last] = second.parts;
     match UTCTime::new(second.year, month, day, hour, minute, last) {
         Some(time) => append_value(maker.alloc, &mut maker.out, &UtcTimeAsn1(time)),
@@ -93,7 +96,9 @@ fn utc_time<A: Allocator + Copy>(maker: &mut Maker<A>, second: &Second) -> Done 
 }
 
 /// Appends a GeneralizedTime.
-fn generalized_time<A: Allocator + Copy>(maker: &mut Maker<A>, second: &Second) -> Done {
+fn generalized_time<A: Allocator + Copy>(maker: &mut Maker<A>, second: &Second) -> Done
+    ensures { OnOk result (Appends maker.old.out.items maker.new.out.items) }
+{
     let [month, day, hour, minute, last] = second.parts;
     match GeneralizedTime::new(second.year, month, day, hour, minute, last) {
         Some(time) => append_value(maker.alloc, &mut maker.out, &GeneralizedTimeAsn1(time)),
@@ -106,7 +111,9 @@ fn generalized_time<A: Allocator + Copy>(maker: &mut Maker<A>, second: &Second) 
 ///
 /// # Errors
 /// `Not` where it says none, `Said` where `asn1` names neither type, and those of `check_leaf`.
-pub fn time<A: Allocator + Copy>(maker: &mut Maker<A>, node: &Value<'_, A>) -> Done {
+pub fn time<A: Allocator + Copy>(maker: &mut Maker<A>, node: &Value<'_, A>) -> Done
+    ensures { OnOk result (Appends maker.old.out.items maker.new.out.items) }
+{
     check_leaf(&mut maker.place, node)?;
     let text = text_of(node, "a time")?;
     let Some(second) = second_of(text) else {

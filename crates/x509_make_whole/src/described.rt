@@ -1,5 +1,8 @@
 //! What a description describes.
 
+ghost use Rattle.std.specs.Prelude.{OnOk};
+ghost use Rattle.x509_make_parts.specs.Appending.{Appends};
+
 use crate::made::Made;
 use json::Value;
 use std::alloc::Allocator;
@@ -33,7 +36,9 @@ const HEAD: [&'static str; 12] = [
 ];
 
 /// Appends a structure by its fields.
-fn structure<A: Allocator + Copy>(maker: &mut Maker<A>, made: Made, node: &Value<'_, A>) -> Done {
+fn structure<A: Allocator + Copy>(maker: &mut Maker<A>, made: Made, node: &Value<'_, A>) -> Done
+    ensures { OnOk result (Appends maker.old.out.items maker.new.out.items) }
+{
     match made {
         Made::RequestInfo => request_info(maker, node),
         Made::TbsCertificate => tbs_certificate(maker, node),
@@ -52,7 +57,9 @@ fn structure<A: Allocator + Copy>(maker: &mut Maker<A>, made: Made, node: &Value
 }
 
 /// Appends a structure that is described by the member with its title.
-fn by_fields<A: Allocator + Copy>(maker: &mut Maker<A>, made: Made, root: &Value<'_, A>) -> Done {
+fn by_fields<A: Allocator + Copy>(maker: &mut Maker<A>, made: Made, root: &Value<'_, A>) -> Done
+    ensures { OnOk result (Appends maker.old.out.items maker.new.out.items) }
+{
     let mut fields = Fields::of(&mut maker.place, root)?;
     fields.pass(&HEAD);
     let start = maker.open();
@@ -63,7 +70,9 @@ fn by_fields<A: Allocator + Copy>(maker: &mut Maker<A>, made: Made, root: &Value
 }
 
 /// Appends a structure of a short description.
-fn in_short<A: Allocator + Copy>(maker: &mut Maker<A>, made: Made, root: &Value<'_, A>) -> Done {
+fn in_short<A: Allocator + Copy>(maker: &mut Maker<A>, made: Made, root: &Value<'_, A>) -> Done
+    ensures { OnOk result (Appends maker.old.out.items maker.new.out.items) }
+{
     match made {
         Made::RequestInfo => short_request(maker, root),
         Made::TbsCertificate => short_certificate(maker, root),

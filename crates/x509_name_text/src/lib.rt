@@ -4,6 +4,7 @@
 mod attribute;
 mod put;
 pub mod text;
+mod utf16;
 mod value;
 
 pub use crate::text::name_text;

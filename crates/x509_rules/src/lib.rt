@@ -3,9 +3,11 @@
 #![tactic(auto)]
 
 pub mod part;
+mod reasons;
 pub mod rule;
+mod said;
 mod texts;
 
 pub use crate::part::Part;
 pub use crate::rule::Rule;
-pub use crate::texts::Severity;
+pub use crate::said::Severity;

@@ -1,0 +1,5 @@
+use Rattle.x509_make_parts.specs.Appending.{Appends}
+use Rattle.x509_make_names.proofs.names.items_of_set.Given as goal
+
+abbrev pub invariant-items : goal.invariant-items
+invariant-items g l = Appends l.initial.maker.out.items l.maker.out.items

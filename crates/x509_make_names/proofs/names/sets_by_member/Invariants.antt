@@ -1,0 +1,5 @@
+use Rattle.x509_make_parts.specs.Appending.{Appends}
+use Rattle.x509_make_names.proofs.names.sets_by_member.Given as goal
+
+abbrev pub invariant-members : goal.invariant-members
+invariant-members g l = Appends l.initial.maker.out.items l.maker.out.items

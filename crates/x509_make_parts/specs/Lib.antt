@@ -1,0 +1,3 @@
+-- What writing appends.
+pub mod Appending
+pub mod facts

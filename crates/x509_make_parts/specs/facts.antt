@@ -1,0 +1,2 @@
+-- What follows of appending.
+pub mod Appending

@@ -1,0 +1,88 @@
+//! Why the rules matter, in a sentence each.
+
+// From tools/tables/rules.tsv.
+pub(crate) const SERIAL_NOT_POSITIVE: &str =
+    "Programs print such numbers in different ways, so that entries of revocation lists may miss the certificate.";
+
+pub(crate) const SERIAL_TOO_LONG: &str =
+    "Programs need not read longer ones, and many cut or refuse them.";
+
+pub(crate) const ALGORITHMS_DIFFER: &str =
+    "The one beside the signature isn't signed, so anybody can change it.";
+
+pub(crate) const ISSUER_EMPTY: &str = "The issuer's own certificate is looked for by this name.";
+
+pub(crate) const VALIDITY_REVERSED: &str = "The certificate is never valid.";
+
+pub(crate) const NOT_BEFORE_FORM: &str =
+    "From 1950 to 2049 a time has one form only, UTCTime, and some programs refuse the other.";
+
+pub(crate) const NOT_AFTER_FORM: &str =
+    "From 1950 to 2049 a time has one form only, UTCTime, and some programs refuse the other.";
+
+pub(crate) const SUBJECT_EMPTY: &str =
+    "A program that doesn't know subjectAltName doesn't know whose key it is.";
+
+pub(crate) const AUTHORITY_UNNAMED: &str = "Certificates that it issues name it as their issuer.";
+
+pub(crate) const MODULUS_NOT_POSITIVE: &str =
+    "No key has such a modulus: it is mostly one whose sign octet was left out.";
+
+pub(crate) const MODULUS_EVEN: &str =
+    "It isn't a product of odd primes, so that the private key can be found.";
+
+pub(crate) const MODULUS_SHORT: &str = "It can be factored, or will be soon.";
+
+pub(crate) const EXPONENT_LOW: &str = "With the exponent 1 a signature is the message itself.";
+
+pub(crate) const EXPONENT_EVEN: &str = "No private exponent belongs to it.";
+
+pub(crate) const ISSUER_UNIQUE_ID: &str =
+    "Authorities must not issue such certificates: names are not used again.";
+
+pub(crate) const SUBJECT_UNIQUE_ID: &str =
+    "Authorities must not issue such certificates: names are not used again.";
+
+pub(crate) const AUTHORITY_KEY_CRITICAL: &str =
+    "Programs that don't know it refuse the certificate, though it only helps to find the issuer's key.";
+
+pub(crate) const SUBJECT_KEY_CRITICAL: &str =
+    "Programs that don't know it refuse the certificate, though it only helps to find the key.";
+
+pub(crate) const SUBJECT_KEY_MISSING: &str =
+    "Among several keys of an authority the right one is found by it.";
+
+pub(crate) const KEY_USAGE_EMPTY: &str =
+    "Some programs let such a key do nothing, others anything.";
+
+pub(crate) const KEY_USAGE_PADDED: &str =
+    "One set of usages has two encodings, so that the certificate isn't in DER.";
+
+pub(crate) const SIGNING_WITHOUT_AUTHORITY: &str =
+    "Programs that look at one of the two extensions alone trust what the subject signs.";
+
+pub(crate) const AUTHORITY_WITHOUT_SIGNING: &str =
+    "Programs refuse the certificates that it signs.";
+
+pub(crate) const SUBJECT_NAMES_EMPTY: &str =
+    "A list of names has at least one, and programs refuse an empty one.";
+
+pub(crate) const ISSUER_NAMES_EMPTY: &str =
+    "A list of names has at least one, and programs refuse an empty one.";
+
+pub(crate) const AUTHORITY_NOT_CRITICAL: &str =
+    "Programs that don't know the extension ignore the limits in it.";
+
+pub(crate) const PATH_LENGTH_IDLE: &str =
+    "The limit says nothing, and whoever set it meant an authority.";
+
+pub(crate) const PATH_LENGTH_WITHOUT_SIGNING: &str =
+    "The limit is about certificates that the key may not sign.";
+
+pub(crate) const AUTHORITY_DEFAULT_SPELLED: &str =
+    "One value has two encodings, so that the certificate isn't in DER.";
+
+pub(crate) const PURPOSES_EMPTY: &str =
+    "A list of purposes has at least one, and some programs take an empty one for any purpose.";
+
+// Until here.
