@@ -20,7 +20,7 @@ pub use crate::row::{Row, Told};
 pub use crate::task::{
     check, dated, encoded, members, pinned, push_json, searched, write_row, write_text,
 };
-pub use crate::text_report::TextReport;
+pub use crate::text_report::{TextReport, print_report};
 pub use crate::told::{Dated, Pinned, Searched};
 pub use x509_der::Refused;
 pub use x509_fingerprints::Pin;

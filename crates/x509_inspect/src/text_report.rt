@@ -175,6 +175,30 @@ pub(crate) struct WriteText<'a, 'w, A, W: Write> {
     pub(crate) out: &'w mut W,
 }
 
+/// Writes the report of a value: of what it was read from, the deviations in that, the pin, and names.
+///
+/// # Errors
+/// What the writer fails with.
+pub fn print_report<'x, T: Reported, W: Write>(
+    out: &mut W,
+    value: &'x T,
+    input: (&'x [u8], &'x [Place], Option<Pin>, Names<'x>),
+    form: (Options, Layout),
+) -> fmt::Result {
+    let (bytes, places, pin, names) = input;
+    let (options, layout) = form;
+    let report = TextReport {
+        value,
+        bytes,
+        places,
+        pin,
+        names,
+        options,
+        layout,
+    };
+    write!(out, "{report}")
+}
+
 /// Writes the report of a value.
 ///
 /// # Errors
@@ -189,21 +213,11 @@ fn write_report<T: Reported + Keyed<A>, A: Allocator + Copy, W: Write>(
     ensures { IfErr result WantsMemory }
 {
     let (bytes, places) = input;
-    let (options, layout) = form;
     let pin = pin_told(alloc, value)?;
-    let Ok(texts) = NameTexts::of(alloc, value, bytes, options.names) else {
+    let Ok(texts) = NameTexts::of(alloc, value, bytes, form.0.names) else {
         return Ok(Err(fmt::Error));
     };
-    let report = TextReport {
-        value,
-        bytes,
-        places,
-        pin,
-        names: texts.as_names(),
-        options,
-        layout,
-    };
-    Ok(write!(out, "{report}"))
+    Ok(print_report(out, value, (bytes, places, pin, texts.as_names()), form))
 }
 
 impl<A: Allocator + Copy, W: Write> Task<A> for WriteText<'_, '_, A, W> {

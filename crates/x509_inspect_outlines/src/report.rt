@@ -4,32 +4,10 @@ use crate::task::{Asked, Task, pin_of, run_as};
 use std::alloc::{AllocError, Allocator};
 use std::fmt::{self, Write};
 use x509_der::{Place, Refused};
-use x509_fingerprints::Pin;
-use x509_inspect::{NameTexts, Names, Options, TextReport};
+use x509_inspect::{NameTexts, Options, print_report};
 use x509_report::Reported;
 use x509_report_outlines::Keyholder;
 use x509_report_parts::Layout;
-
-/// Writes the report of a value: of what it was read from, the deviations in that, the pin, and names.
-fn write_report<'x, R: Reported, W: Write>(
-    out: &mut W,
-    report: &'x R,
-    input: (&'x [u8], &'x [Place], Option<Pin>, Names<'x>),
-    form: (Options, Layout),
-) -> fmt::Result {
-    let (bytes, places, pin, names) = input;
-    let (options, layout) = form;
-    let text = TextReport {
-        value: report,
-        bytes,
-        places,
-        pin,
-        names,
-        options,
-        layout,
-    };
-    write!(out, "{text}")
-}
 
 /// The writing of a report.
 #[derive(Drop)]
@@ -64,7 +42,7 @@ impl<A: Allocator + Copy, W: Write> Task<A> for WriteText<'_, '_, A, W> {
             return Ok(Err(fmt::Error));
         };
         let input = (bytes, places, pin, texts.as_names());
-        let written = write_report(out, report, input, (options, layout));
+        let written = print_report(out, report, input, (options, layout));
         Ok(written.map(|()| places.len()))
     }
 
