@@ -5,7 +5,7 @@ use crate::terminal::Terminal;
 use anyhow::Error;
 use cimaroly_outlines::{OutlineSettings, SerialNumber};
 use cimaroly_work::time::moment_of;
-use cimaroly_work::{Action, CellList, Format, RuleSet, Settings, Stop};
+use cimaroly_work::{Action, Format, RuleSet, Settings, Stop};
 use clap::ArgMatches;
 use x509_inspect::{Cell, Identifiers, Kind, Moment, NameForm, Options, Secrets};
 use x509_report_parts::shown::ShownBytes;
@@ -34,7 +34,7 @@ pub(crate) fn colours_of(matches: &ArgMatches<'_>, terminal: Terminal) -> Colour
 }
 
 /// Settings that ask for nothing but an action, as text.
-pub(crate) fn plain(action: Action) -> Settings<'static> {
+pub(crate) fn plain(action: Action) -> Settings {
     Settings {
         action,
         format: Format::Text,
@@ -66,27 +66,30 @@ fn layout_of(matches: &ArgMatches<'_>, terminal: Terminal) -> Layout {
     }
 }
 
-/// The cells that are asked for, by their names with commas between them.
-fn cells_of(names: &str) -> Result<CellList<'_>, Stop> {
-    let mut cells = CellList::new();
+/// How many cells the lines of a table may have.
+const MOST: usize = 32;
+
+/// Sees that names with commas between them are those of cells.
+fn check_cells(names: &str) -> Result<(), Stop> {
     for name in names.split(',') {
-        let Some(cell) = Cell::from_name(name) else {
+        if Cell::from_name(name).is_none() {
             return Err(Stop::usage(Error::msg(format_args!(
                 "no field is named '{}': see cimaroly help show",
                 ShownBytes(name.as_bytes())
             ))));
-        };
-        if !cells.push(cell) {
-            return Err(Stop::usage(Error::msg("at most 32 fields can be printed")));
         }
     }
-    Ok(cells)
+    if names.split(',').count() > MOST {
+        return Err(Stop::usage(Error::msg("at most 32 fields can be printed")));
+    }
+    Ok(())
 }
 
 /// In which form `cimaroly show` prints.
-fn show_format<'m>(matches: &ArgMatches<'m>) -> Result<Format<'m>, Stop> {
+fn show_format(matches: &ArgMatches<'_>) -> Result<Format, Stop> {
     if let Some(names) = matches.get_str("fields") {
-        return Ok(Format::Table(cells_of(names)?));
+        check_cells(names)?;
+        return Ok(Format::Table);
     }
     if matches.get_flag("json") {
         Ok(Format::Json)
@@ -120,10 +123,10 @@ fn outlines_of(matches: &ArgMatches<'_>) -> OutlineSettings {
 }
 
 /// What `cimaroly show` is asked for.
-pub(crate) fn show_settings<'m>(
-    matches: &ArgMatches<'m>,
+pub(crate) fn show_settings(
+    matches: &ArgMatches<'_>,
     terminal: Terminal,
-) -> Result<Settings<'m>, Stop> {
+) -> Result<Settings, Stop> {
     let secrets = if matches.get_flag("secrets") {
         Secrets::Shown
     } else {
@@ -175,7 +178,7 @@ pub(crate) fn time_of(matches: &ArgMatches<'_>) -> Result<Option<Moment>, Stop> 
 pub(crate) fn check_settings(
     matches: &ArgMatches<'_>,
     terminal: Terminal,
-) -> Result<Settings<'static>, Stop> {
+) -> Result<Settings, Stop> {
     let format = if matches.get_flag("quiet") {
         Format::Quiet
     } else if matches.get_flag("json") {
@@ -200,7 +203,7 @@ pub(crate) fn check_settings(
 }
 
 /// What `cimaroly der` is asked for.
-pub(crate) fn der_settings(matches: &ArgMatches<'_>) -> Settings<'static> {
+pub(crate) fn der_settings(matches: &ArgMatches<'_>) -> Settings {
     let format = if matches.get_flag("pem") {
         Format::Pem
     } else {
@@ -215,7 +218,7 @@ pub(crate) fn der_settings(matches: &ArgMatches<'_>) -> Settings<'static> {
 }
 
 /// What `cimaroly tree` is asked for.
-pub(crate) fn tree_settings(matches: &ArgMatches<'_>, terminal: Terminal) -> Settings<'static> {
+pub(crate) fn tree_settings(matches: &ArgMatches<'_>, terminal: Terminal) -> Settings {
     Settings {
         layout: layout_of(matches, terminal),
         ..plain(Action::Tree)
@@ -223,7 +226,7 @@ pub(crate) fn tree_settings(matches: &ArgMatches<'_>, terminal: Terminal) -> Set
 }
 
 /// What `cimaroly match` is asked for.
-pub(crate) fn match_settings(matches: &ArgMatches<'_>) -> Settings<'static> {
+pub(crate) fn match_settings(matches: &ArgMatches<'_>) -> Settings {
     let format = if matches.get_flag("quiet") {
         Format::Quiet
     } else {
@@ -237,7 +240,7 @@ pub(crate) fn match_settings(matches: &ArgMatches<'_>) -> Settings<'static> {
 }
 
 /// What `cimaroly signed` is asked for.
-pub(crate) fn signed_settings(matches: &ArgMatches<'_>) -> Settings<'static> {
+pub(crate) fn signed_settings(matches: &ArgMatches<'_>) -> Settings {
     Settings {
         format: Format::Quiet,
         outlines: outlines_of(matches),
@@ -246,7 +249,7 @@ pub(crate) fn signed_settings(matches: &ArgMatches<'_>) -> Settings<'static> {
 }
 
 /// How progress is told: a bar only where no text comes between.
-pub(crate) fn telling_of(settings: Settings<'_>, terminal: Terminal) -> Telling {
+pub(crate) fn telling_of(settings: Settings, terminal: Terminal) -> Telling {
     let is_alone = !terminal.has_output || settings.format == Format::Quiet;
     match settings.has_progress {
         false => Telling::Never,

@@ -271,7 +271,7 @@ fn command<'a>(alloc: Global) -> Result<Command<'a>, AllocError> {
 pub(crate) fn work_into<R, W: Write>(
     rt: &R,
     matches: &ArgMatches<'_>,
-    settings: Settings<'_>,
+    settings: Settings,
     telling: Telling,
     out: &mut W,
 ) -> Result<Tally, Stop>
@@ -282,6 +282,9 @@ where
     let mut progress = Progress::new(rt, telling)?;
     let paths = matches.get_strs("paths").unwrap_or(&[]);
     session.is_one_of_many = paths.len() > 1;
+    if let Some(names) = matches.get_str("fields") {
+        session.fields.push_str(names)?;
+    }
     progress.expect(paths.len());
     for path in paths {
         files::path(rt, &mut session, path, &mut progress)?;
@@ -298,7 +301,7 @@ where
 pub(crate) fn work<R>(
     rt: &R,
     matches: &ArgMatches<'_>,
-    settings: Settings<'_>,
+    settings: Settings,
     telling: Telling,
 ) -> Result<Tally, Stop>
 where

@@ -69,7 +69,7 @@ fn rules_of(matches: &ArgMatches<'_>) -> Result<RuleSet, Stop> {
 pub(crate) fn lint_settings(
     matches: &ArgMatches<'_>,
     terminal: Terminal,
-) -> Result<Settings<'static>, Stop> {
+) -> Result<Settings, Stop> {
     let format = if matches.get_flag("json") {
         Format::Json
     } else {

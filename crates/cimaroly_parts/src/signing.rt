@@ -157,7 +157,7 @@ where
 pub(crate) fn signed<R>(
     rt: &R,
     matches: &ArgMatches<'_>,
-    settings: Settings<'_>,
+    settings: Settings,
     terminal: Terminal,
 ) -> Result<Status, Stop>
 where

@@ -20,7 +20,6 @@ mod stop;
 mod structure;
 pub mod time;
 
-pub use crate::cells::CellList;
 pub use crate::rule_set::RuleSet;
 pub use crate::session::{NOTHING, Session};
 pub use crate::settings::{Action, Format, Settings};

@@ -21,7 +21,7 @@ const OTHER: &str = "only certificates are looked at";
 /// All that is wrong with a certificate by the rules that are asked for, in the order of the places.
 fn faults_of(
     alloc: Global,
-    settings: &Settings<'_>,
+    settings: &Settings,
     certificate: &Certificate<Global>,
     bytes: &[u8],
 ) -> Result<Vec<Fault>, AllocError> {

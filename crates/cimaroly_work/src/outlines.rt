@@ -1,12 +1,12 @@
 //! What is done with outlines: of structures that are refused, and of revocation lists.
 
-use crate::cells::CellList;
+use crate::cells::cells_of;
 use crate::lines::{write_named, write_searched};
 use crate::session::Session;
 use crate::settings::{Action, Format, Settings};
 use crate::stop::Stop;
 use cimaroly_outlines::{OutlineNote, note_of};
-use std::alloc::Global;
+use std::alloc::{AllocError, Global};
 use std::io::Write;
 use x509_der::{ReadError, Refused};
 use x509_inspect::{
@@ -22,7 +22,7 @@ use x509_report_parts::values::Count;
 /// What there is to be said of an outline: of extensions that the encoding keeps as octets where that is asked for.
 fn found_in(
     alloc: Global,
-    settings: &Settings<'_>,
+    settings: &Settings,
     kind: OutlineKind,
     bytes: &[u8],
 ) -> Result<Searched<Global>, Refused> {
@@ -150,7 +150,7 @@ impl<W: Write> Session<'_, W> {
             (_, Format::Json) => self.outline_json(source, kind, bytes, self.outline_extent()),
             (Action::Show, Format::Text) => self.show_outline(source, kind, bytes),
             (Action::Show, Format::Brief) => self.brief_outline(source, kind, bytes),
-            (Action::Show, Format::Table(cells)) => self.outline_row(source, kind, bytes, cells),
+            (Action::Show, Format::Table) => self.outline_row(source, kind, bytes),
             _ => self.check_outline(source, kind, bytes),
         }
     }
@@ -168,7 +168,7 @@ impl<W: Write> Session<'_, W> {
         self.tally.refuse();
         match self.settings.format {
             Format::Quiet if !self.settings.action.writes_bytes() => Ok(()),
-            Format::Quiet | Format::Pem | Format::Table(_) => {
+            Format::Quiet | Format::Pem | Format::Table => {
                 write!(self.notes, "cimaroly: ")?;
                 write_named(&mut self.notes, source, kind.name())?;
                 writeln!(self.notes, "refused: {refused}")?;
@@ -298,19 +298,22 @@ impl<W: Write> Session<'_, W> {
         source: Source<'_>,
         kind: OutlineKind,
         bytes: &[u8],
-        cells: CellList<'_>,
     ) -> Result<(), Stop> {
-        let settings = self.settings.outlines;
-        let asked = settings.in_text(kind, bytes);
-        let told = Told::Cells(cells.as_slice());
-        match write_outline_row(
-            self.alloc,
-            source,
-            asked,
-            told,
-            self.settings.options,
-            &mut self.text,
-        ) {
+        let asked = self.settings.outlines.in_text(kind, bytes);
+        let fields = std::mem::replace(&mut self.fields, String::new(self.alloc));
+        let written = match cells_of(self.alloc, fields.as_str()) {
+            Ok(cells) => write_outline_row(
+                self.alloc,
+                source,
+                asked,
+                Told::Cells(cells.as_slice()),
+                self.settings.options,
+                &mut self.text,
+            ),
+            Err(AllocError) => return Err(Stop::memory()),
+        };
+        self.fields = fields;
+        match written {
             Ok(Ok(deviations)) => {
                 self.tally.add(deviations);
                 self.put_text()

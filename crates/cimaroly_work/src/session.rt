@@ -33,13 +33,15 @@ pub struct Session<'w, W: Write> {
     /// What is written to.
     pub out: &'w mut W,
     /// What was asked for.
-    pub settings: Settings<'w>,
+    pub settings: Settings,
     /// What was found.
     pub tally: Tally,
     pub(crate) text: String,
     pub(crate) line: Vec<u8>,
     /// What standard error is to be told, where standard output is for encodings alone.
     pub notes: String,
+    /// The names of the cells of a table, with commas between them.
+    pub fields: String,
     /// The public keys that were found.
     pub(crate) keys: Keys,
     /// The DER encoding that is to be written at the end.
@@ -52,7 +54,7 @@ pub struct Session<'w, W: Write> {
 
 impl<'w, W: Write> Session<'w, W> {
     /// Nothing was found yet.
-    pub fn new(alloc: Global, out: &'w mut W, settings: Settings<'w>) -> Self {
+    pub fn new(alloc: Global, out: &'w mut W, settings: Settings) -> Self {
         Session {
             alloc,
             out,
@@ -61,6 +63,7 @@ impl<'w, W: Write> Session<'w, W> {
             text: String::new(alloc),
             line: Vec::new(alloc),
             notes: String::new(alloc),
+            fields: String::new(alloc),
             keys: Keys::new(),
             encoding: None,
             is_one_of_many: false,
@@ -117,7 +120,7 @@ impl<'w, W: Write> Session<'w, W> {
                 self.put_text()
             }
             Format::Quiet if !self.settings.action.writes_bytes() => Ok(()),
-            Format::Quiet | Format::Pem | Format::Table(_) => {
+            Format::Quiet | Format::Pem | Format::Table => {
                 write!(self.notes, "cimaroly: ")?;
                 write_note(&mut self.notes, source, outcome, reason, Colours::Off)?;
                 Ok(())

@@ -1,6 +1,5 @@
 //! What the command line asks for.
 
-use crate::cells::CellList;
 use crate::rule_set::RuleSet;
 use cimaroly_outlines::OutlineSettings;
 use x509_inspect::{Kind, Moment, Options};
@@ -34,7 +33,7 @@ impl Action {
 
 /// In which form something is printed.
 #[derive(Clone, Copy, Debug, PartialEq, Eq)]
-pub enum Format<'a> {
+pub enum Format {
     /// As text.
     Text,
     /// One JSON object a line.
@@ -45,17 +44,17 @@ pub enum Format<'a> {
     Pem,
     /// One line for each structure, with the most important.
     Brief,
-    /// One line for each structure, with cells.
-    Table(CellList<'a>),
+    /// One line for each structure, with the cells whose names the session has.
+    Table,
 }
 
 /// What the command line asks for.
 #[derive(Clone, Copy, Debug, PartialEq, Eq)]
-pub struct Settings<'a> {
+pub struct Settings {
     /// What is done.
     pub action: Action,
     /// In which form it is printed.
-    pub format: Format<'a>,
+    pub format: Format,
     /// As which type everything is read; `None` where labels say it.
     pub kind: Option<Kind>,
     /// What reports tell.

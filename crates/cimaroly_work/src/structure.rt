@@ -1,13 +1,13 @@
 //! What is done with one structure.
 
-use crate::cells::CellList;
+use crate::cells::cells_of;
 use crate::lines::{write_dated, write_read, write_refused, write_searched, write_structure};
 use crate::session::Session;
 use crate::settings::{Action, Format, Settings};
 use crate::status::Status;
 use crate::stop::Stop;
 use cimaroly_outlines::OutlineNote;
-use std::alloc::Global;
+use std::alloc::{AllocError, Global};
 use std::io::Write;
 use x509_der::ReadError;
 use x509_inspect::{
@@ -112,7 +112,7 @@ impl<W: Write> Session<'_, W> {
             (_, Format::Json) => self.json_at(source, kind, bytes),
             (Action::Show, Format::Text) => self.show(source, kind, bytes),
             (Action::Show, Format::Brief) => self.brief(source, kind, bytes),
-            (Action::Show, Format::Table(cells)) => self.row(source, kind, bytes, cells),
+            (Action::Show, Format::Table) => self.row(source, kind, bytes),
             (Action::Match, _) => self.pin(source, kind, bytes),
             _ => self.check(source, kind, bytes),
         }
@@ -241,21 +241,25 @@ impl<W: Write> Session<'_, W> {
     }
 
     /// Writes the line of a structure in a table.
-    fn row(
-        &mut self,
-        source: Source<'_>,
-        kind: Kind,
-        bytes: &[u8],
-        cells: CellList<'_>,
-    ) -> Result<(), Stop> {
+    fn row(&mut self, source: Source<'_>, kind: Kind, bytes: &[u8]) -> Result<(), Stop> {
         let row = Row {
             source,
             kind,
             bytes,
             options: self.settings.options,
         };
-        let told = Told::Cells(cells.as_slice());
-        match write_row(self.alloc, row, told, &mut self.text) {
+        let fields = std::mem::replace(&mut self.fields, String::new(self.alloc));
+        let written = match cells_of(self.alloc, fields.as_str()) {
+            Ok(cells) => write_row(
+                self.alloc,
+                row,
+                Told::Cells(cells.as_slice()),
+                &mut self.text,
+            ),
+            Err(AllocError) => return Err(Stop::memory()),
+        };
+        self.fields = fields;
+        match written {
             Ok(Ok(deviations)) => {
                 self.tally.add(deviations);
                 self.put_text()
