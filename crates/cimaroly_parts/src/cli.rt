@@ -267,6 +267,13 @@ fn command<'a>(alloc: Global) -> Result<Command<'a>, AllocError> {
         .subcommand(make_command(alloc)?)
 }
 
+/// The names of the cells of a table, as they are asked for.
+fn fields_of(alloc: Global, matches: &ArgMatches<'_>) -> Result<String, AllocError> {
+    let mut fields = String::new(alloc);
+    fields.push_str(matches.get_str("fields").unwrap_or(""))?;
+    Ok(fields)
+}
+
 /// Works on all paths, or on standard input where there are none, and writes to a writer.
 pub(crate) fn work_into<R, W: Write>(
     rt: &R,
@@ -279,12 +286,10 @@ where
     R: Files<File = File> + Input + Print + Eprint + AllocGlobal + Clock + Clone + Drop,
 {
     let mut session = Session::new(rt.alloc(), out, settings);
+    session.fields = fields_of(rt.alloc(), matches)?;
     let mut progress = Progress::new(rt, telling)?;
     let paths = matches.get_strs("paths").unwrap_or(&[]);
     session.is_one_of_many = paths.len() > 1;
-    if let Some(names) = matches.get_str("fields") {
-        session.fields.push_str(names)?;
-    }
     progress.expect(paths.len());
     for path in paths {
         files::path(rt, &mut session, path, &mut progress)?;
