@@ -43,43 +43,19 @@ pub const {constant}: &'static str = "{arcs}";
 }}
 """
 
-NAMES_HEAD = """//! The names of object identifiers, as the standards spell them.
-//!
-//! This file is written by `tools/make_object_identifiers.py` from `tools/object_identifiers.tsv` and
-//! `tools/further_names.tsv`.
-#![tactic(auto)]
-
-mod itu;
-mod members;
-mod organizations;
-
-/// The name of an object identifier, if it has one here.
-pub fn name_of(arcs: &[u64]) -> Option<&'static str> {
-    let (last, front) = arcs.split_last()?;
-    match front {
-        [1, 2, ..] => members::name_under(front, *last),
-        [1, 3, ..] => organizations::name_under(front, *last),
-        _ => itu::name_under(front, *last),
-    }
-}
-"""
-
-
 # What the names under the first arcs stand in: one file for all would be long.
 MODULES = {(1, 2): "members", (1, 3): "organizations"}
 OTHERS = "itu"
-MODULE_HEADS = {
-    "members": "//! Names of the identifiers of ISO's member bodies, under 1.2.",
-    "organizations": "//! Names of the identifiers of organizations that ISO knows, under 1.3.",
-    "itu": "//! Names of ITU-T's identifiers, under arc 0, and of those that it shares with ISO, under arc 2.",
+NAMES_TITLES = {
+    "itu": "Names of ITU-T's identifiers, under arc 0, and of those that it shares with ISO, under arc 2.",
+    "members": "Names of the identifiers of ISO's member bodies, under 1.2.",
+    "organizations": "Names of the identifiers of organizations that ISO knows, under 1.3.",
 }
-WRITTEN = "//! This file is written by `tools/make_object_identifiers.py`.\n"
-NAME_UNDER = """
-/// The name of an identifier by its last arc and those before it, if it has one here.
-pub(crate) fn name_under(front: &[u64], last: u64) -> Option<&'static str> {
-    match front {
+NAMES_HEAD = """//! {title}
+//! This file is written by `tools/make_object_identifiers.py`.
+
+use crate::table::{{Names, Table}};
 """
-NONE_ELSE = "        _ => None,\n    }\n}\n"
 
 
 def rows_of(name):
@@ -107,30 +83,46 @@ def identifiers(crate, rows):
     return text
 
 
+# How long an array may be that `rt fmt` leaves on one line, with what stands round it.
+SHORT = 64
+
+# How many lines of a table a function has: a longer one takes long to prove.
+LINES = 16
+
+
+def pair(constant, name):
+    """A pair of a table, as `rt fmt` breaks it."""
+    if len(f"{constant}, {name}") <= 60:
+        return f"    ({constant}, {name}),\n"
+    return f"    (\n        {constant},\n        {name},\n    ),\n"
+
+
 def names_under(front, named):
-    """The function for the names under a front, and the arm that calls it."""
-    function = f"under_{'_'.join(map(str, front))}"
-    text = f"\n/// The names under {'.'.join(map(str, front))}.\n"
-    text += f"fn {function}(last: u64) -> Option<&'static str> {{\n    match last {{\n"
-    text += "".join(f'        {last} => Some("{name}"),\n' for last, name in sorted(named))
-    return text + NONE_ELSE, f"        [{', '.join(map(str, front))}] => {function}(last),\n"
+    """The names under some arcs, and the line of the table that has them, as `rt fmt` breaks it."""
+    constant = f"UNDER_{'_'.join(map(str, front))}"
+    text = f"\n/// The names under {'.'.join(map(str, front))}.\nconst {constant}: Names = "
+    lines = [f'({last}, "{name}")' for last, name in sorted(named)]
+    row = f"&[{', '.join(lines)}];\n"
+    text += row if len(row) <= SHORT else "".join(["&[\n", *(f"    {line},\n" for line in lines), "];\n"])
+    return text, pair(f"&[{', '.join(map(str, front))}]", constant)
 
 
 def names_texts(rows):
-    """The crate of names: a function for the identifiers under each front, since one for all takes long to prove."""
+    """The tables of names, by module: a constant for the identifiers under the same arcs, the shortest of these first."""
     fronts = {}
     for row in rows:
         *front, last = row["arcs"].split(".")
         fronts.setdefault(tuple(map(int, front)), []).append((int(last), row["name"]))
-    functions, arms = dict.fromkeys(MODULE_HEADS, ""), dict.fromkeys(MODULE_HEADS, "")
-    for front, named in sorted(fronts.items()):
+    constants, lines = dict.fromkeys(NAMES_TITLES, ""), dict.fromkeys(NAMES_TITLES, "")
+    for front, named in sorted(fronts.items(), key=lambda it: (len(it[0]), it[0])):
         module = MODULES.get(front[:2], OTHERS)
-        function, arm = names_under(front, named)
-        functions[module] += function
-        arms[module] += arm
-    texts = {path_of("x509_oid_names"): NAMES_HEAD}
-    for module, head in MODULE_HEADS.items():
-        text = f"{head}\n{WRITTEN}{NAME_UNDER}{arms[module]}{NONE_ELSE}{functions[module]}"
+        constant, line = names_under(front, named)
+        constants[module] += constant
+        lines[module] += line
+    texts = {}
+    for module, title in NAMES_TITLES.items():
+        text = NAMES_HEAD.format(title=title) + constants[module]
+        text += f"\n/// All of them, by the arcs before the last.\npub const TABLE: Table = &[\n{lines[module]}];\n"
         texts[path_of("x509_oid_names", f"{module}.rt")] = text
     return texts
 
@@ -143,17 +135,6 @@ use std::process::Abort;
 use x509_oids_algorithms as algorithms;
 use x509_oids_objects as objects;
 """
-
-# How many lines of a table a function has: a longer one takes long to prove.
-LINES = 16
-
-
-def pair(constant, name):
-    """A pair of a table, as `rt fmt` breaks it."""
-    if len(f"{constant}, {name}") <= 60:
-        return f"    ({constant}, {name}),\n"
-    return f"    (\n        {constant},\n        {name},\n    ),\n"
-
 
 def tests_text(rows):
     """The tables of names that a test compares with what the crate of names answers."""

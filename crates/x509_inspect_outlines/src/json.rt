@@ -5,7 +5,7 @@ use std::alloc::{AllocError, Allocator};
 use std::fmt::{self, Display, Write};
 use x509_der::{Place, Refused};
 use x509_fingerprints::{Fingerprints, HexDigits, Pin};
-use x509_inspect::{Extent, Fault, Faults, Secrets, Source, Standing};
+use x509_inspect::{Extent, Fault, Faults, Options, Secrets, Source, Standing};
 use x509_report::Reported;
 use x509_report_outlines::Keyholder;
 use x509_report_parts::shown::ShownBytes;
@@ -56,19 +56,22 @@ fn write_deviation<A: Allocator + Copy, R: Reported>(
     sink.writer().end_object()
 }
 
-/// Writes what a read came to: the deviations, and what is signed.
-fn write_outcome<A: Allocator + Copy, R: Reported>(
+/// What a read came to, in a word.
+fn word_of(places: &[Place]) -> &'static str {
+    if places.is_empty() {
+        "ok"
+    } else {
+        "deviations"
+    }
+}
+
+/// Writes the deviations, and what is signed.
+fn write_deviations<A: Allocator + Copy, R: Reported>(
     sink: &mut JsonSink<A>,
     report: &R,
     bytes: &[u8],
     places: &[Place],
 ) -> Result<(), AllocError> {
-    let result = if places.is_empty() {
-        "ok"
-    } else {
-        "deviations"
-    };
-    sink.member("result", result)?;
     sink.writer().key("deviations")?;
     sink.writer().begin_array()?;
     for (index, place) in places.iter().enumerate() {
@@ -182,13 +185,14 @@ fn write_extent<A: Allocator + Copy, R: Reported + Keyholder<A>>(
     }
 }
 
-/// The writing of the members that tell what a read came to.
+/// The writing of the members that tell what a read came to, with `result` or without it.
 #[derive(Drop)]
 struct WriteMembers<'a, 's, A: Allocator> {
     alloc: A,
     sink: &'s mut JsonSink<A>,
     bytes: &'a [u8],
     extent: Extent,
+    with_result: bool,
 }
 
 impl<A: Allocator + Copy> Task<A> for WriteMembers<'_, '_, A> {
@@ -204,8 +208,12 @@ impl<A: Allocator + Copy> Task<A> for WriteMembers<'_, '_, A> {
             sink,
             bytes,
             extent,
+            with_result,
         } = self;
-        write_outcome(sink, report, bytes, places)?;
+        if with_result {
+            sink.member("result", word_of(places))?;
+        }
+        write_deviations(sink, report, bytes, places)?;
         write_extent(sink, alloc, report, bytes, extent)?;
         Ok(Ok(places.len()))
     }
@@ -227,8 +235,18 @@ fn write_members<A: Allocator + Copy>(
         sink,
         bytes: asked.bytes,
         extent,
+        with_result: true,
     };
     run_as(alloc, asked, task)
+}
+
+/// Writes why bytes are refused, and where.
+fn write_reason<A: Allocator + Copy>(
+    sink: &mut JsonSink<A>,
+    refused: Refused,
+) -> Result<(), AllocError> {
+    sink.member("reason", refused.error.name())?;
+    sink.count("at", refused.at as u64)
 }
 
 /// Begins an object, with where the bytes come from, as what they are read, and how many they are.
@@ -263,8 +281,7 @@ fn write_object<A: Allocator + Copy>(
     let outcome = write_members(alloc, sink, asked, extent)?;
     if let Err(refused) = outcome {
         sink.member("result", "refused")?;
-        sink.member("reason", refused.error.name())?;
-        sink.count("at", refused.at as u64)?;
+        write_reason(sink, refused)?;
     }
     sink.writer().end_object()?;
     Ok(outcome)
@@ -295,6 +312,49 @@ pub fn push_outline<A: Allocator + Copy>(
     }
 }
 
+/// Writes an object with the members that stand behind `result`.
+fn write_behind<A: Allocator + Copy>(
+    alloc: A,
+    sink: &mut JsonSink<A>,
+    asked: Asked<'_>,
+    options: Options,
+) -> Result<Result<usize, Refused>, AllocError> {
+    sink.writer().begin_object()?;
+    let task = WriteMembers {
+        alloc,
+        sink: &mut *sink,
+        bytes: asked.bytes,
+        extent: Extent::Fields(options),
+        with_result: false,
+    };
+    let outcome = run_as(alloc, asked, task)?;
+    if let Err(refused) = outcome {
+        write_reason(sink, refused)?;
+    }
+    sink.writer().end_object()?;
+    Ok(outcome)
+}
+
+/// The object of bytes as an outline, with the members that stand behind `result`: all that is told but as what they are
+/// read, how many they are, and what the read came to.
+///
+/// # Errors
+/// `AllocError` where memory is refused.
+pub fn outline_members<A: Allocator + Copy>(
+    alloc: A,
+    asked: Asked<'_>,
+    options: Options,
+) -> Result<Written<A>, AllocError> {
+    let mut sink = JsonSink::new(alloc, Vec::new(alloc));
+    match write_behind(alloc, &mut sink, asked, options) {
+        Ok(outcome) => Ok((sink.finish(alloc)?, outcome)),
+        Err(AllocError) => {
+            drop(sink);
+            Err(AllocError)
+        }
+    }
+}
+
 /// Writes an object of what reading bytes as an outline came to.
 fn write_outline<A: Allocator + Copy>(
     alloc: A,
@@ -308,6 +368,33 @@ fn write_outline<A: Allocator + Copy>(
     sink.writer().end_object()
 }
 
+/// Adds the member `outline` to an object that ends with its brace.
+///
+/// # Errors
+/// `AllocError` where memory is refused; the object is dropped.
+pub fn add_outline<A: Allocator + Copy>(
+    alloc: A,
+    object: Vec<u8, A>,
+    asked: Asked<'_>,
+    extent: Extent,
+) -> Result<Vec<u8, A>, AllocError> {
+    let mut object = object;
+    object.truncate(object.len().saturating_sub(1));
+    object.extend_from_slice(b",\"outline\":")?;
+    let mut sink = JsonSink::new(alloc, object);
+    match write_outline(alloc, &mut sink, asked, extent) {
+        Ok(()) => {
+            let mut object = sink.finish(alloc)?;
+            object.push(b'}')?;
+            Ok(object)
+        }
+        Err(AllocError) => {
+            drop(sink);
+            Err(AllocError)
+        }
+    }
+}
+
 /// Adds the member `outline` to the object at the end of a line, whose last bytes are a brace and a line feed.
 ///
 /// # Errors
@@ -319,18 +406,8 @@ pub fn push_refused<A: Allocator + Copy>(
     extent: Extent,
 ) -> Result<Vec<u8, A>, AllocError> {
     let mut line = line;
-    line.truncate(line.len().saturating_sub(2));
-    line.extend_from_slice(b",\"outline\":")?;
-    let mut sink = JsonSink::new(alloc, line);
-    match write_outline(alloc, &mut sink, asked, extent) {
-        Ok(()) => {
-            let mut line = sink.finish(alloc)?;
-            line.extend_from_slice(b"}\n")?;
-            Ok(line)
-        }
-        Err(AllocError) => {
-            drop(sink);
-            Err(AllocError)
-        }
-    }
+    line.truncate(line.len().saturating_sub(1));
+    let mut line = add_outline(alloc, line, asked, extent)?;
+    line.push(b'\n')?;
+    Ok(line)
 }

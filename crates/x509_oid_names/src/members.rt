@@ -1,266 +1,164 @@
 //! Names of the identifiers of ISO's member bodies, under 1.2.
 //! This file is written by `tools/make_object_identifiers.py`.
 
-/// The name of an identifier by its last arc and those before it, if it has one here.
-pub(crate) fn name_under(front: &[u64], last: u64) -> Option<&'static str> {
-    match front {
-        [1, 2, 156, 10197, 1] => under_1_2_156_10197_1(last),
-        [1, 2, 643, 2, 2] => under_1_2_643_2_2(last),
-        [1, 2, 643, 7, 1, 1, 1] => under_1_2_643_7_1_1_1(last),
-        [1, 2, 643, 7, 1, 1, 3] => under_1_2_643_7_1_1_3(last),
-        [1, 2, 840, 10040, 4] => under_1_2_840_10040_4(last),
-        [1, 2, 840, 10045, 2] => under_1_2_840_10045_2(last),
-        [1, 2, 840, 10045, 3, 1] => under_1_2_840_10045_3_1(last),
-        [1, 2, 840, 10045, 4] => under_1_2_840_10045_4(last),
-        [1, 2, 840, 10045, 4, 3] => under_1_2_840_10045_4_3(last),
-        [1, 2, 840, 10046, 2] => under_1_2_840_10046_2(last),
-        [1, 2, 840, 48018, 1, 2] => under_1_2_840_48018_1_2(last),
-        [1, 2, 840, 113549] => under_1_2_840_113549(last),
-        [1, 2, 840, 113549, 1, 1] => under_1_2_840_113549_1_1(last),
-        [1, 2, 840, 113549, 1, 3] => under_1_2_840_113549_1_3(last),
-        [1, 2, 840, 113549, 1, 5] => under_1_2_840_113549_1_5(last),
-        [1, 2, 840, 113549, 1, 7] => under_1_2_840_113549_1_7(last),
-        [1, 2, 840, 113549, 1, 9] => under_1_2_840_113549_1_9(last),
-        [1, 2, 840, 113549, 1, 9, 22] => under_1_2_840_113549_1_9_22(last),
-        [1, 2, 840, 113549, 1, 9, 23] => under_1_2_840_113549_1_9_23(last),
-        [1, 2, 840, 113549, 1, 12, 1] => under_1_2_840_113549_1_12_1(last),
-        [1, 2, 840, 113549, 1, 12, 10, 1] => under_1_2_840_113549_1_12_10_1(last),
-        [1, 2, 840, 113549, 2] => under_1_2_840_113549_2(last),
-        [1, 2, 840, 113554, 1, 2] => under_1_2_840_113554_1_2(last),
-        [1, 2, 840, 113554, 1, 2, 2] => under_1_2_840_113554_1_2_2(last),
-        _ => None,
-    }
-}
-
-/// The names under 1.2.156.10197.1.
-fn under_1_2_156_10197_1(last: u64) -> Option<&'static str> {
-    match last {
-        301 => Some("curveSM2"),
-        501 => Some("sm2sign-with-sm3"),
-        _ => None,
-    }
-}
-
-/// The names under 1.2.643.2.2.
-fn under_1_2_643_2_2(last: u64) -> Option<&'static str> {
-    match last {
-        3 => Some("id-GostR3411-94-with-GostR3410-2001"),
-        19 => Some("id-GostR3410-2001"),
-        _ => None,
-    }
-}
-
-/// The names under 1.2.643.7.1.1.1.
-fn under_1_2_643_7_1_1_1(last: u64) -> Option<&'static str> {
-    match last {
-        1 => Some("id-tc26-gost3410-12-256"),
-        2 => Some("id-tc26-gost3410-12-512"),
-        _ => None,
-    }
-}
-
-/// The names under 1.2.643.7.1.1.3.
-fn under_1_2_643_7_1_1_3(last: u64) -> Option<&'static str> {
-    match last {
-        2 => Some("id-tc26-signwithdigest-gost3410-12-256"),
-        3 => Some("id-tc26-signwithdigest-gost3410-12-512"),
-        _ => None,
-    }
-}
-
-/// The names under 1.2.840.10040.4.
-fn under_1_2_840_10040_4(last: u64) -> Option<&'static str> {
-    match last {
-        1 => Some("id-dsa"),
-        3 => Some("id-dsa-with-sha1"),
-        _ => None,
-    }
-}
-
-/// The names under 1.2.840.10045.2.
-fn under_1_2_840_10045_2(last: u64) -> Option<&'static str> {
-    match last {
-        1 => Some("id-ecPublicKey"),
-        _ => None,
-    }
-}
-
-/// The names under 1.2.840.10045.3.1.
-fn under_1_2_840_10045_3_1(last: u64) -> Option<&'static str> {
-    match last {
-        1 => Some("secp192r1"),
-        7 => Some("secp256r1"),
-        _ => None,
-    }
-}
-
-/// The names under 1.2.840.10045.4.
-fn under_1_2_840_10045_4(last: u64) -> Option<&'static str> {
-    match last {
-        1 => Some("ecdsa-with-SHA1"),
-        _ => None,
-    }
-}
-
-/// The names under 1.2.840.10045.4.3.
-fn under_1_2_840_10045_4_3(last: u64) -> Option<&'static str> {
-    match last {
-        2 => Some("ecdsa-with-SHA256"),
-        3 => Some("ecdsa-with-SHA384"),
-        4 => Some("ecdsa-with-SHA512"),
-        _ => None,
-    }
-}
-
-/// The names under 1.2.840.10046.2.
-fn under_1_2_840_10046_2(last: u64) -> Option<&'static str> {
-    match last {
-        1 => Some("dhpublicnumber"),
-        _ => None,
-    }
-}
-
-/// The names under 1.2.840.48018.1.2.
-fn under_1_2_840_48018_1_2(last: u64) -> Option<&'static str> {
-    match last {
-        2 => Some("ms-krb5"),
-        _ => None,
-    }
-}
+use crate::table::{Names, Table};
 
 /// The names under 1.2.840.113549.
-fn under_1_2_840_113549(last: u64) -> Option<&'static str> {
-    match last {
-        2 => Some("digestAlgorithm"),
-        _ => None,
-    }
-}
+const UNDER_1_2_840_113549: Names = &[(2, "digestAlgorithm")];
 
-/// The names under 1.2.840.113549.1.1.
-fn under_1_2_840_113549_1_1(last: u64) -> Option<&'static str> {
-    match last {
-        1 => Some("rsaEncryption"),
-        2 => Some("md2WithRSAEncryption"),
-        4 => Some("md5WithRSAEncryption"),
-        5 => Some("sha1WithRSAEncryption"),
-        8 => Some("id-mgf1"),
-        10 => Some("id-RSASSA-PSS"),
-        11 => Some("sha256WithRSAEncryption"),
-        12 => Some("sha384WithRSAEncryption"),
-        13 => Some("sha512WithRSAEncryption"),
-        14 => Some("sha224WithRSAEncryption"),
-        _ => None,
-    }
-}
+/// The names under 1.2.156.10197.1.
+const UNDER_1_2_156_10197_1: Names = &[(301, "curveSM2"), (501, "sm2sign-with-sm3")];
 
-/// The names under 1.2.840.113549.1.3.
-fn under_1_2_840_113549_1_3(last: u64) -> Option<&'static str> {
-    match last {
-        1 => Some("dhKeyAgreement"),
-        _ => None,
-    }
-}
+/// The names under 1.2.643.2.2.
+const UNDER_1_2_643_2_2: Names = &[
+    (3, "id-GostR3411-94-with-GostR3410-2001"),
+    (19, "id-GostR3410-2001"),
+];
 
-/// The names under 1.2.840.113549.1.5.
-fn under_1_2_840_113549_1_5(last: u64) -> Option<&'static str> {
-    match last {
-        12 => Some("id-PBKDF2"),
-        13 => Some("id-PBES2"),
-        _ => None,
-    }
-}
+/// The names under 1.2.840.10040.4.
+const UNDER_1_2_840_10040_4: Names = &[(1, "id-dsa"), (3, "id-dsa-with-sha1")];
 
-/// The names under 1.2.840.113549.1.7.
-fn under_1_2_840_113549_1_7(last: u64) -> Option<&'static str> {
-    match last {
-        1 => Some("id-data"),
-        2 => Some("id-signedData"),
-        3 => Some("id-envelopedData"),
-        6 => Some("id-encryptedData"),
-        _ => None,
-    }
-}
+/// The names under 1.2.840.10045.2.
+const UNDER_1_2_840_10045_2: Names = &[(1, "id-ecPublicKey")];
 
-/// The names under 1.2.840.113549.1.9.
-fn under_1_2_840_113549_1_9(last: u64) -> Option<&'static str> {
-    match last {
-        1 => Some("emailAddress"),
-        2 => Some("unstructuredName"),
-        3 => Some("contentType"),
-        4 => Some("messageDigest"),
-        5 => Some("signingTime"),
-        6 => Some("countersignature"),
-        7 => Some("challengePassword"),
-        14 => Some("extensionRequest"),
-        20 => Some("friendlyName"),
-        21 => Some("localKeyId"),
-        _ => None,
-    }
-}
+/// The names under 1.2.840.10045.4.
+const UNDER_1_2_840_10045_4: Names = &[(1, "ecdsa-with-SHA1")];
 
-/// The names under 1.2.840.113549.1.9.22.
-fn under_1_2_840_113549_1_9_22(last: u64) -> Option<&'static str> {
-    match last {
-        1 => Some("x509Certificate"),
-        _ => None,
-    }
-}
-
-/// The names under 1.2.840.113549.1.9.23.
-fn under_1_2_840_113549_1_9_23(last: u64) -> Option<&'static str> {
-    match last {
-        1 => Some("x509CRL"),
-        _ => None,
-    }
-}
-
-/// The names under 1.2.840.113549.1.12.1.
-fn under_1_2_840_113549_1_12_1(last: u64) -> Option<&'static str> {
-    match last {
-        3 => Some("pbeWithSHAAnd3-KeyTripleDES-CBC"),
-        6 => Some("pbeWithSHAAnd40BitRC2-CBC"),
-        _ => None,
-    }
-}
-
-/// The names under 1.2.840.113549.1.12.10.1.
-fn under_1_2_840_113549_1_12_10_1(last: u64) -> Option<&'static str> {
-    match last {
-        1 => Some("keyBag"),
-        2 => Some("pkcs8ShroudedKeyBag"),
-        3 => Some("certBag"),
-        4 => Some("crlBag"),
-        5 => Some("secretBag"),
-        6 => Some("safeContentsBag"),
-        _ => None,
-    }
-}
+/// The names under 1.2.840.10046.2.
+const UNDER_1_2_840_10046_2: Names = &[(1, "dhpublicnumber")];
 
 /// The names under 1.2.840.113549.2.
-fn under_1_2_840_113549_2(last: u64) -> Option<&'static str> {
-    match last {
-        5 => Some("id-md5"),
-        7 => Some("id-hmacWithSHA1"),
-        8 => Some("id-hmacWithSHA224"),
-        9 => Some("id-hmacWithSHA256"),
-        10 => Some("id-hmacWithSHA384"),
-        11 => Some("id-hmacWithSHA512"),
-        _ => None,
-    }
-}
+const UNDER_1_2_840_113549_2: Names = &[
+    (5, "id-md5"),
+    (7, "id-hmacWithSHA1"),
+    (8, "id-hmacWithSHA224"),
+    (9, "id-hmacWithSHA256"),
+    (10, "id-hmacWithSHA384"),
+    (11, "id-hmacWithSHA512"),
+];
+
+/// The names under 1.2.840.10045.3.1.
+const UNDER_1_2_840_10045_3_1: Names = &[(1, "secp192r1"), (7, "secp256r1")];
+
+/// The names under 1.2.840.10045.4.3.
+const UNDER_1_2_840_10045_4_3: Names = &[
+    (2, "ecdsa-with-SHA256"),
+    (3, "ecdsa-with-SHA384"),
+    (4, "ecdsa-with-SHA512"),
+];
+
+/// The names under 1.2.840.48018.1.2.
+const UNDER_1_2_840_48018_1_2: Names = &[(2, "ms-krb5")];
+
+/// The names under 1.2.840.113549.1.1.
+const UNDER_1_2_840_113549_1_1: Names = &[
+    (1, "rsaEncryption"),
+    (2, "md2WithRSAEncryption"),
+    (4, "md5WithRSAEncryption"),
+    (5, "sha1WithRSAEncryption"),
+    (8, "id-mgf1"),
+    (10, "id-RSASSA-PSS"),
+    (11, "sha256WithRSAEncryption"),
+    (12, "sha384WithRSAEncryption"),
+    (13, "sha512WithRSAEncryption"),
+    (14, "sha224WithRSAEncryption"),
+];
+
+/// The names under 1.2.840.113549.1.3.
+const UNDER_1_2_840_113549_1_3: Names = &[(1, "dhKeyAgreement")];
+
+/// The names under 1.2.840.113549.1.5.
+const UNDER_1_2_840_113549_1_5: Names = &[(12, "id-PBKDF2"), (13, "id-PBES2")];
+
+/// The names under 1.2.840.113549.1.7.
+const UNDER_1_2_840_113549_1_7: Names = &[
+    (1, "id-data"),
+    (2, "id-signedData"),
+    (3, "id-envelopedData"),
+    (6, "id-encryptedData"),
+];
+
+/// The names under 1.2.840.113549.1.9.
+const UNDER_1_2_840_113549_1_9: Names = &[
+    (1, "emailAddress"),
+    (2, "unstructuredName"),
+    (3, "contentType"),
+    (4, "messageDigest"),
+    (5, "signingTime"),
+    (6, "countersignature"),
+    (7, "challengePassword"),
+    (14, "extensionRequest"),
+    (20, "friendlyName"),
+    (21, "localKeyId"),
+];
 
 /// The names under 1.2.840.113554.1.2.
-fn under_1_2_840_113554_1_2(last: u64) -> Option<&'static str> {
-    match last {
-        2 => Some("krb5"),
-        _ => None,
-    }
-}
+const UNDER_1_2_840_113554_1_2: Names = &[(2, "krb5")];
+
+/// The names under 1.2.643.7.1.1.1.
+const UNDER_1_2_643_7_1_1_1: Names = &[
+    (1, "id-tc26-gost3410-12-256"),
+    (2, "id-tc26-gost3410-12-512"),
+];
+
+/// The names under 1.2.643.7.1.1.3.
+const UNDER_1_2_643_7_1_1_3: Names = &[
+    (2, "id-tc26-signwithdigest-gost3410-12-256"),
+    (3, "id-tc26-signwithdigest-gost3410-12-512"),
+];
+
+/// The names under 1.2.840.113549.1.9.22.
+const UNDER_1_2_840_113549_1_9_22: Names = &[(1, "x509Certificate")];
+
+/// The names under 1.2.840.113549.1.9.23.
+const UNDER_1_2_840_113549_1_9_23: Names = &[(1, "x509CRL")];
+
+/// The names under 1.2.840.113549.1.12.1.
+const UNDER_1_2_840_113549_1_12_1: Names = &[
+    (3, "pbeWithSHAAnd3-KeyTripleDES-CBC"),
+    (6, "pbeWithSHAAnd40BitRC2-CBC"),
+];
 
 /// The names under 1.2.840.113554.1.2.2.
-fn under_1_2_840_113554_1_2_2(last: u64) -> Option<&'static str> {
-    match last {
-        3 => Some("krb5-user-to-user"),
-        _ => None,
-    }
-}
+const UNDER_1_2_840_113554_1_2_2: Names = &[(3, "krb5-user-to-user")];
+
+/// The names under 1.2.840.113549.1.12.10.1.
+const UNDER_1_2_840_113549_1_12_10_1: Names = &[
+    (1, "keyBag"),
+    (2, "pkcs8ShroudedKeyBag"),
+    (3, "certBag"),
+    (4, "crlBag"),
+    (5, "secretBag"),
+    (6, "safeContentsBag"),
+];
+
+/// All of them, by the arcs before the last.
+pub const TABLE: Table = &[
+    (&[1, 2, 840, 113549], UNDER_1_2_840_113549),
+    (&[1, 2, 156, 10197, 1], UNDER_1_2_156_10197_1),
+    (&[1, 2, 643, 2, 2], UNDER_1_2_643_2_2),
+    (&[1, 2, 840, 10040, 4], UNDER_1_2_840_10040_4),
+    (&[1, 2, 840, 10045, 2], UNDER_1_2_840_10045_2),
+    (&[1, 2, 840, 10045, 4], UNDER_1_2_840_10045_4),
+    (&[1, 2, 840, 10046, 2], UNDER_1_2_840_10046_2),
+    (&[1, 2, 840, 113549, 2], UNDER_1_2_840_113549_2),
+    (&[1, 2, 840, 10045, 3, 1], UNDER_1_2_840_10045_3_1),
+    (&[1, 2, 840, 10045, 4, 3], UNDER_1_2_840_10045_4_3),
+    (&[1, 2, 840, 48018, 1, 2], UNDER_1_2_840_48018_1_2),
+    (&[1, 2, 840, 113549, 1, 1], UNDER_1_2_840_113549_1_1),
+    (&[1, 2, 840, 113549, 1, 3], UNDER_1_2_840_113549_1_3),
+    (&[1, 2, 840, 113549, 1, 5], UNDER_1_2_840_113549_1_5),
+    (&[1, 2, 840, 113549, 1, 7], UNDER_1_2_840_113549_1_7),
+    (&[1, 2, 840, 113549, 1, 9], UNDER_1_2_840_113549_1_9),
+    (&[1, 2, 840, 113554, 1, 2], UNDER_1_2_840_113554_1_2),
+    (&[1, 2, 643, 7, 1, 1, 1], UNDER_1_2_643_7_1_1_1),
+    (&[1, 2, 643, 7, 1, 1, 3], UNDER_1_2_643_7_1_1_3),
+    (&[1, 2, 840, 113549, 1, 9, 22], UNDER_1_2_840_113549_1_9_22),
+    (&[1, 2, 840, 113549, 1, 9, 23], UNDER_1_2_840_113549_1_9_23),
+    (&[1, 2, 840, 113549, 1, 12, 1], UNDER_1_2_840_113549_1_12_1),
+    (&[1, 2, 840, 113554, 1, 2, 2], UNDER_1_2_840_113554_1_2_2),
+    (
+        &[1, 2, 840, 113549, 1, 12, 10, 1],
+        UNDER_1_2_840_113549_1_12_10_1,
+    ),
+];

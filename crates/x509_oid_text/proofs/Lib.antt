@@ -1,3 +1,4 @@
--- Lemmas about digits, and about dotted text.
+-- Lemmas about digits, dotted text, and names.
 pub mod Digits
 pub mod Dotted
+pub mod Names

@@ -1,2 +1,3 @@
 -- What is told of object identifiers.
+pub mod Names
 pub mod Texts

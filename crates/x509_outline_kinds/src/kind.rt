@@ -1,7 +1,7 @@
 //! The types of outlines.
 
 ghost use Rattle.std.specs.Prelude.{◌≡◌, ◌↔◌, IsTrue};
-ghost use Rattle.x509_outline_kinds.specs.Kinds.{label_of, IsSigned};
+ghost use Rattle.x509_outline_kinds.specs.Kinds.{label_of, outline_name, IsSigned};
 
 /// A type of which the frame alone is read, whatever algorithms, attributes and keys stand in it.
 #[derive(Clone, Copy, Debug, PartialEq, Eq)]
@@ -20,7 +20,9 @@ pub enum OutlineKind {
 
 impl OutlineKind {
     /// The name, as JSON and lines have it.
-    pub fn name(self) -> &'static str {
+    pub fn name(self) -> &'static str
+        ensures { result.now ≡ outline_name self }
+    {
         match self {
             OutlineKind::Certificate => "certificate-outline",
             OutlineKind::Request => "request-outline",

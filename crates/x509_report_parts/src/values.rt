@@ -6,7 +6,8 @@ use crate::sink::Moment;
 use std::fmt::{self, Display, Write};
 use std::str;
 use x509_der::Arcs;
-use x509_oid_names::name_of;
+
+pub use x509_oid_text::name_in;
 
 /// The hexadecimal digits.
 const DIGITS: [u8; 16] = [
@@ -160,26 +161,6 @@ impl Display for Dotted<'_> {
         }
         Ok(())
     }
-}
-
-/// How many arcs an object identifier may have that has a name here.
-const NAMED: usize = 16;
-
-/// The name of the object identifier with this content, if it has one here.
-pub fn name_in(content: &[u8]) -> Option<&'static str> {
-    if let Some((third, last)) = under_2_5(content) {
-        return name_of(&[2, 5, u64::from(third), u64::from(last)]);
-    }
-    let mut room = [0; NAMED];
-    let mut count: usize = 0;
-    for arc in Arcs::in_content(content)? {
-        if count >= NAMED {
-            return None;
-        }
-        room[count] = arc;
-        count += 1;
-    }
-    name_of(room.get(..count)?)
 }
 
 /// An address of the internet protocol: of four bytes with dots, of sixteen as RFC 5952 writes it, and of any other length

@@ -1,4 +1,4 @@
-use Rattle.std.proofs.Common.{◌≡◌, ◌+◌, ◌-◌, ◌/◌, ◌%◌, ◌++◌, ◌≤◌, ◌<◌, ◌^◌, drop, set, subst, sym, arith, ap, ◌∙◌, length}
+use Rattle.std.proofs.Common.{◌≡◌, ◌+◌, ◌-◌, ◌/◌, ◌%◌, ◌++◌, ◌≤◌, ◌<◌, ◌^◌, drop, set, arith, ap, ◌∙◌}
 use Rattle.std.specs.Fmt.{decimal}
 use Rattle.std.proofs.lemmas.List.{length-set}
 use Rattle.x509_oid_text.proofs.Digits.{begun, most, one_more, shorter, some, first, counted}

@@ -1,4 +1,4 @@
-use Rattle.std.proofs.Common.{◌≡◌, ◌≤◌, length, arith, ap, ◌∙◌}
+use Rattle.std.proofs.Common.{◌≤◌, length, arith, ap, ◌∙◌}
 use Rattle.x509_der.specs.ObjectIdentifier.{dotted}
 use Rattle.x509_oid_text.proofs.Dotted.{one_list}
 use Rattle.x509_oid_text.proofs.text.oid_text.Goals as goal

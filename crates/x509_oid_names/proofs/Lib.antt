@@ -1,0 +1,2 @@
+-- What the last arc and those before it are.
+pub mod Arcs

@@ -1,0 +1,3 @@
+-- The names of object identifiers.
+pub mod Names
+pub mod facts
