@@ -6,7 +6,6 @@ use crate::sink::Moment;
 use std::fmt::{self, Display, Write};
 use std::str;
 use x509_der::Arcs;
-
 pub use x509_oid_text::name_in;
 
 /// The hexadecimal digits.
