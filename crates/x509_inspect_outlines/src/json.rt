@@ -368,33 +368,6 @@ fn write_outline<A: Allocator + Copy>(
     sink.writer().end_object()
 }
 
-/// Adds the member `outline` to an object that ends with its brace.
-///
-/// # Errors
-/// `AllocError` where memory is refused; the object is dropped.
-pub fn add_outline<A: Allocator + Copy>(
-    alloc: A,
-    object: Vec<u8, A>,
-    asked: Asked<'_>,
-    extent: Extent,
-) -> Result<Vec<u8, A>, AllocError> {
-    let mut object = object;
-    object.truncate(object.len().saturating_sub(1));
-    object.extend_from_slice(b",\"outline\":")?;
-    let mut sink = JsonSink::new(alloc, object);
-    match write_outline(alloc, &mut sink, asked, extent) {
-        Ok(()) => {
-            let mut object = sink.finish(alloc)?;
-            object.push(b'}')?;
-            Ok(object)
-        }
-        Err(AllocError) => {
-            drop(sink);
-            Err(AllocError)
-        }
-    }
-}
-
 /// Adds the member `outline` to the object at the end of a line, whose last bytes are a brace and a line feed.
 ///
 /// # Errors
@@ -406,8 +379,18 @@ pub fn push_refused<A: Allocator + Copy>(
     extent: Extent,
 ) -> Result<Vec<u8, A>, AllocError> {
     let mut line = line;
-    line.truncate(line.len().saturating_sub(1));
-    let mut line = add_outline(alloc, line, asked, extent)?;
-    line.push(b'\n')?;
-    Ok(line)
+    line.truncate(line.len().saturating_sub(2));
+    line.extend_from_slice(b",\"outline\":")?;
+    let mut sink = JsonSink::new(alloc, line);
+    match write_outline(alloc, &mut sink, asked, extent) {
+        Ok(()) => {
+            let mut line = sink.finish(alloc)?;
+            line.extend_from_slice(b"}\n")?;
+            Ok(line)
+        }
+        Err(AllocError) => {
+            drop(sink);
+            Err(AllocError)
+        }
+    }
 }

@@ -8,7 +8,7 @@ mod report;
 mod row;
 mod task;
 
-pub use crate::json::{Written, add_outline, outline_members, push_outline, push_refused};
+pub use crate::json::{Written, outline_members, push_outline, push_refused};
 pub use crate::kinds::{outline_kind, signed_part, whole_kind};
 pub use crate::report::write_outline;
 pub use crate::row::write_outline_row;
