@@ -15,6 +15,11 @@ export const KINDS = Object.freeze([
   "raw-algorithm",
   "request-info",
   "tbs-certificate",
+  "certificate-outline",
+  "request-outline",
+  "private-key-outline",
+  "public-key-outline",
+  "crl",
 ]);
 
 // The label that is written comes first (RFC 7468, 4; the others are OpenSSL's).
@@ -28,6 +33,7 @@ const LABELS = new Map([
   ["RSA PRIVATE KEY", "rsa-private-key"],
   ["RSA PUBLIC KEY", "rsa-public-key"],
   ["EC PRIVATE KEY", "ec-private-key"],
+  ["X509 CRL", "crl"],
 ]);
 
 /** The type that a PEM label says, or undefined. */

@@ -47,21 +47,29 @@
 extern "C" {
 #endif
 
-/* What an input can be read as. */
+/*
+ * What an input can be read as. Of the outlines and of CIMAROLY_CRL the frame is read: algorithms have any identifier and
+ * any parameters, keys and signatures are bits, names have strings of any type, and extensions are octets.
+ */
 enum cimaroly_kind {
-    CIMAROLY_CERTIFICATE = 1,     /* Certificate (RFC 5280, 4.1) */
-    CIMAROLY_REQUEST = 2,         /* CertificationRequest (RFC 2986, 4) */
-    CIMAROLY_PRIVATE_KEY = 3,     /* PrivateKeyInfo, or OneAsymmetricKey (RFC 5958, 2) */
-    CIMAROLY_PUBLIC_KEY = 4,      /* SubjectPublicKeyInfo (RFC 5280, 4.1.2.7) */
-    CIMAROLY_RSA_PRIVATE_KEY = 5, /* RSAPrivateKey (RFC 8017, A.1.2) */
-    CIMAROLY_RSA_PUBLIC_KEY = 6,  /* RSAPublicKey (RFC 8017, A.1.1) */
-    CIMAROLY_EC_PRIVATE_KEY = 7,  /* ECPrivateKey (RFC 5915, 3) */
-    CIMAROLY_NAME = 8,            /* Name (RFC 5280, 4.1.2.4) */
-    CIMAROLY_EXTENSIONS = 9,      /* Extensions (RFC 5280, 4.1) */
-    CIMAROLY_ALGORITHM = 10,      /* AlgorithmIdentifier (RFC 5280, 4.1.1.2), of an algorithm that is known */
-    CIMAROLY_RAW_ALGORITHM = 11,  /* AlgorithmIdentifier with any parameters */
-    CIMAROLY_REQUEST_INFO = 12,   /* CertificationRequestInfo (RFC 2986, 4.1) */
-    CIMAROLY_TBS_CERTIFICATE = 13 /* TBSCertificate (RFC 5280, 4.1.2) */
+    CIMAROLY_CERTIFICATE = 1,          /* Certificate (RFC 5280, 4.1) */
+    CIMAROLY_REQUEST = 2,              /* CertificationRequest (RFC 2986, 4) */
+    CIMAROLY_PRIVATE_KEY = 3,          /* PrivateKeyInfo, or OneAsymmetricKey (RFC 5958, 2) */
+    CIMAROLY_PUBLIC_KEY = 4,           /* SubjectPublicKeyInfo (RFC 5280, 4.1.2.7) */
+    CIMAROLY_RSA_PRIVATE_KEY = 5,      /* RSAPrivateKey (RFC 8017, A.1.2) */
+    CIMAROLY_RSA_PUBLIC_KEY = 6,       /* RSAPublicKey (RFC 8017, A.1.1) */
+    CIMAROLY_EC_PRIVATE_KEY = 7,       /* ECPrivateKey (RFC 5915, 3) */
+    CIMAROLY_NAME = 8,                 /* Name (RFC 5280, 4.1.2.4) */
+    CIMAROLY_EXTENSIONS = 9,           /* Extensions (RFC 5280, 4.1) */
+    CIMAROLY_ALGORITHM = 10,           /* AlgorithmIdentifier (RFC 5280, 4.1.1.2), of an algorithm that is known */
+    CIMAROLY_RAW_ALGORITHM = 11,       /* AlgorithmIdentifier with any parameters */
+    CIMAROLY_REQUEST_INFO = 12,        /* CertificationRequestInfo (RFC 2986, 4.1) */
+    CIMAROLY_TBS_CERTIFICATE = 13,     /* TBSCertificate (RFC 5280, 4.1.2) */
+    CIMAROLY_CERTIFICATE_OUTLINE = 14, /* Certificate (RFC 5280, 4.1), of any algorithm */
+    CIMAROLY_REQUEST_OUTLINE = 15,     /* CertificationRequest (RFC 2986, 4), of any algorithm */
+    CIMAROLY_PRIVATE_KEY_OUTLINE = 16, /* OneAsymmetricKey (RFC 5958, 2), of any algorithm */
+    CIMAROLY_PUBLIC_KEY_OUTLINE = 17,  /* SubjectPublicKeyInfo (RFC 5280, 4.1.2.7), of any algorithm */
+    CIMAROLY_CRL = 18                  /* CertificateList (RFC 5280, 5.1), of any algorithm */
 };
 
 /* What a call answers. */
@@ -361,10 +369,10 @@ uint32_t cimaroly_places(struct cimaroly_memory *memory, uint32_t kind, const ui
                          struct cimaroly_place *places, size_t room, size_t *count);
 
 /*
- * What the signature of a certificate or a request covers.
+ * What the signature of a certificate, a request or a revocation list covers.
  *
  * CIMAROLY_OK, CIMAROLY_REFUSED.
- * CIMAROLY_UNKNOWN_KIND: `kind` is neither CIMAROLY_CERTIFICATE nor CIMAROLY_REQUEST.
+ * CIMAROLY_UNKNOWN_KIND: `kind` is none of CIMAROLY_CERTIFICATE, CIMAROLY_REQUEST, their outlines and CIMAROLY_CRL.
  */
 uint32_t cimaroly_signed_part(uint32_t kind, const uint8_t *der, size_t der_size, struct cimaroly_signed *part);
 

@@ -29,7 +29,7 @@ def input_of(cell):
 
 
 def main():
-    kinds = [it["name"] for it in rows_of("tools/tables/kinds.tsv")]
+    kinds = [it["name"] for table in ("kinds", "outlines") for it in rows_of(f"tools/tables/{table}.tsv")]
     for row in rows_of("bindings/tests/table.tsv"):
         with open(f"{sys.argv[1]}/{row['name']}", "wb") as seed:
             seed.write(bytes([kinds.index(row["kind"])]) + input_of(row["input"]))

@@ -30,7 +30,21 @@ IN_DER = {
     "name.hex": "name",
     "extensions.hex": "extensions",
     "algorithm.hex": "algorithm",
+    # of OpenSSL, of algorithms that aren't read whole; and a revocation list
+    "certificate_md5.pem": "certificate-outline",
+    "request_md5.pem": "request-outline",
+    "private_key_dsa.pem": "private-key-outline",
+    "public_key_dsa.pem": "public-key-outline",
+    "revocation_list.pem": "crl",
 }
+
+# Files that are outlines alone: as what they are refused, the steps to the algorithm's identifier, and the field.
+OUTLINES = [
+    ("certificate_md5.pem", "certificate", (0, 2, 0), "tbsCertificate.signature.algorithm"),
+    ("request_md5.pem", "request", (1, 0), "signatureAlgorithm.algorithm"),
+    ("private_key_dsa.pem", "private-key", (1, 0), "privateKeyAlgorithm.algorithm"),
+    ("public_key_dsa.pem", "public-key", (0, 0), "algorithm.algorithm"),
+]
 
 # A certificate with all that may be left out, and another without.
 FULL = (

@@ -174,6 +174,9 @@ FIELDS = {
 }
 
 
+# The kinds whose first field is what a signature covers.
+SIGNED = ("certificate", "request", "certificate-outline", "request-outline", "crl")
+
 # A key that is the same each time, whose signatures are too.
 KEY = ed25519.Ed25519PrivateKey.from_private_bytes(bytes(range(32)))
 
@@ -405,7 +408,7 @@ def row_of(name, kind, given, der, places, encoding):
     row["encoding"] = "same" if encoding == der else encoding.hex()
     assert (row["encoding"] == "same") == (not places), name
     row["fields"] = written(fields_of(der, kind)) or "-"
-    if kind in ("certificate", "request"):
+    if kind in SIGNED:
         row["signed"] = "{}..{}".format(*span_of(der, (0,)))
     if kind in ("certificate", "extensions"):
         told = [f"{it}={','.join(f'{start}..{end}' for start, end in spans)}" for it, spans in extensions_of(der, kind)]
@@ -446,9 +449,20 @@ def rows_of_files():
         yield row
     for name, (kind, places, encoding) in DEVIATIONS.items():
         yield row_of(name.partition(".")[0], kind, name, bytes_of(name), places, encoding)
+    yield from rows_of_outlines()
     # the time of month 13 is the content behind its header
     month = span_of(bytes_of("refused_month_13.pem"), (0, 4, 0))[0] + 2
     yield refused_row("refused_month_13", "certificate", "refused_month_13.pem", 11, month, by_hand.NOT_BEFORE)
+
+
+def rows_of_outlines():
+    """Outlines of files that deviate in their frame, and files that are of no kind that is read whole."""
+    for name in ("deviation_5_version.pem", "deviation_6_extensions.pem", "deviation_7_critical.pem"):
+        _, places, encoding = DEVIATIONS[name]
+        yield row_of(f"outline_{name.partition('.')[0]}", "certificate-outline", name, bytes_of(name), places, encoding)
+    for name, kind, steps, field in by_hand.OUTLINES:
+        # refused at the algorithm's identifier
+        yield refused_row(f"{name.partition('.')[0]}_whole", kind, name, 13, span_of(bytes_of(name), steps)[0], field)
 
 
 def rows_of_the_program():

@@ -25,11 +25,12 @@ def enum(name, rows):
 
 
 def enums():
-    kinds = [(f"CIMAROLY_{it.constant} = {it.number}", plain(tables.meaning(it, ", or"))) for it in tables.kinds()]
+    kinds = [(f"CIMAROLY_{it.constant} = {it.number}", plain(tables.meaning(it, ", or"))) for it in tables.served()]
     yield enum("kind", kinds)
     yield enum("status", [(f"CIMAROLY_{it.name} = {it.number}", plain(it.meaning)) for it in tables.rows_of("statuses")])
     yield enum("error", [(f"CIMAROLY_ERROR_{it.name} = {it.number}", "") for it in tables.rows_of("errors")])
     yield enum("deviation", [(f"CIMAROLY_{it.name} = {it.number}", "") for it in tables.rows_of("deviations")])
+    yield enum("rule", [(f"CIMAROLY_RULE_{tables.constant(it.name)} = {it.number}", "") for it in tables.rows_of("rules")])
 
 
 def plain(text):
@@ -49,10 +50,11 @@ def struct(kind):
     return Region(PATH, f"struct cimaroly_{'_'.join(tables.words_of(kind))} {{", "};", lines_of(rows))
 
 
-def names(function, table):
-    behind = f"static inline const char *cimaroly_{function}_name(size_t {function})\n{{"
-    behind += "\n    static const char *const names[] = {"
-    return Region(PATH, behind, "    };", ['        "",', *[f'        "{it.text}",' for it in tables.rows_of(table)]])
+def names(function, table, what="name", member="text"):
+    """A function from a number to a text."""
+    behind = f"static inline const char *cimaroly_{function}_{what}(size_t {function})\n{{"
+    behind += f"\n    static const char *const {what}s[] = {{"
+    return Region(PATH, behind, "    };", ['        "",', *[f'        "{getattr(it, member)}",' for it in tables.rows_of(table)]])
 
 
 def regions():
@@ -60,3 +62,7 @@ def regions():
     yield from map(struct, tables.with_fields())
     yield names("error", "errors")
     yield names("deviation", "deviations")
+    for what, member in (("name", "name"), ("text", "text"), ("clause", "clause")):
+        yield names("rule", "rules", what, member)
+    warnings = [f"        CIMAROLY_RULE_{tables.constant(it.name)}," for it in tables.rows_of("rules") if it.severity == "warning"]
+    yield Region(PATH, "    static const uint32_t warnings[] = {", "    };", warnings)

@@ -1,4 +1,4 @@
-"""What web/ has of the tables: the module's names, statuses, fields, types and keys, and the page's titles and short names."""
+"""What web/ has of the tables: the module's names, rules, statuses, fields, types and keys, and the page's texts."""
 
 from . import tables
 from .regions import Region
@@ -32,9 +32,21 @@ def names():
     yield constant("names.mjs", "export const ERRORS = Object.freeze([", errors)
     deviations = [f'  "{it.text}",' for it in tables.rows_of("deviations")]
     yield constant("names.mjs", "export const DEVIATIONS = Object.freeze([", deviations)
-    yield constant("pem.mjs", "export const KINDS = Object.freeze([", [f'  "{it.name}",' for it in tables.kinds()])
-    labels = [f'  ["{label}", "{it.name}"],' for it in tables.kinds() for label in it.label_list]
+    yield constant("pem.mjs", "export const KINDS = Object.freeze([", [f'  "{it.name}",' for it in tables.served()])
+    labels = [f'  ["{label}", "{it.name}"],' for it in tables.served() for label in it.label_list]
     yield constant("pem.mjs", "const LABELS = new Map([", labels)
+
+
+def rules():
+    lines = [line for it in tables.rows_of("rules") for line in ("  {", *members_of(it), "  },")]
+    yield constant("rules.mjs", "export const RULES = Object.freeze([", lines)
+
+
+def members_of(rule):
+    texts = {"rule": rule.name, "severity": rule.severity, "text": rule.text, "clause": rule.clause}
+    for name, text in {**texts, "reason": tables.sentence(rule.reason)}.items():
+        line = f'    {name}: "{text}",'
+        yield from [line] if len(line) <= WIDTH else [f"    {name}:", f'      "{text}",']
 
 
 def core():
@@ -48,7 +60,7 @@ def core():
 
 
 def types():
-    path, kinds = "web/cimaroly.d.ts", tables.kinds()
+    path, kinds = "web/fields.d.ts", tables.served()
     union = [f'  | "{it.name}"' for it in kinds]
     yield Region(path, "export type Kind =", "", [*union[:-1], f"{union[-1]};"])
     for kind in tables.kinds_with_fields():
@@ -56,7 +68,7 @@ def types():
     lines = [f"  {key(it)}: {tables.variant(it)}Fields;" for it in tables.kinds_with_fields()]
     yield Region(path, "export interface FieldsByKind {", "}", lines)
     roots = dict.fromkeys(it.type for it in kinds)
-    yield Region(path, "  field?: string;", "}", [f"  {it}?: ReportNode;" for it in roots])
+    yield Region("web/cimaroly.d.ts", "  field?: string;", "}", [f"  {it}?: ReportNode;" for it in roots])
 
 
 def members(kind):
@@ -69,7 +81,7 @@ def members(kind):
 
 def in_page():
     path = "page/summary.mjs"
-    yield constant(path, "const TITLES = new Map([", [f'  ["{it.name}", "{it.title}"],' for it in tables.kinds()])
+    yield constant(path, "const TITLES = new Map([", [f'  ["{it.name}", "{it.title}"],' for it in tables.served()])
     yield constant(path, "const SHORT = new Map([", [f'  ["{it.id}", "{it.short}"],' for it in tables.rows_of("attributes")])
     keys = tables.rows_of("keys")
     path = "keys.mjs"
@@ -93,6 +105,7 @@ def pair(name, text):
 
 def regions():
     yield from names()
+    yield from rules()
     yield from core()
     yield from types()
     yield from in_page()

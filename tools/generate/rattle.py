@@ -34,8 +34,8 @@ def arm(pattern, answer):
     return [line] if len(line) <= 100 else line.replace(" | ", "\n            | ").split("\n")
 
 
-def kind_enum(path):
-    return enum(path, "Kind", [(it.variant, f"{tables.meaning(it, ', also called')}.") for it in tables.kinds()])
+def kind_enum(path, rows):
+    return enum(path, "Kind", [(it.variant, f"{tables.meaning(it, ', also called')}.") for it in rows])
 
 
 INSPECTED = "crates/x509_inspect_parts/src/kind.rt"
@@ -43,7 +43,7 @@ INSPECTED = "crates/x509_inspect_parts/src/kind.rt"
 
 def kinds():
     rows = tables.kinds()
-    yield kind_enum(INSPECTED)
+    yield kind_enum(INSPECTED, rows)
     variants = [f"Kind::{it.variant}" for it in rows]
     all_kinds = "    /// All types, those that are met the most first."
     yield list_of(INSPECTED, all_kinds, "pub const ALL: [Kind; {}]", variants, "    ")
@@ -90,6 +90,11 @@ def in_the_program():
     )
 
 
+def outline(kind):
+    """The variant of an outline among outlines."""
+    return "RevocationList" if kind.name == "crl" else kind.variant.removesuffix("Outline")
+
+
 def run_by_kind():
     """Where one call is made for each kind, at its type."""
     rows, flat = tables.kinds(), "crates/x509_flat/src"
@@ -97,10 +102,11 @@ def run_by_kind():
     lines = [f"        Kind::{it.variant} => task.run::<{it.rattle}<A>>()," for it in rows]
     yield Region("crates/x509_inspect/src/task.rt", behind, "    }", lines)
     for file, call, further in (("check", "check_as", ""), ("encode", "encode_as", ", out"), ("places", "places_as", ", out")):
-        lines = [f"        Kind::{it.variant} => {call}::<{it.rattle}<A>, A>(alloc, bytes{further})," for it in rows]
+        lines = [f"        Kind::{it.variant} => {call}::<{it.rattle}<A>, A>(alloc, bytes{further})," for it in tables.served()]
         yield Region(f"{flat}/{file}.rt", "    match kind {", "    }", lines)
-    lines = [f"        Kind::{it.variant} => Inspected::{it.variant}," for it in rows]
-    yield Region("crates/x509_flat_report/src/lib.rt", "    match kind {", "    }", lines)
+    lines = [f"        Kind::{it.variant} => Reading::Whole(Inspected::{it.variant})," for it in rows]
+    lines += [f"        Kind::{it.variant} => Reading::Outline(OutlineKind::{outline(it)})," for it in tables.with_names("outlines")]
+    yield Region("crates/x509_flat_report/src/reading.rt", "    match kind {", "    }", lines)
 
 
 def outcomes():
@@ -119,8 +125,8 @@ def outcomes():
 def by_number():
     """The kinds and statuses of the C calls."""
     path = "crates/x509_flat/src/kind.rt"
-    yield kind_enum(path)
-    found = [(it.number, f"Some(Kind::{it.variant})") for it in tables.kinds()] + [("_", "None")]
+    yield kind_enum(path, tables.served())
+    found = [(it.number, f"Some(Kind::{it.variant})") for it in tables.served()] + [("_", "None")]
     none = "ensures none { IfNone result ((kind : Kind) → number ≡ kind_number kind → ⊥) }"
     yield arms(path, none, found, value="number")
     numbers = [(f"Status::{it.rattle}", it.number) for it in tables.rows_of("statuses")]
@@ -179,6 +185,8 @@ def rules():
         behind = f"    pub fn {method} {{\n        match self {{"
         lines = [f"            Rule::{it.variant} => {answer(it)}," for it in rows]
         yield Region(said, behind, "        }", lines)
+    path, behind = "crates/x509_flat_findings/src/number.rt", "    match rule {"
+    yield Region(path, behind, "    }", [f"        Rule::{it.variant} => {it.number}," for it in rows])
     yield constants("texts", rows, lambda it: it.text)
     yield constants("reasons", rows, lambda it: tables.sentence(it.reason))
 

@@ -1,4 +1,6 @@
-"""What bindings/rust/ has of the tables: kinds, deviations, reasons, statuses, and the fields of structures."""
+"""What bindings/rust/ has of the tables: kinds, deviations, reasons, rules, statuses, and the fields of structures."""
+
+import re
 
 from . import tables
 from .regions import Region, comment
@@ -6,11 +8,12 @@ from .regions import Region, comment
 SOURCE = "bindings/rust/src"
 # Which statuses the crate tells apart: another means that the call isn't for the kind.
 TOLD = ("OK", "REFUSED", "OUT_OF_MEMORY", "BUFFER_TOO_SHORT", "TOO_LONG")
-FILES = {"Kind": "kind.rs", "Deviation": "kind.rs", "Reason": "error.rs"}
+FILES = {"Kind": "kind.rs", "Deviation": "kind.rs", "Reason": "error.rs", "Rule": "findings.rs"}
+WIDTH = 100
 
 
 def doc(text):
-    return comment(text, "    /// ", width=100)
+    return comment(text, "    /// ", width=WIDTH)
 
 
 def enum(name, rows):
@@ -31,16 +34,25 @@ def all_of(name, what, rows):
 
 def texts(name, what, texts_of):
     """What `name` answers."""
-    behind = f"    /// The name, {what}.\n    #[must_use]\n    pub const fn name(self) -> &'static str {{\n        match self {{"
-    lines = [f'            {name}::{variant} => "{text}",' for variant, text in texts_of]
+    return answers(name, f"    /// The name, {what}.", "name", texts_of)
+
+
+def answers(name, said, function, texts_of):
+    """What a function answers behind its doc comment, as rustfmt lays it out."""
+    behind = f"{said}\n    #[must_use]\n    pub const fn {function}(self) -> &'static str {{\n        match self {{"
+    lines = []
+    for variant, text in texts_of:
+        arm, text = f"            {name}::{variant} =>", f'"{text}"'
+        line = f"{arm} {text},"
+        lines += [line] if len(line) <= WIDTH else [f"{arm} {{", f"                {text}", "            }"]
     return Region(f"{SOURCE}/{FILES[name]}", behind, "        }", lines)
 
 
 def kinds():
-    rows = [(it.number, it.variant, f"{tables.meaning(it, ', or')}.") for it in tables.kinds()]
+    rows = [(it.number, it.variant, f"{tables.meaning(it, ', or')}.") for it in tables.served()]
     yield enum("Kind", rows)
     yield all_of("Kind", "kind", rows)
-    yield texts("Kind", "as reports have it", [(it.variant, it.name) for it in tables.kinds()])
+    yield texts("Kind", "as reports have it", [(it.variant, it.name) for it in tables.served()])
     yield labels()
 
 
@@ -48,7 +60,7 @@ def labels():
     """Which kind the label of a PEM block names."""
     behind = "    pub fn from_label(label: &[u8]) -> Option<Kind> {\n        match label {"
     lines = []
-    for it in tables.kinds():
+    for it in tables.served():
         arms = " | ".join(f'b"{label}"' for label in it.label_list)
         lines += [f"            {arms} => Some(Kind::{it.variant}),"] if arms else []
     return Region(f"{SOURCE}/kind.rs", behind, "            _ => None,", lines)
@@ -59,6 +71,27 @@ def numbered(name, what, table, meaning):
     yield enum(name, rows)
     yield all_of(name, what, rows)
     yield texts(name, "in plain words", [(it.variant, it.text) for it in tables.named(table)])
+
+
+def marked(text):
+    """A text with its identifiers between backticks, as clippy asks for."""
+    return re.sub(r"\b\w*[a-z]\w*[A-Z]\w*", r"`\g<0>`", text)
+
+
+def rules():
+    rows = tables.named("rules")
+    numbers = [(it.number, it.variant, tables.sentence(marked(it.text))) for it in rows]
+    yield enum("Rule", numbers)
+    yield all_of("Rule", "rule", numbers)
+    yield texts("Rule", "as `cimaroly lint` has it: `serial-not-positive`", [(it.variant, it.name) for it in rows])
+    said = "    /// What is wrong where it is broken, in plain words."
+    yield answers("Rule", said, "text", [(it.variant, it.text) for it in rows])
+    said = "    /// The clause that it is from: `RFC 5280, 4.1.2.2`."
+    said += "\n    #[allow(clippy::match_same_arms)] // (they stand in the order of the rules)"
+    yield answers("Rule", said, "clause", [(it.variant, it.clause) for it in rows])
+    warnings = " | ".join(f"Rule::{it.variant}" for it in rows if it.severity == "warning")
+    behind = "    pub const fn is_warning(self) -> bool {"
+    yield Region(f"{SOURCE}/{FILES['Rule']}", behind, "    }", [f"        matches!(self, {warnings})"])
 
 
 def field_doc(field):
@@ -102,6 +135,7 @@ def regions():
     yield from kinds()
     yield from numbered("Deviation", "deviation", "deviations", "stands")
     yield from numbered("Reason", "reason", "errors", "meaning")
+    yield from rules()
     told = [it for it in tables.rows_of("statuses") if it.name in TOLD]
     lines = [f"    pub(crate) const {it.name}: u32 = {it.number};" for it in told]
     yield Region(f"{SOURCE}/library.rs", "pub(crate) mod status {", "}", lines)

@@ -17,8 +17,17 @@ def rows_of(name):
 
 
 def kinds():
-    """The rows of kinds, with the names that languages have for them, and their labels as a list."""
-    rows = rows_of("kinds")
+    """The rows of kinds that are read whole, with the names that languages have for them, and their labels as a list."""
+    return with_names("kinds")
+
+
+def served():
+    """The rows of all kinds that languages have: those that are read whole, and outlines."""
+    return with_names("kinds") + with_names("outlines")
+
+
+def with_names(table):
+    rows = rows_of(table)
     for it in rows:
         it.constant, it.variant = constant(it.name), variant(it.name)
         it.label_list = it.labels.split(",") if it.labels else []

@@ -8,6 +8,7 @@ import json
 import re
 import subprocess
 import tempfile
+import time
 import unittest
 
 from cimaroly_program import NEEDS_OPENSSL, NEEDS_PROGRAM, name_of, openssl, run, shown
@@ -266,6 +267,58 @@ R\t300101000000Z\t250402030405Z,keyTime,20250101000000Z\t06\tunknown\t/CN=d
 """
 
 
+def make_list(room, index):
+    """A revocation list by OpenSSL of what an index says, as `crl.pem` in a folder."""
+    for name, text in (("ca.cnf", CONFIGURATION), ("index", index), ("number", "1F\n")):
+        with open(f"{room}/{name}", "w", encoding="utf-8") as file:
+            file.write(text)
+    here = {"cwd": room, "check": True, "capture_output": True}
+    new = ["-newkey", "rsa:2048", "-nodes", "-keyout", "key.pem", "-subj", "/O=Example/CN=CRL issuer"]
+    subprocess.run(["openssl", "req", "-x509", *new, "-out", "ca.pem"], **here)
+    made_of = ["-config", "ca.cnf", "-keyfile", "key.pem", "-cert", "ca.pem"]
+    subprocess.run(["openssl", "ca", "-gencrl", *made_of, "-out", "crl.pem"], **here)
+
+
+MANY, FIRST = 100_000, 0x1234567890ABCDEF_FEDCBA9876543210
+
+
+@NEEDS_PROGRAM
+@NEEDS_OPENSSL
+class LargeList(unittest.TestCase):
+    """A list of 100,000 entries as authorities have them: checked, shown by its count or whole, and searched."""
+
+    def test_it(self):
+        rows = (f"R\t300101000000Z\t250102030405Z,superseded\t{FIRST + 2 * it:X}\tunknown\t/CN={it}\n" for it in range(MANY))
+        with tempfile.TemporaryDirectory() as room:
+            make_list(room, "".join(rows))
+            path = f"{room}/crl.pem"
+            out, _, status = run("check", path)
+            self.assertEqual((out.decode(), status), (f"{path}:1: crl: ok\n", 0))
+            self.assertIn(f"  revoked     {MANY} entries\n", run("show", path)[0].decode())
+            self.assertEqual(run("show", "--full", path)[0].count(b" userCertificate "), MANY)
+            last = FIRST + 2 * (MANY - 1)
+            self.assertIn("revoked 2025-01-02T03:04:05Z, superseded\n", run("show", "--serial", f"{last:x}", path)[0].decode())
+            self.assertIn("  entry       none for", run("show", "--serial", f"{last - 1:x}", path)[0].decode())
+            self.assertGreater(self.speed_beside_certificates(room), 1 / 3)
+
+    def speed_beside_certificates(self, room):
+        """How fast a byte of it is checked, by the speed of a byte of certificates, whose elements are longer."""
+        speeds = {}
+        for command, file, many in (("crl", "crl.pem", 1), ("x509", "ca.pem", 4000)):
+            size = len(der_of(f"{room}/{file}", command)) * many
+            with open(f"{room}/{file}", "rb") as it:
+                block = it.read()
+            with open(f"{room}/speed", "wb") as it:
+                it.write(block * many)
+            times = []
+            for _ in range(5):
+                start = time.perf_counter()
+                self.assertEqual(run("check", "--quiet", f"{room}/speed")[2], 0)
+                times.append(time.perf_counter() - start)
+            speeds[command] = size / min(times)
+        return speeds["crl"] / speeds["x509"]
+
+
 @NEEDS_PROGRAM
 @NEEDS_OPENSSL
 class RevocationLists(unittest.TestCase):
@@ -274,14 +327,7 @@ class RevocationLists(unittest.TestCase):
         cls.folder = tempfile.TemporaryDirectory()
         cls.room = cls.folder.name
         cls.crl = f"{cls.room}/crl.pem"
-        for name, text in (("ca.cnf", CONFIGURATION), ("index", INDEX.lstrip()), ("number", "1F\n")):
-            with open(f"{cls.room}/{name}", "w", encoding="utf-8") as file:
-                file.write(text)
-        here = {"cwd": cls.room, "check": True, "capture_output": True}
-        new = ["-newkey", "rsa:2048", "-nodes", "-keyout", "key.pem", "-subj", "/O=Example/CN=CRL issuer"]
-        subprocess.run(["openssl", "req", "-x509", *new, "-out", "ca.pem"], **here)
-        made_of = ["-config", "ca.cnf", "-keyfile", "key.pem", "-cert", "ca.pem"]
-        subprocess.run(["openssl", "ca", "-gencrl", *made_of, "-out", "crl.pem"], **here)
+        make_list(cls.room, INDEX.lstrip())
 
     @classmethod
     def tearDownClass(cls):

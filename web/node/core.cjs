@@ -246,8 +246,10 @@ function bareBase64(text) {
 }
 
 function derOfText(text, kind) {
+  // (what an outline is the frame of)
+  const whole = kind.replace(/-outline$/, "");
   for (const block of pemBlocks(text)) {
-    if (kindOfLabel(block.label) !== kind) continue;
+    if (kindOfLabel(block.label) !== whole) continue;
     if (block.bytes === undefined) throw new SyntaxError(`line ${block.line}: ${block.reason}`);
     return block.bytes;
   }
@@ -308,8 +310,11 @@ function refusedIn(der, kind) {
   return JSON.parse(told(der, kind, false, 1024)).field ?? null;
 }
 
+// The types whose first field is what a signature covers.
+const SIGNED = ["certificate", "request", "certificate-outline", "request-outline", "crl"];
+
 function signedPartOf(der, kind) {
-  if (kind !== "certificate" && kind !== "request") return null;
+  if (!SIGNED.includes(kind)) return null;
   const call = (room) => room.call("cimaroly_signed_part", numberOf(kind), ...room.input, BigInt(room.result));
   const take = (room) => ({ ...room.span(0), inside: room.words(2, 10), outside: room.words(12, 10) });
   return run(kind, der, 0, call, take);
@@ -413,7 +418,7 @@ class Structure extends Values {
     return this.#der;
   }
 
-  /** The part that the signature of a certificate or request covers, with the deviations counted inside and outside it. */
+  /** The part that the signature of a certificate, request or CRL covers, with the deviations inside and outside it. */
   get signedPart() {
     this.#signedPart ??= signedPartOf(this.der, this.kind);
     return this.#signedPart;

@@ -15,7 +15,12 @@ export type Kind =
   | "algorithm"
   | "raw-algorithm"
   | "request-info"
-  | "tbs-certificate";
+  | "tbs-certificate"
+  | "certificate-outline"
+  | "request-outline"
+  | "private-key-outline"
+  | "public-key-outline"
+  | "crl";
 
 /** DER, or PEM or bare base64 as text or bytes; of PEM the first block of the type is read. */
 export type Input = Uint8Array | ArrayBuffer | string;
@@ -147,6 +152,8 @@ export interface Report {
   AlgorithmIdentifier?: ReportNode;
   CertificationRequestInfo?: ReportNode;
   TBSCertificate?: ReportNode;
+  OneAsymmetricKey?: ReportNode;
+  CertificateList?: ReportNode;
 }
 
 export interface ReportOptions {

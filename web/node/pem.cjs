@@ -19,6 +19,11 @@ const KINDS = Object.freeze([
   "raw-algorithm",
   "request-info",
   "tbs-certificate",
+  "certificate-outline",
+  "request-outline",
+  "private-key-outline",
+  "public-key-outline",
+  "crl",
 ]);
 
 // The label that is written comes first (RFC 7468, 4; the others are OpenSSL's).
@@ -32,6 +37,7 @@ const LABELS = new Map([
   ["RSA PRIVATE KEY", "rsa-private-key"],
   ["RSA PUBLIC KEY", "rsa-public-key"],
   ["EC PRIVATE KEY", "ec-private-key"],
+  ["X509 CRL", "crl"],
 ]);
 
 /** The type that a PEM label says, or undefined. */

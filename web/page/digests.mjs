@@ -4,7 +4,8 @@ import { hasDigests } from "../digests.mjs";
 
 const WAITING = "\u2026";
 
-const isSigned = (kind) => kind === "certificate" || kind === "request";
+const SIGNED = ["certificate", "request", "certificate-outline", "request-outline", "crl"];
+const isSigned = (kind) => SIGNED.includes(kind);
 
 /** The digests that a report tells; none where it tells none. */
 export function digestsIn({ sha256, sha1, pin }) {

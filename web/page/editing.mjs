@@ -12,7 +12,7 @@ const LONGEST = 200_000;
 export function whyNotEdited({ kind, bytes, report, isPrivate }) {
   if (isPrivate) return "Private keys can’t be edited.";
   if (report.result !== "ok" && report.result !== "deviations") return "Only what is read can be edited.";
-  if (kind === "raw-algorithm") return "This type can’t be edited.";
+  if (kind === "raw-algorithm" || kind === "crl" || kind.endsWith("-outline")) return "This type can’t be edited.";
   return bytes.length > LONGEST ? "This is too large to be edited." : "";
 }
 

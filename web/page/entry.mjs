@@ -54,6 +54,7 @@ export class Entry {
     this.chosenKind = kind;
     this.text = undefined;
     this.told = undefined;
+    this.toldOutline = undefined;
   }
 
   /** The report as JSON, without secret numbers. */
@@ -74,9 +75,22 @@ export class Entry {
     return this.told;
   }
 
-  /** The report with the secret numbers. */
+  /** The report of its outline, if it is refused and has one; or else null. */
+  get outline() {
+    if (this.report.result !== "refused" || !HAVE_OUTLINES.includes(this.kind)) return null;
+    this.toldOutline ??= this.cimaroly.report(this.bytes, outlineOf(this.kind));
+    return this.toldOutline.result === "refused" ? null : this.toldOutline;
+  }
+
+  /** The report whose fields are shown: its own, or that of the outline of what is refused. */
+  get shownReport() {
+    return this.outline ?? this.report;
+  }
+
+  /** The report of what is shown with the secret numbers. */
   reportWithSecrets() {
-    return this.cimaroly.report(this.bytes, this.kind, { secrets: true });
+    const kind = this.outline === null ? this.kind : outlineOf(this.kind);
+    return this.cimaroly.report(this.bytes, kind, { secrets: true });
   }
 
   /** Whether it is, or may be, a private key: a label, a type or a format says so, or it is refused and begins with a version. */
@@ -95,10 +109,16 @@ export class Entry {
   /** Whose it is, or why it isn't read. */
   get caption() {
     const { report } = this;
+    if (this.outline !== null) return `${captionOf(this.outline, this.bytes)} (refused: ${report.reason})`;
     if (report.result === "refused" || report.result === "passed over") return `${report.result}: ${report.reason}`;
     return captionOf(report, this.bytes);
   }
 }
+
+// The types that have an outline (docs/PROGRAMS.md).
+const HAVE_OUTLINES = ["certificate", "request", "private-key", "public-key"];
+
+const outlineOf = (kind) => `${kind}-outline`;
 
 // Whether an error says that memory or the engine gave out, rather than what the input is.
 function isFailure(error) {

@@ -5,17 +5,15 @@ import { headerLength, lengthAt } from "./elements.mjs";
 const CMS = { name: "PKCS #7 or CMS", holdsKeys: false };
 const PKCS_12 = { name: "PKCS #12", holdsKeys: true };
 const ENCRYPTED_KEY = { name: "an encrypted private key", holdsKeys: true };
-const REVOCATION_LIST = { name: "a CRL", holdsKeys: false };
 const OCSP_RESPONSE = { name: "an OCSP response", holdsKeys: false };
 const JAVA_KEYSTORE = { name: "a Java keystore", holdsKeys: true };
 const OPENSSH_KEY = { name: "an OpenSSH key", holdsKeys: true };
 
-// RFC 7468, 6, 8, 9 and 11; the last is OpenSSH's.
+// RFC 7468, 8, 9 and 11; the last is OpenSSH's.
 const BY_LABEL = new Map([
   ["CMS", CMS],
   ["PKCS7", CMS],
   ["ENCRYPTED PRIVATE KEY", ENCRYPTED_KEY],
-  ["X509 CRL", REVOCATION_LIST],
   ["OPENSSH PRIVATE KEY", OPENSSH_KEY],
 ]);
 
@@ -58,7 +56,6 @@ function inSequence(inside) {
   if (isCms(inside)) return CMS;
   if (isPkcs12(inside)) return PKCS_12;
   if (isEncryptedKey(inside)) return ENCRYPTED_KEY;
-  if (isRevocationList(inside)) return REVOCATION_LIST;
   return isOcspResponse(inside) ? OCSP_RESPONSE : null;
 }
 
@@ -79,16 +76,6 @@ function isEncryptedKey(inside) {
   const algorithm = partOf(inside);
   const isAlgorithm = /^(?:05..|0c01..)$/.test(pkcsArcs(algorithm.inside));
   return algorithm.tag === 0x30 && isAlgorithm && algorithm.behind[0] === 4;
-}
-
-// CertificateList (RFC 5280, 5.1): behind the issuer stands a time.
-function isRevocationList(inside) {
-  const signed = partOf(inside);
-  const fields = signed.inside[0] === 2 ? partOf(signed.inside).behind : signed.inside;
-  const algorithm = partOf(fields);
-  const issuer = partOf(algorithm.behind);
-  const areSequences = [signed, algorithm, issuer].every((it) => it.tag === 0x30);
-  return areSequences && (issuer.behind[0] === 0x17 || issuer.behind[0] === 0x18);
 }
 
 // OCSPResponse (RFC 6960, 4.2.1): an ENUMERATED, and behind it [0] or nothing.

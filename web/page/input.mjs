@@ -59,6 +59,9 @@ export function structuresIn(bytes) {
 /** The types as which other structures are read too. */
 export const LOOSE_KINDS = ["name", "algorithm", "raw-algorithm"];
 
+// (whatever is read whole is read in outline too, and the report of what is refused tells its outline)
+const TRIED = KINDS.filter((it) => !it.endsWith("-outline"));
+
 /**
  * Which types accept bytes, by a function that answers null or where it refuses them as one; and of those that don't, the
  * one whose reading got furthest.
@@ -66,7 +69,7 @@ export const LOOSE_KINDS = ["name", "algorithm", "raw-algorithm"];
 export function kindsOf(bytes, report) {
   const accepting = [];
   let furthest = { kind: KINDS[0], at: -1 };
-  for (const kind of KINDS) {
+  for (const kind of TRIED) {
     const at = report(bytes, kind);
     if (at === null) accepting.push(kind);
     else if (at > furthest.at) furthest = { kind, at };
@@ -77,7 +80,7 @@ export function kindsOf(bytes, report) {
 /** The type and the bytes that the part of a link behind `#` holds, or null. */
 export function fromFragment(fragment) {
   const found = /^#([a-z-]+)=([A-Za-z0-9_-]+)$/.exec(fragment);
-  if (found === null || !KINDS.includes(found[1]) || found[1].endsWith("private-key")) return null;
+  if (found === null || !KINDS.includes(found[1]) || found[1].includes("private-key")) return null;
   const symbols = found[2].replaceAll("-", "+").replaceAll("_", "/");
   const bytes = fromBase64(symbols.padEnd(Math.ceil(symbols.length / 4) * 4, "="));
   return bytes === null ? null : { kind: found[1], bytes };

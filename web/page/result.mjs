@@ -75,13 +75,14 @@ export class Result {
     at("result").hidden = false;
     this.note("");
     this.raw = structure.bytes ?? new Uint8Array(0);
-    this.fields = fieldsOf(report);
+    const { shownReport } = structure;
+    this.fields = fieldsOf(shownReport);
     this.isRead = this.fields.length > 0;
     if (!this.isRead && !structure.isPrivate) this.fields = this.elements();
-    this.deviations = report.deviations ?? [];
+    this.deviations = shownReport.deviations ?? [];
     this.drawHead(report);
-    this.drawSummary(report, digestsToCome(report));
-    this.takeDigests(report);
+    this.drawSummary(shownReport, digestsToCome(shownReport));
+    this.takeDigests(shownReport);
     this.listDeviations(FIRST);
     this.drawRefusal(report);
     this.drawPanes(report);
@@ -99,8 +100,8 @@ export class Result {
     verdict.className = `verdict ${report.result.replace(" ", "-")}`;
     verdict.textContent = verdictOf(report);
     at("result").dataset.result = report.result;
-    this.drawStanding(report);
-    this.saving.use(structure, this.isRead);
+    this.drawStanding(structure.shownReport);
+    this.saving.use(structure, this.isRead && report.result !== "refused");
     this.editing.use(structure);
     at("copy-link").disabled = this.whyNoLink() !== "";
     at("copy-link").title = this.whyNoLink();
@@ -145,7 +146,7 @@ export class Result {
   async takeDigests(report) {
     const { structure, raw } = this;
     const digests = await digestsOf(this.cimaroly, raw, report).catch(() => ({}));
-    const isShown = this.structure === structure && structure.report === report;
+    const isShown = this.structure === structure && structure.shownReport === report;
     if (isShown && digests !== null) this.drawSummary(report, digests);
   }
 
@@ -207,8 +208,7 @@ export class Result {
     if (place !== undefined) where.push(`Reading stopped at byte ${grouped(place)} of ${grouped(this.raw.length)}`);
     if (field) where.push(`in ${shown(field).replaceAll(".", " › ")}`);
     const text = where.length > 0 ? `${where.join(", ")}. ` : "";
-    const rest = place === undefined ? "" : "The highlighted bytes before it were read; the bytes after it were not.";
-    at("refusal-text").textContent = text + rest;
+    at("refusal-text").textContent = text + restOf(report, this.structure.outline);
   }
 
   drawPanes(report) {
@@ -219,7 +219,7 @@ export class Result {
     this.coverSecrets(report);
     at("count").textContent = counted(this.raw.length, "byte");
     at("fields-title").textContent = this.isRead ? "Fields" : "Elements";
-    const refusedAt = report.at ?? null;
+    const refusedAt = this.structure.outline === null ? (report.at ?? null) : null;
     this.bytes.show(this.raw, this.fields, this.deviations, refusedAt);
     this.tree.show(this.fields, this.raw);
     if (this.isRead) this.light(this.fields[0]);
@@ -326,6 +326,16 @@ export class Result {
     at("times").dataset.read = read ?? "";
     at("times").dataset.drawn = drawn;
   }
+}
+
+// What else is to be said of what is refused.
+function restOf({ at: place }, outline) {
+  if (outline !== null) {
+    const count = outline.deviations.length;
+    const how = count === 0 ? "is in DER" : `has ${counted(count, "deviation")} from DER`;
+    return `The fields below are those of its outline, which ${how}: what isn’t understood stands in it as it is.`;
+  }
+  return place === undefined ? "" : "The highlighted bytes before it were read; the bytes after it were not.";
 }
 
 function verdictOf(report) {

@@ -3,7 +3,7 @@
 import { at, save } from "./dom.mjs";
 import { privateKeyText } from "./making.mjs";
 
-// The label of each type that has one (RFC 7468; of the last three, OpenSSL's).
+// The label of each type that has one (RFC 7468; of RSA and EC keys, OpenSSL's).
 const LABELS = new Map([
   ["certificate", "CERTIFICATE"],
   ["request", "CERTIFICATE REQUEST"],
@@ -12,6 +12,11 @@ const LABELS = new Map([
   ["rsa-private-key", "RSA PRIVATE KEY"],
   ["rsa-public-key", "RSA PUBLIC KEY"],
   ["ec-private-key", "EC PRIVATE KEY"],
+  ["certificate-outline", "CERTIFICATE"],
+  ["request-outline", "CERTIFICATE REQUEST"],
+  ["private-key-outline", "PRIVATE KEY"],
+  ["public-key-outline", "PUBLIC KEY"],
+  ["crl", "X509 CRL"],
 ]);
 
 const PEM_FILE = "application/x-pem-file";

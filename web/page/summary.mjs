@@ -21,6 +21,11 @@ const TITLES = new Map([
   ["raw-algorithm", "Algorithm identifier with any parameters"],
   ["request-info", "Certification request information"],
   ["tbs-certificate", "To-be-signed certificate"],
+  ["certificate-outline", "Certificate in outline"],
+  ["request-outline", "Certification request in outline"],
+  ["private-key-outline", "Private key in outline"],
+  ["public-key-outline", "Public key in outline"],
+  ["crl", "Certificate revocation list"],
 ]);
 
 // Attributes by the short names that names are written with (RFC 4514, 3; OpenSSL).
@@ -69,7 +74,7 @@ export function titleOf(kind) {
 
 /** Whether a type holds secrets. */
 export function isPrivate(kind) {
-  return kind.endsWith("private-key");
+  return kind.includes("private-key");
 }
 
 // A value as it stands in a name on one line: bytes in hexadecimal, and not too many of them.
@@ -131,6 +136,25 @@ function certificateRows(fields, bytes) {
   rows.push(...serviceRows(fields.extensions?.items ?? [], bytes));
   rows.push(["key", publicLine(key.algorithm, key.subjectPublicKey), key]);
   return rows;
+}
+
+// What is said of a list that a report may count: all entries, or their number alone.
+function entriesLine({ items, value }) {
+  const count = items?.length ?? value;
+  return count === 1 ? "1 entry" : `${grouped(count)} entries`;
+}
+
+// The number of a list, if it has one (RFC 5280, 5.2.3).
+function listRows(fields, bytes) {
+  const { issuer, thisUpdate, nextUpdate, revokedCertificates: entries } = fields;
+  const number = fields.crlExtensions?.items.find((it) => it.id === "2.5.29.20");
+  return [
+    ["issuer", nameLine(issuer, bytes), issuer],
+    ["this update", thisUpdate.value, thisUpdate],
+    ...(nextUpdate === undefined ? [] : [["next update", nextUpdate.value, nextUpdate]]),
+    ["revoked", entries === undefined ? "0 entries" : entriesLine(entries), entries ?? fields.issuer],
+    ...(number?.value === undefined ? [] : [["number", serialLine(number.value), number]]),
+  ];
 }
 
 const identified = ({ id, name }) => name ?? id;
@@ -210,6 +234,7 @@ const ROWS = {
   Extensions: extensionsRows,
   CertificationRequestInfo: requestRows,
   TBSCertificate: certificateRows,
+  CertificateList: (it, bytes) => listRows(it.tbsCertList, bytes),
   AlgorithmIdentifier: (it) => [["algorithm", valueOf("", it.algorithm, new Uint8Array(1)).whole, it]],
 };
 

@@ -118,6 +118,12 @@ function identifier({ id, name }) {
   return { kind: "identifier", text: name ?? id, whole: name === undefined ? id : `${name} (${id})` };
 }
 
+// The identifier of an algorithm that is read no further, in an outline.
+function unread({ id, name }) {
+  const text = `${name === undefined ? id : `${id} (${name})`}, not read`;
+  return { kind: "identifier", text, whole: text };
+}
+
 /** Whether a member of a node is a node too. */
 export function isNode(it) {
   return typeof it === "object" && it !== null && Array.isArray(it.at);
@@ -184,7 +190,7 @@ export function valueOf(label, node, bytes) {
   }
   if (node.length !== undefined && node.field !== "iPAddress" && label !== "iPAddress") return kept(node);
   if (value === null) return word("NULL");
-  if (typeof value === "object") return identifier(value);
+  if (typeof value === "object") return node.read === false ? unread(value) : identifier(value);
   if (typeof value === "number") return number(label, value);
   if (typeof value !== "string") return word(String(value));
   return stringValue(label, value, bytes, { start: node.at[0], end: node.at[1] });

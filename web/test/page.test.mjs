@@ -55,10 +55,10 @@ test("each form of input is told", () => {
 });
 
 test("labels say the type, and others are passed over", () => {
-  const kinds = ["X509 CERTIFICATE", "NEW CERTIFICATE REQUEST", "EC PRIVATE KEY", "X509 CRL"];
+  const kinds = ["X509 CERTIFICATE", "NEW CERTIFICATE REQUEST", "EC PRIVATE KEY", "X509 CRL", "PKCS7"];
   const found = structuresIn(bytes(kinds.map((it) => block(it)).join("")));
-  assert.deepEqual(found.map((it) => it.kind), ["certificate", "request", "ec-private-key", null]);
-  assert.deepEqual([found[3].outcome, found[3].reason], ["passed over", "a CRL, which isn’t read"]);
+  assert.deepEqual(found.map((it) => it.kind), ["certificate", "request", "ec-private-key", "crl", null]);
+  assert.deepEqual([found[4].outcome, found[4].reason], ["passed over", "PKCS #7 or CMS, which isn’t read"]);
 });
 
 test("every sample holds one structure", () => {

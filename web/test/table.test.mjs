@@ -172,8 +172,8 @@ test("bytes are taken from every view of a buffer", () => {
 });
 
 test("a type that isn't there is told", () => {
-  assert.throws(() => check(new Uint8Array(0), "crl"), TypeError);
-  assert.equal(KINDS.length, 13);
+  assert.throws(() => check(new Uint8Array(0), "ocsp-response"), TypeError);
+  assert.equal(KINDS.length, 18);
 });
 
 test("a reading keeps its bytes", () => {

@@ -97,7 +97,8 @@ static inline bool is_for(const struct call *call, uint32_t kind)
     case ANY_KIND:
         return true;
     case SIGNED_KINDS:
-        return kind == CIMAROLY_CERTIFICATE || kind == CIMAROLY_REQUEST;
+        return kind == CIMAROLY_CERTIFICATE || kind == CIMAROLY_REQUEST || kind == CIMAROLY_CERTIFICATE_OUTLINE
+               || kind == CIMAROLY_REQUEST_OUTLINE || kind == CIMAROLY_CRL;
     case EXTENSIONS_KINDS:
         return kind == CIMAROLY_CERTIFICATE || kind == CIMAROLY_EXTENSIONS;
     default:

@@ -51,7 +51,8 @@ static inline uint32_t kind_of_name(const char *name)
 {
     static const char *const names[] = {"certificate", "request", "private-key", "public-key", "rsa-private-key",
         "rsa-public-key", "ec-private-key", "name", "extensions", "algorithm", "raw-algorithm",
-        "request-info", "tbs-certificate"};
+        "request-info", "tbs-certificate", "certificate-outline", "request-outline", "private-key-outline",
+        "public-key-outline", "crl"};
     for (uint32_t i = 0; i < sizeof names / sizeof *names; i++)
         if (is_text(name, names[i]))
             return i + 1;

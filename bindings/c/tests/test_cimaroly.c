@@ -435,7 +435,7 @@ static void test_call(const struct row *row, enum call_number which)
 /* Numbers of no kind. */
 static void test_unknown_kinds(const uint8_t *der)
 {
-    static const uint32_t kinds[] = {0, 14, 256, UINT32_MAX};
+    static const uint32_t kinds[] = {0, 19, 256, UINT32_MAX};
     struct row row = {{NULL}, 0, NULL, 0};
     char name[] = "a number of no kind";
     struct guarded buffer = guarded_room(ROOM);

@@ -9,8 +9,8 @@
     (Place(deviation=<Deviation.RSA_PARAMETERS_ABSENT: 1>, start=13, end=26),)
 
 `check` tells whether bytes encode a structure of a kind, and how they deviate from its DER encoding. `read` gives a
-`Certificate`, a `Request`, a `PublicKey` or a `PrivateKey`, with their values, and of other kinds a `Structure`, which they
-all are: it has fields, deviations, signed part, DER encoding and report. `read_all` gives a list of them. What is refused
+`Certificate`, a `Request`, a `PublicKey`, a `PrivateKey` or a `RevocationList`, with their values; an `Outline` of what is of
+an algorithm that isn't read; and of other kinds a `Structure`, which they all are: it has fields, deviations, signed part, DER encoding and report. `read_all` gives a list of them. What is refused
 raises `Refused`, which says why, at which byte and in which field. `read_each` gives what came of each PEM block, and goes on
 behind those that are refused. `check_extension` checks the value of an extension that `check` takes as octets.
 
@@ -26,6 +26,7 @@ from ._keys import Algorithm, PrivateKey, PublicKey
 from ._kinds import KINDS, Deviation, Kind, Reason, Refused
 from ._making import CertificateBuilder, NotMade, RequestBuilder, ToBeSigned, make, signature_algorithm
 from ._names import AlternativeNames, Attribute, EdiPartyName, GeneralName, Name, OtherName
+from ._outlines import Outline, Revocation, RevocationList
 from ._pem import Block, Data, PemError, pem_blocks
 from ._reading import Outcome, check, check_extension, read, read_all, read_each
 from ._services import Policy, Timestamp
@@ -53,6 +54,7 @@ __all__ = [
     "NotMade",
     "OtherName",
     "Outcome",
+    "Outline",
     "PemError",
     "Place",
     "Policy",
@@ -62,6 +64,8 @@ __all__ = [
     "Refused",
     "Request",
     "RequestBuilder",
+    "Revocation",
+    "RevocationList",
     "SignedPart",
     "Structure",
     "Timestamp",

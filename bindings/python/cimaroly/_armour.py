@@ -15,6 +15,11 @@ _LABELS: dict[Kind, str] = {
     "rsa-private-key": "RSA PRIVATE KEY",
     "rsa-public-key": "RSA PUBLIC KEY",
     "ec-private-key": "EC PRIVATE KEY",
+    "certificate-outline": "CERTIFICATE",
+    "request-outline": "CERTIFICATE REQUEST",
+    "private-key-outline": "PRIVATE KEY",
+    "public-key-outline": "PUBLIC KEY",
+    "crl": "X509 CRL",
 }
 
 

@@ -22,6 +22,11 @@ Kind = Literal[
     "raw-algorithm",
     "request-info",
     "tbs-certificate",
+    "certificate-outline",
+    "request-outline",
+    "private-key-outline",
+    "public-key-outline",
+    "crl",
 ]
 """What bytes can be read as: `Certificate`, `CertificationRequest`, `PrivateKeyInfo`, `SubjectPublicKeyInfo`, `RSAPrivateKey`,
 `RSAPublicKey`, `ECPrivateKey`, `Name`, `Extensions`, `AlgorithmIdentifier` of a known algorithm, one with any parameters, or

@@ -24,6 +24,7 @@ _LABELS: dict[str, Kind] = {
     "RSA PRIVATE KEY": "rsa-private-key",
     "RSA PUBLIC KEY": "rsa-public-key",
     "EC PRIVATE KEY": "ec-private-key",
+    "X509 CRL": "crl",
 }
 _UTF_16 = (b"\xff\xfe", b"\xfe\xff")
 _FAULTS = {

@@ -10,11 +10,12 @@ from . import _values
 from ._certificates import Certificate, Request
 from ._keys import PrivateKey, PrivateKind, PublicKey, PublicKind
 from ._kinds import KINDS, Kind, Refused
+from ._outlines import WHOLE, Outline, OutlineKind, RevocationList
 from ._pem import Data, PemError, RawBlock, bare_base64, escaped, is_one_element, is_pem, raw_blocks, viewed
 from ._secret import PRIVATE, Held, Secret
 from ._structure import Structure, Verdict, checked, checked_extension
 
-OtherKind = Literal["name", "extensions", "algorithm", "raw-algorithm"]
+OtherKind = Literal["name", "extensions", "algorithm", "raw-algorithm", "request-info", "tbs-certificate"]
 
 
 def _structure(der: Union[bytes, bytearray, memoryview], kind: Kind) -> Structure:
@@ -27,7 +28,9 @@ def _structure(der: Union[bytes, bytearray, memoryview], kind: Kind) -> Structur
         return PublicKey(der, kind)
     if kind == "private-key" or kind == "rsa-private-key" or kind == "ec-private-key":
         return PrivateKey(der, kind)
-    return Structure(der, kind)
+    if kind == "crl":
+        return RevocationList(der, kind)
+    return Outline(der, kind) if kind in WHOLE else Structure(der, kind)
 
 
 @dataclass(frozen=True)
@@ -77,7 +80,7 @@ def _der(data: Data, kind: Kind) -> Held:
         return _bare(view, kind) or (data if isinstance(data, bytes) else Secret(view))
     blocks = list(raw_blocks(view))
     for it in blocks:
-        if it.kind == kind:
+        if it.kind == WHOLE.get(kind, kind):
             return it.held()
     found = None if blocks else _bare(view, kind)
     if found is None:
@@ -123,10 +126,15 @@ def read(data: Data, kind: PublicKind) -> PublicKey: ...
 @overload
 def read(data: Data, kind: PrivateKind) -> PrivateKey: ...
 @overload
+def read(data: Data, kind: Literal["crl"]) -> RevocationList: ...
+@overload
+def read(data: Data, kind: OutlineKind) -> Outline: ...
+@overload
 def read(data: Data, kind: Kind) -> Structure: ...
 def read(data: Data, kind: Kind = "certificate") -> Structure:
-    """Reads one structure: a `Certificate`, a `Request`, a `PublicKey` or a `PrivateKey`, and of the other kinds a `Structure`.
-    Of PEM the first block of the kind is taken.
+    """Reads one structure: a `Certificate`, a `Request`, a `PublicKey`, a `PrivateKey`, a `RevocationList` or an `Outline`, and of
+    the other kinds a `Structure`. Of PEM the first block of the kind is taken; outlines are those of the blocks of what they
+    are the frame of.
 
     Raises what `check` does.
     """
@@ -146,15 +154,16 @@ def read_each(data: Data, kind: Optional[Kind] = None) -> Iterator[Outcome]:
         _known(kind)
     view = viewed(data)
     if is_pem(view) or (isinstance(data, str) and next(raw_blocks(view), None) is not None):
-        return (_outcome(it) for it in raw_blocks(view) if kind is None or it.kind == kind)
+        found = raw_blocks(view)
+        return (_outcome(it, kind or it.kind) for it in found if kind is None or it.kind == WHOLE.get(kind, kind))
     bare = _bare(view, kind or "certificate")
     if bare is not None:
         return iter((_outcome_of_der(bare, kind or "certificate"),))
     return iter(()) if isinstance(data, str) else iter((_outcome_of_der(data, kind or "certificate"),))
 
 
-def _outcome(block: RawBlock) -> Outcome:
-    number, line, label, kind = block.number, block.line, block.label, block.kind
+def _outcome(block: RawBlock, kind: Optional[Kind]) -> Outcome:
+    number, line, label = block.number, block.line, block.label
     if kind is None:
         return Outcome(number, line, label, kind)
     try:
@@ -179,6 +188,10 @@ def read_all(data: Data, kind: Literal["request"]) -> list[Request]: ...
 def read_all(data: Data, kind: PublicKind) -> list[PublicKey]: ...
 @overload
 def read_all(data: Data, kind: PrivateKind) -> list[PrivateKey]: ...
+@overload
+def read_all(data: Data, kind: Literal["crl"]) -> list[RevocationList]: ...
+@overload
+def read_all(data: Data, kind: OutlineKind) -> list[Outline]: ...
 @overload
 def read_all(data: Data, kind: Optional[OtherKind] = None) -> list[Structure]: ...
 def read_all(data: Data, kind: Optional[Kind] = None) -> list[Any]:

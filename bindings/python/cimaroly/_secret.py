@@ -6,7 +6,9 @@ from typing import Union
 
 from ._kinds import Kind
 
-PRIVATE: frozenset[Kind] = frozenset(("private-key", "rsa-private-key", "ec-private-key"))
+PRIVATE: frozenset[Kind] = frozenset(
+    ("private-key", "rsa-private-key", "ec-private-key", "private-key-outline")
+)
 """The kinds whose bytes are secret."""
 
 

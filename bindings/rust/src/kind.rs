@@ -32,11 +32,21 @@ pub enum Kind {
     RequestInfo = 12,
     /// `TBSCertificate` (RFC 5280, 4.1.2).
     TbsCertificate = 13,
+    /// `Certificate` (RFC 5280, 4.1), of any algorithm.
+    CertificateOutline = 14,
+    /// `CertificationRequest` (RFC 2986, 4), of any algorithm.
+    RequestOutline = 15,
+    /// `OneAsymmetricKey` (RFC 5958, 2), of any algorithm.
+    PrivateKeyOutline = 16,
+    /// `SubjectPublicKeyInfo` (RFC 5280, 4.1.2.7), of any algorithm.
+    PublicKeyOutline = 17,
+    /// `CertificateList` (RFC 5280, 5.1), of any algorithm.
+    Crl = 18,
 }
 
 impl Kind {
     /// Every kind, in the order of their numbers.
-    pub const ALL: [Kind; 13] = [
+    pub const ALL: [Kind; 18] = [
         Kind::Certificate,
         Kind::Request,
         Kind::PrivateKey,
@@ -50,6 +60,11 @@ impl Kind {
         Kind::RawAlgorithm,
         Kind::RequestInfo,
         Kind::TbsCertificate,
+        Kind::CertificateOutline,
+        Kind::RequestOutline,
+        Kind::PrivateKeyOutline,
+        Kind::PublicKeyOutline,
+        Kind::Crl,
     ];
 
     /// The name, as reports have it.
@@ -69,6 +84,11 @@ impl Kind {
             Kind::RawAlgorithm => "raw-algorithm",
             Kind::RequestInfo => "request-info",
             Kind::TbsCertificate => "tbs-certificate",
+            Kind::CertificateOutline => "certificate-outline",
+            Kind::RequestOutline => "request-outline",
+            Kind::PrivateKeyOutline => "private-key-outline",
+            Kind::PublicKeyOutline => "public-key-outline",
+            Kind::Crl => "crl",
         }
     }
 
@@ -89,6 +109,7 @@ impl Kind {
             b"RSA PRIVATE KEY" => Some(Kind::RsaPrivateKey),
             b"RSA PUBLIC KEY" => Some(Kind::RsaPublicKey),
             b"EC PRIVATE KEY" => Some(Kind::EcPrivateKey),
+            b"X509 CRL" => Some(Kind::Crl),
             _ => None,
         }
     }

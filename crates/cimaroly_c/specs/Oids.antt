@@ -1,9 +1,10 @@
 -- What is written of object identifiers and names.
-use Rattle.std.specs.Prelude.{◌≡◌, ℕ, ◌-◌, ◌<◌, ◌≤◌, ◌^◌, min, Bool, List, ◌++◌, ◌⊎◌, drop, length}
+use Rattle.std.specs.Prelude.{◌≡◌, ℕ, ◌-◌, ◌<◌, ◌≤◌, ◌^◌, min, Bool, List, [], ◌++◌, ◌⊎◌, drop, length, Option, unwrap_or}
 use Rattle.x509_der.specs.ObjectIdentifier.{IsOid}
 use Rattle.x509_der.specs.Tally.{Tally}
 use Rattle.x509_name_text.specs.Texts.{IsName, NameAttribute, TellsShown, name_text}
 use Rattle.x509_names.specs.Names.{Sets, name}
+use Rattle.x509_oid_text.specs.Names.{IsNameIn}
 use Rattle.x509_oid_text.specs.Texts.{OfText}
 
 -- the text stands in front of what the buffer had behind it; or the buffer is shorter, and as it was
@@ -19,6 +20,12 @@ TextWritten content old new status size =
     OfText content (λ text. NameWritten text old new status size)
     ⊎ (((status ≡ 1) × (size ≡ 0) × (new ≡ old) × ((arcs : List ℕ) → IsOid arcs content → ⊥))
     ⊎ ((status ≡ 5) × (size ≡ 0) × (new ≡ old) × OfText content (λ text. 2 ^ 64 ≤ length text)))
+
+-- the name of the object identifier with the content; nothing where it has none, or the content is that of none
+pub record OidNameWritten (content old new : List ℕ) (status size : ℕ) : Type 0 where
+  pub name : Option (List ℕ)
+  pub named : IsNameIn content name
+  pub written : NameWritten (unwrap_or name []) old new status size
 
 -- some text stands in front of what the buffer had behind it; or the buffer is shorter, and as it was
 abbrev pub SomeTextWritten : List ℕ → List ℕ → ℕ → ℕ → Type 0

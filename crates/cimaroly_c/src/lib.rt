@@ -3,19 +3,17 @@
 #![tactic(auto)]
 
 ghost use Rattle.std.specs.Prelude.{◌≡◌, ◌+◌, ◌/◌, ◌≤◌, length};
-ghost use Rattle.picky_asn1_x509.specs.Certificates.{signature_fields, certificate, certificate_parts};
-ghost use Rattle.picky_asn1_x509.specs.Requests.{request, request_info, request_parts};
-ghost use Rattle.picky_asn1_x509.specs.TbsCertificates.{tbs_certificate};
 ghost use Rattle.x509_flat.specs.Checks.{TellsOf, no_verdict};
 ghost use Rattle.x509_flat.specs.Encodings.{EncodesOf, Untouched};
 ghost use Rattle.x509_flat.specs.Extensions.{CarriedTold, ListTold};
 ghost use Rattle.x509_flat.specs.Fields.{CertificateTold, PrivateKeyTold, RequestTold};
 ghost use Rattle.x509_flat.specs.Places.{PlacesOf};
-ghost use Rattle.x509_flat.specs.SignedParts.{SignedTold, no_signed};
+ghost use Rattle.x509_flat.specs.SignedParts.{SignedOf, no_signed};
 ghost use Rattle.x509_flat.specs.Validities.{ValidityTold};
 ghost use Rattle.x509_flat_report.specs.Reports.{Reported};
 ghost use Rattle.cimaroly_c.specs.Exports.{Answers, AnswersFor, Arena, IsKind};
 
+mod findings;
 mod keys;
 mod making;
 mod oids;
@@ -103,22 +101,17 @@ pub extern "C" fn cimaroly_places(
     sized.status.number()
 }
 
-/// What the signature of a certificate, kind 1, or of a request, kind 2, covers.
+/// What the signature covers of a structure of a kind that is signed.
 #[unsafe(no_mangle)]
 pub extern "C" fn cimaroly_signed_part(kind: u32, der: &[u8], part: &mut FlatSigned) -> u32
-    ensures certificate { kind ≡ 1 → Answers result (λ status. SignedTold (certificate {A = Arena}) certificate_parts tbs_certificate signature_fields der.now status part.new) }
-    ensures request { kind ≡ 2 → Answers result (λ status. SignedTold (request {A = Arena}) request_parts request_info signature_fields der.now status part.new) }
-    ensures unknown { (kind ≡ 1 → ⊥) → (kind ≡ 2 → ⊥) → (result ≡ 4) × (part.new ≡ no_signed) }
+    ensures known { IsKind kind → AnswersFor kind result (λ k status. SignedOf Arena k der.now status part.new) }
+    ensures unknown { (IsKind kind → ⊥) → (result ≡ 4) × (part.new ≡ no_signed) }
 {
-    if kind != 1 && kind != 2 {
+    let Some(known) = Kind::from_number(kind) else {
         *part = FlatSigned::none();
         return Status::UnknownKind.number();
-    }
-    let answer = if kind == 1 {
-        over::certificate_signed_part(der)
-    } else {
-        over::request_signed_part(der)
     };
+    let answer = over::signed_part(known, der);
     *part = answer.signed;
     answer.status.number()
 }

@@ -1,8 +1,7 @@
 //! Object identifiers: their text and their names; and the text of names.
 
-ghost use Rattle.std.specs.Prelude.{List, ℕ};
 ghost use Rattle.cimaroly_c.specs.Exports.{Arena};
-ghost use Rattle.cimaroly_c.specs.Oids.{NameTextWritten, NameWritten, SomeTextWritten, TellsName, TextWritten};
+ghost use Rattle.cimaroly_c.specs.Oids.{NameTextWritten, NameWritten, OidNameWritten, SomeTextWritten, TellsName, TextWritten};
 
 use crate::over_keys::is_name;
 use x509_flat::status::Status;
@@ -49,7 +48,7 @@ fn write_name(text: &[u8], out: &mut [u8], size: &mut usize) -> u32
 /// Writes the name of an object identifier to the front of a buffer, as in `commonName`: nothing where it has none.
 #[unsafe(no_mangle)]
 pub extern "C" fn cimaroly_oid_name(content: &[u8], out: &mut [u8], size: &mut usize) -> u32
-    ensures { (text : List ℕ) × NameWritten text out.old out.new result size.new }
+    ensures { OidNameWritten content.now out.old out.new result size.new }
 {
     write_name(name_in(content).unwrap_or("").as_bytes(), out, size)
 }

@@ -1,9 +1,6 @@
 //! The calls over a block of memory, each in an arena of its own.
 
 ghost use Rattle.std.specs.Prelude.{◌≡◌, ◌+◌, ◌*◌, ◌/◌, ◌<◌, ◌≤◌, length};
-ghost use Rattle.picky_asn1_x509.specs.Certificates.{signature_fields, certificate, certificate_parts};
-ghost use Rattle.picky_asn1_x509.specs.Requests.{request, request_info, request_parts};
-ghost use Rattle.picky_asn1_x509.specs.TbsCertificates.{tbs_certificate};
 ghost use Rattle.x509_flat.specs.Checks.{TellsOf};
 ghost use Rattle.x509_flat.specs.Constraints.{ConstraintsTold};
 ghost use Rattle.x509_flat.specs.Encodings.{EncodesOf};
@@ -12,7 +9,7 @@ ghost use Rattle.x509_flat.specs.Fields.{CertificateTold, PrivateKeyTold, Reques
 ghost use Rattle.x509_flat.specs.Hosts.{HostMatched};
 ghost use Rattle.x509_flat.specs.Places.{PlacesOf};
 ghost use Rattle.x509_flat.specs.Purposes.{PurposesFill};
-ghost use Rattle.x509_flat.specs.SignedParts.{SignedTold};
+ghost use Rattle.x509_flat.specs.SignedParts.{SignedOf};
 ghost use Rattle.x509_flat.specs.Spans.{flat_span, flat_span_if};
 ghost use Rattle.x509_flat.specs.Usages.{UsageTold};
 ghost use Rattle.x509_flat.specs.Validities.{ValidityTold};
@@ -37,7 +34,7 @@ use x509_flat::private_key_fields::{
     FlatPrivateKey, private_key_fields as flat_private_key_fields,
 };
 use x509_flat::request_fields::{FlatRequest, request_fields as flat_request_fields};
-use x509_flat::signed_part::{self, SignedAnswer};
+use x509_flat::signed_part::{SignedAnswer, signed_part as flat_signed_part};
 use x509_flat::span::FlatSpan;
 use x509_flat::status::{Answer, Sized};
 use x509_flat::usage::{FlatUsage, key_usage as flat_key_usage};
@@ -106,24 +103,14 @@ pub(crate) fn places(block: &OneBlock, kind: Kind, bytes: &[u8], out: &mut [Flat
     flat_places(&arena, kind, bytes, out)
 }
 
-/// The signed part of a certificate.
-pub(crate) fn certificate_signed_part(bytes: &[u8]) -> SignedAnswer
-    ensures { SignedTold (certificate {A = Arena}) certificate_parts tbs_certificate signature_fields bytes.now result.status result.signed }
+/// `signed_part` of `x509_flat`.
+pub(crate) fn signed_part(kind: Kind, bytes: &[u8]) -> SignedAnswer
+    ensures { SignedOf Arena kind bytes.now result.status result.signed }
 {
     let mut nothing = Lent::nothing();
     let block = OneBlock::from_mut(&mut nothing);
     let arena = Bump::new(&block);
-    signed_part::of_certificate(&arena, bytes)
-}
-
-/// The signed part of a request.
-pub(crate) fn request_signed_part(bytes: &[u8]) -> SignedAnswer
-    ensures { SignedTold (request {A = Arena}) request_parts request_info signature_fields bytes.now result.status result.signed }
-{
-    let mut nothing = Lent::nothing();
-    let block = OneBlock::from_mut(&mut nothing);
-    let arena = Bump::new(&block);
-    signed_part::of_request(&arena, bytes)
+    flat_signed_part(&arena, kind, bytes)
 }
 
 /// The fields of a certificate.

@@ -16,6 +16,11 @@ use Rattle.picky_asn1_x509.specs.ExtensionLists.{extensions}
 use Rattle.picky_asn1_x509.specs.Requests.{request, request_info}
 use Rattle.picky_asn1_x509.specs.TbsCertificates.{tbs_certificate}
 use Rattle.picky_asn1_x509.specs.Types.{Refused}
+use Rattle.x509_list_outlines.specs.CertificateLists.{certificate_list}
+use Rattle.x509_more_outlines.specs.PrivateKeys.{private_key as private_key_outline}
+use Rattle.x509_more_outlines.specs.Requests.{request as request_outline}
+use Rattle.x509_outline.specs.Certificates.{certificate as certificate_outline}
+use Rattle.x509_outline_parts.specs.PublicKeys.{public_key as public_key_outline}
 use Rattle.x509_flat.specs.declared.check.Verdict.{Verdict}
 use Rattle.x509_flat.specs.declared.kind.Kind.{Kind}
 use Rattle.x509_flat.specs.declared.status.Status.{Status}
@@ -58,3 +63,8 @@ TellsOf A kind.Algorithm bytes status verdict = Tells (algorithm_identifier {A =
 TellsOf A kind.RawAlgorithm bytes status verdict = Tells raw_algorithm bytes status verdict
 TellsOf A kind.RequestInfo bytes status verdict = Tells (request_info {A = A}) bytes status verdict
 TellsOf A kind.TbsCertificate bytes status verdict = Tells (tbs_certificate {A = A}) bytes status verdict
+TellsOf A kind.CertificateOutline bytes status verdict = Tells (certificate_outline {A = A}) bytes status verdict
+TellsOf A kind.RequestOutline bytes status verdict = Tells (request_outline {A = A}) bytes status verdict
+TellsOf A kind.PrivateKeyOutline bytes status verdict = Tells (private_key_outline {A = A}) bytes status verdict
+TellsOf A kind.PublicKeyOutline bytes status verdict = Tells (public_key_outline {A = A}) bytes status verdict
+TellsOf A kind.Crl bytes status verdict = Tells (certificate_list {A = A}) bytes status verdict

@@ -15,6 +15,11 @@ use Rattle.picky_asn1_x509.specs.Certificates.{certificate}
 use Rattle.picky_asn1_x509.specs.ExtensionLists.{extensions}
 use Rattle.picky_asn1_x509.specs.Requests.{request, request_info}
 use Rattle.picky_asn1_x509.specs.TbsCertificates.{tbs_certificate}
+use Rattle.x509_list_outlines.specs.CertificateLists.{certificate_list}
+use Rattle.x509_more_outlines.specs.PrivateKeys.{private_key as private_key_outline}
+use Rattle.x509_more_outlines.specs.Requests.{request as request_outline}
+use Rattle.x509_outline.specs.Certificates.{certificate as certificate_outline}
+use Rattle.x509_outline_parts.specs.PublicKeys.{public_key as public_key_outline}
 use Rattle.x509_flat.specs.declared.kind.Kind.{Kind}
 use Rattle.x509_flat.specs.declared.status.Status.{Status}
 use Rattle.x509_flat.specs.declared.kind.Kind.TheVariants as kind
@@ -76,3 +81,8 @@ EncodesOf A kind.Algorithm bytes old new status size = Encodes (algorithm_identi
 EncodesOf A kind.RawAlgorithm bytes old new status size = Encodes raw_algorithm bytes old new status size
 EncodesOf A kind.RequestInfo bytes old new status size = Encodes (request_info {A = A}) bytes old new status size
 EncodesOf A kind.TbsCertificate bytes old new status size = Encodes (tbs_certificate {A = A}) bytes old new status size
+EncodesOf A kind.CertificateOutline bytes old new status size = Encodes (certificate_outline {A = A}) bytes old new status size
+EncodesOf A kind.RequestOutline bytes old new status size = Encodes (request_outline {A = A}) bytes old new status size
+EncodesOf A kind.PrivateKeyOutline bytes old new status size = Encodes (private_key_outline {A = A}) bytes old new status size
+EncodesOf A kind.PublicKeyOutline bytes old new status size = Encodes (public_key_outline {A = A}) bytes old new status size
+EncodesOf A kind.Crl bytes old new status size = Encodes (certificate_list {A = A}) bytes old new status size

@@ -19,6 +19,11 @@ kind_number kind.Algorithm = 10
 kind_number kind.RawAlgorithm = 11
 kind_number kind.RequestInfo = 12
 kind_number kind.TbsCertificate = 13
+kind_number kind.CertificateOutline = 14
+kind_number kind.RequestOutline = 15
+kind_number kind.PrivateKeyOutline = 16
+kind_number kind.PublicKeyOutline = 17
+kind_number kind.Crl = 18
 
 abbrev pub status_number : Status → ℕ
 status_number answer.Done = 0

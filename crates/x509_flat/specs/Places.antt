@@ -16,6 +16,11 @@ use Rattle.picky_asn1_x509.specs.Certificates.{certificate}
 use Rattle.picky_asn1_x509.specs.ExtensionLists.{extensions}
 use Rattle.picky_asn1_x509.specs.Requests.{request, request_info}
 use Rattle.picky_asn1_x509.specs.TbsCertificates.{tbs_certificate}
+use Rattle.x509_list_outlines.specs.CertificateLists.{certificate_list}
+use Rattle.x509_more_outlines.specs.PrivateKeys.{private_key as private_key_outline}
+use Rattle.x509_more_outlines.specs.Requests.{request as request_outline}
+use Rattle.x509_outline.specs.Certificates.{certificate as certificate_outline}
+use Rattle.x509_outline_parts.specs.PublicKeys.{public_key as public_key_outline}
 use Rattle.x509_flat.specs.Encodings.{Filled, Short, Untouched}
 use Rattle.x509_flat.specs.declared.kind.Kind.{Kind}
 use Rattle.x509_flat.specs.declared.places.FlatPlace.{FlatPlace}
@@ -67,3 +72,8 @@ PlacesOf A kind.Algorithm bytes old new status size = Places (algorithm_identifi
 PlacesOf A kind.RawAlgorithm bytes old new status size = Places raw_algorithm bytes old new status size
 PlacesOf A kind.RequestInfo bytes old new status size = Places (request_info {A = A}) bytes old new status size
 PlacesOf A kind.TbsCertificate bytes old new status size = Places (tbs_certificate {A = A}) bytes old new status size
+PlacesOf A kind.CertificateOutline bytes old new status size = Places (certificate_outline {A = A}) bytes old new status size
+PlacesOf A kind.RequestOutline bytes old new status size = Places (request_outline {A = A}) bytes old new status size
+PlacesOf A kind.PrivateKeyOutline bytes old new status size = Places (private_key_outline {A = A}) bytes old new status size
+PlacesOf A kind.PublicKeyOutline bytes old new status size = Places (public_key_outline {A = A}) bytes old new status size
+PlacesOf A kind.Crl bytes old new status size = Places (certificate_list {A = A}) bytes old new status size

@@ -12,6 +12,9 @@ use picky_asn1_x509::{
     RsaPublicKey, SubjectPublicKeyInfo, TbsCertificate, check_metered,
 };
 use std::alloc::Allocator;
+use x509_list_outlines::CertificateListOutline;
+use x509_more_outlines::{PrivateKeyOutline, RequestOutline};
+use x509_outline::{CertificateOutline, PublicKeyOutline};
 
 /// What a check finds.
 #[repr(C)]
@@ -106,5 +109,10 @@ pub fn check<A: Allocator + Copy>(alloc: A, kind: Kind, bytes: &[u8]) -> Checked
         Kind::RawAlgorithm => check_as::<RawAlgorithmIdentifier<A>, A>(alloc, bytes),
         Kind::RequestInfo => check_as::<CertificationRequestInfo<A>, A>(alloc, bytes),
         Kind::TbsCertificate => check_as::<TbsCertificate<A>, A>(alloc, bytes),
+        Kind::CertificateOutline => check_as::<CertificateOutline<A>, A>(alloc, bytes),
+        Kind::RequestOutline => check_as::<RequestOutline<A>, A>(alloc, bytes),
+        Kind::PrivateKeyOutline => check_as::<PrivateKeyOutline<A>, A>(alloc, bytes),
+        Kind::PublicKeyOutline => check_as::<PublicKeyOutline<A>, A>(alloc, bytes),
+        Kind::Crl => check_as::<CertificateListOutline<A>, A>(alloc, bytes),
     }
 }

@@ -11,6 +11,9 @@ use picky_asn1_x509::{
     SubjectPublicKeyInfo, TbsCertificate, ToDer, encoded_len, from_bytes, write_to_slice,
 };
 use std::alloc::Allocator;
+use x509_list_outlines::CertificateListOutline;
+use x509_more_outlines::{PrivateKeyOutline, RequestOutline};
+use x509_outline::{CertificateOutline, PublicKeyOutline};
 
 /// Writes a value's DER encoding to the front of a slice.
 fn put<T: ToDer>(value: &T, out: &mut [u8]) -> Sized
@@ -66,5 +69,10 @@ pub fn encode<A: Allocator + Copy>(alloc: A, kind: Kind, bytes: &[u8], out: &mut
         Kind::RawAlgorithm => encode_as::<RawAlgorithmIdentifier<A>, A>(alloc, bytes, out),
         Kind::RequestInfo => encode_as::<CertificationRequestInfo<A>, A>(alloc, bytes, out),
         Kind::TbsCertificate => encode_as::<TbsCertificate<A>, A>(alloc, bytes, out),
+        Kind::CertificateOutline => encode_as::<CertificateOutline<A>, A>(alloc, bytes, out),
+        Kind::RequestOutline => encode_as::<RequestOutline<A>, A>(alloc, bytes, out),
+        Kind::PrivateKeyOutline => encode_as::<PrivateKeyOutline<A>, A>(alloc, bytes, out),
+        Kind::PublicKeyOutline => encode_as::<PublicKeyOutline<A>, A>(alloc, bytes, out),
+        Kind::Crl => encode_as::<CertificateListOutline<A>, A>(alloc, bytes, out),
     }
 }

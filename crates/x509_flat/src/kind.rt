@@ -32,10 +32,20 @@ pub enum Kind {
     RequestInfo,
     /// `TBSCertificate` (RFC 5280, 4.1.2).
     TbsCertificate,
+    /// `Certificate` (RFC 5280, 4.1), of any algorithm.
+    CertificateOutline,
+    /// `CertificationRequest` (RFC 2986, 4), of any algorithm.
+    RequestOutline,
+    /// `OneAsymmetricKey` (RFC 5958, 2), of any algorithm.
+    PrivateKeyOutline,
+    /// `SubjectPublicKeyInfo` (RFC 5280, 4.1.2.7), of any algorithm.
+    PublicKeyOutline,
+    /// `CertificateList` (RFC 5280, 5.1), of any algorithm.
+    Crl,
 }
 
 impl Kind {
-    /// The type of a number, 1 to 11 in the order above.
+    /// The type of a number, 1 to 18 in the order above.
     pub fn from_number(number: u32) -> Option<Kind>
         ensures some { IfSome result (λ kind. number ≡ kind_number kind) }
         ensures none { IfNone result ((kind : Kind) → number ≡ kind_number kind → ⊥) }
@@ -54,6 +64,11 @@ impl Kind {
             11 => Some(Kind::RawAlgorithm),
             12 => Some(Kind::RequestInfo),
             13 => Some(Kind::TbsCertificate),
+            14 => Some(Kind::CertificateOutline),
+            15 => Some(Kind::RequestOutline),
+            16 => Some(Kind::PrivateKeyOutline),
+            17 => Some(Kind::PublicKeyOutline),
+            18 => Some(Kind::Crl),
             _ => None,
         }
     }

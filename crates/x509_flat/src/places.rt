@@ -11,6 +11,9 @@ use picky_asn1_x509::{
     RsaPublicKey, SubjectPublicKeyInfo, TbsCertificate, check_located,
 };
 use std::alloc::Allocator;
+use x509_list_outlines::CertificateListOutline;
+use x509_more_outlines::{PrivateKeyOutline, RequestOutline};
+use x509_outline::{CertificateOutline, PublicKeyOutline};
 
 /// A deviation, and the bytes that it covers.
 #[repr(C)]
@@ -100,5 +103,10 @@ pub fn places<A: Allocator + Copy>(
         Kind::RawAlgorithm => places_as::<RawAlgorithmIdentifier<A>, A>(alloc, bytes, out),
         Kind::RequestInfo => places_as::<CertificationRequestInfo<A>, A>(alloc, bytes, out),
         Kind::TbsCertificate => places_as::<TbsCertificate<A>, A>(alloc, bytes, out),
+        Kind::CertificateOutline => places_as::<CertificateOutline<A>, A>(alloc, bytes, out),
+        Kind::RequestOutline => places_as::<RequestOutline<A>, A>(alloc, bytes, out),
+        Kind::PrivateKeyOutline => places_as::<PrivateKeyOutline<A>, A>(alloc, bytes, out),
+        Kind::PublicKeyOutline => places_as::<PublicKeyOutline<A>, A>(alloc, bytes, out),
+        Kind::Crl => places_as::<CertificateListOutline<A>, A>(alloc, bytes, out),
     }
 }

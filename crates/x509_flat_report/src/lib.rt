@@ -2,15 +2,18 @@
 #![tactic(auto)]
 
 ghost use Rattle.std.specs.Prelude.{◌≡◌, Bool, List, ℕ, IfOk, IsTrue};
-ghost use Rattle.x509_flat_report.specs.Reports.{IsReport, IsWord, PutsText, Reported, beginning_of, inspected_as};
+ghost use Rattle.x509_flat_report.specs.Reports.{IsReport, PutsText, Reported, reading_of};
 ghost use Rattle.x509_flat.specs.declared.kind.Kind.{Kind as FlatKind};
-ghost use Rattle.x509_inspect_parts.specs.Kinds.{kind_name};
 
+mod object;
+mod reading;
+
+use crate::object::{outline_report, whole_report};
+use crate::reading::{Reading, reading};
 use std::alloc::{AllocError, Allocator};
-use x509_der::{ReadError, Refused};
 use x509_flat::kind::Kind;
 use x509_flat::status::{Sized, Status};
-use x509_inspect::{Identifiers, Kind as Inspected, NameForm, Options, Secrets, members};
+use x509_inspect::{Identifiers, NameForm, Options, Secrets};
 
 /// What writes bytes as a type as one object in JSON.
 pub trait Reporter {
@@ -36,7 +39,7 @@ pub trait Reporter {
 pub struct Objects;
 
 impl Reporter for Objects {
-    ghost writes = { λ A kind bytes secrets text. IsReport A kind bytes text };
+    ghost writes = { λ A kind bytes secrets text. IsReport A (reading_of kind) bytes text };
 
     fn object<A: Allocator + Copy>(
         &self,
@@ -45,32 +48,10 @@ impl Reporter for Objects {
         bytes: &[u8],
         secrets: bool,
     ) -> Result<Vec<u8, A>, AllocError> {
-        let kind = inspected(kind);
-        let (members, outcome) = members(alloc, kind, bytes, options(secrets))?;
-        let mut text = beginning(alloc, kind, bytes.len(), word_of(outcome)?)?;
-        text.extend_from_slice(behind_brace(members.as_slice()))?;
-        Ok(text)
-    }
-}
-
-/// The type, as reports name it.
-fn inspected(kind: Kind) -> Inspected
-    ensures { result ≡ inspected_as kind }
-{
-    match kind {
-        Kind::Certificate => Inspected::Certificate,
-        Kind::Request => Inspected::Request,
-        Kind::PrivateKey => Inspected::PrivateKey,
-        Kind::PublicKey => Inspected::PublicKey,
-        Kind::RsaPrivateKey => Inspected::RsaPrivateKey,
-        Kind::RsaPublicKey => Inspected::RsaPublicKey,
-        Kind::EcPrivateKey => Inspected::EcPrivateKey,
-        Kind::Name => Inspected::Name,
-        Kind::Extensions => Inspected::Extensions,
-        Kind::Algorithm => Inspected::Algorithm,
-        Kind::RawAlgorithm => Inspected::RawAlgorithm,
-        Kind::RequestInfo => Inspected::RequestInfo,
-        Kind::TbsCertificate => Inspected::TbsCertificate,
+        match reading(kind) {
+            Reading::Whole(kind) => whole_report(alloc, kind, bytes, options(secrets)),
+            Reading::Outline(kind) => outline_report(alloc, kind, bytes, options(secrets)),
+        }
     }
 }
 
@@ -88,52 +69,6 @@ fn options(secrets: bool) -> Options
         secrets,
         identifiers: Identifiers::Named,
         names: NameForm::InOrder,
-    }
-}
-
-/// What reading came to, in a word.
-///
-/// # Errors
-/// `AllocError` where it was refused for memory.
-fn word_of(outcome: Result<usize, Refused>) -> Result<&'static str, AllocError>
-    ensures { IfOk result (λ word. IsWord outcome word.now) }
-{
-    match outcome {
-        Ok(0) => Ok("ok"),
-        Ok(_) => Ok("deviations"),
-        Err(
-            Refused {
-                error: ReadError::OutOfMemory,
-                at: _,
-            },
-        ) => Err(AllocError),
-        Err(_) => Ok("refused"),
-    }
-}
-
-/// What a report begins with.
-fn beginning<A: Allocator + Copy>(
-    alloc: A,
-    kind: Inspected,
-    length: usize,
-    word: &str,
-) -> Result<Vec<u8, A>, AllocError>
-    ensures { IfOk result (λ text. text.items ≡ beginning_of (kind_name kind) length word.now) }
-{
-    let mut text = String::new(alloc);
-    let name = kind.name();
-    write!(
-        text,
-        "{{\"type\":\"{name}\",\"length\":{length},\"result\":\"{word}\","
-    )?;
-    Ok(text.into_bytes())
-}
-
-/// What stands behind an object's first brace.
-fn behind_brace(object: &[u8]) -> &[u8] {
-    match object {
-        [b'{', members @ ..] => members,
-        _ => object,
     }
 }
 

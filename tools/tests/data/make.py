@@ -89,6 +89,44 @@ def by_openssl(room):
     }
 
 
+REVOKING = """
+[ca]
+default_ca = authority
+[authority]
+database = {room}/index
+crlnumber = {room}/number
+default_md = sha256
+default_crl_days = 30
+crl_extensions = extensions
+[extensions]
+authorityKeyIdentifier = keyid
+"""
+# Two certificates that were revoked: until when they are valid, when that was and why, and their numbers.
+INDEX = """R\t301231235959Z\t240101120000Z,keyCompromise\t0A01\tunknown\t/CN=one
+R\t301231235959Z\t240102120000Z\t00F0\tunknown\t/CN=two
+"""
+
+
+def outlines_by_openssl(room):
+    """What OpenSSL makes of algorithms that aren't read whole, and a revocation list."""
+    for name, text in (("config", CONFIG), ("authority", REVOKING.format(room=room)), ("index", INDEX), ("number", "1001\n")):
+        with open(f"{room}/{name}", "w", encoding="utf-8") as file:
+            file.write(text)
+    rsa, dsa, parameters, certificate = (f"{room}/{it}" for it in ("rsa", "dsa", "parameters", "certificate"))
+    openssl("genpkey", "-algorithm", "RSA", "-pkeyopt", "rsa_keygen_bits:1024", "-out", rsa)
+    openssl("genpkey", "-genparam", "-algorithm", "DSA", "-pkeyopt", "dsa_paramgen_bits:1024", "-out", parameters)
+    openssl("genpkey", "-paramfile", parameters, "-out", dsa)
+    new = ["req", "-new", "-config", f"{room}/config"]
+    openssl(*new, "-x509", "-key", rsa, "-extensions", "ca", "-out", certificate)
+    return {
+        "certificate_md5.pem": openssl(*new, "-x509", "-key", rsa, "-md5", "-extensions", "ca", "-days", "3650"),
+        "request_md5.pem": openssl(*new, "-key", rsa, "-md5", "-reqexts", "request"),
+        "private_key_dsa.pem": openssl("pkcs8", "-topk8", "-nocrypt", "-in", dsa),
+        "public_key_dsa.pem": openssl("pkey", "-in", dsa, "-pubout"),
+        "revocation_list.pem": openssl("ca", "-config", f"{room}/authority", "-gencrl", "-keyfile", rsa, "-cert", certificate),
+    }
+
+
 def sequence(*items):
     return element(0x30, *items)
 
@@ -244,7 +282,7 @@ def main():
     files = {}
     if "--hand" not in sys.argv:
         with tempfile.TemporaryDirectory() as room:
-            files = by_openssl(room)
+            files = by_openssl(room) | outlines_by_openssl(room)
     files |= {it: pem("CERTIFICATE", der) for it, der in by_hand().items()}
     files |= {it: (der.hex(" ", 16) + "\n").encode() for it, der in hexadecimal().items()}
     for it, data in files.items():

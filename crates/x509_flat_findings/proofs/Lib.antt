@@ -1,0 +1,2 @@
+-- Findings, one behind the other.
+pub mod Told

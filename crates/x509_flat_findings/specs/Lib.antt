@@ -1,0 +1,2 @@
+-- Which rules a certificate breaks, as it is told.
+pub mod Findings

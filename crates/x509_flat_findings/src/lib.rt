@@ -1,0 +1,7 @@
+//! For what calls C: which rules a certificate breaks, and where, in a caller's buffer.
+#![tactic(auto)]
+
+pub mod findings;
+pub mod number;
+
+pub use crate::findings::{FlatFinding, findings};
