@@ -6,7 +6,7 @@ ghost use Rattle.cimaroly_c.specs.Exports.{Answers, Arena};
 use crate::over::arena;
 use lent_memory::{Lent, OneBlock};
 use x509_flat::status::Sized;
-use x509_flat_findings::{FlatFinding, findings as flat_findings};
+use x509_flat_findings::findings::{FlatFinding, findings as flat_findings};
 
 /// `findings` of `x509_flat_findings`.
 fn findings(block: &OneBlock, der: &[u8], out: &mut [FlatFinding]) -> Sized

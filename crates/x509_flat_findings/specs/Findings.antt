@@ -64,6 +64,10 @@ AreFindings c at (r ∷ rs) told =
     (Broken r c × (more : List FlatFinding) × (told ≡ flat_finding r at ∷ more) × AreFindings c at rs more)
     ⊎ ((Broken r c → ⊥) × AreFindings c at rs told)
 
+-- the same as a record
+pub record AllFindings {A : Type 0} (c : Certificate A) (at : CertificateFields) (rules : List Rule) (told : List FlatFinding) : Type 0 where
+  pub are : AreFindings c at rules told
+
 -- what a status says of writing a list to the front of a slice
 pub record PutsList (list old new : List FlatFinding) (status : Status) (size : ℕ) : Type 0 where
   pub done : status ≡ answer.Done → Filled list old new size
@@ -76,7 +80,7 @@ pub record PutsList (list old new : List FlatFinding) (status : Status) (size : 
 -- of writing the findings of a certificate whose fields stand there
 pub record PutsFindings {A : Type 0} (c : Certificate A) (at : CertificateFields) (old new : List FlatFinding) (status : Status) (size : ℕ) : Type 0 where
   pub list : List FlatFinding
-  pub are : AreFindings c at all_rules list
+  pub all : AllFindings c at all_rules list
   pub puts : PutsList list old new status size
 
 -- a certificate that the bytes encode, of whose findings a fact holds
@@ -87,7 +91,7 @@ pub record WithFindings (A : Type 0) (bytes : List ℕ) (fact : List FlatFinding
   pub places : CertificateFields
   pub stand : CertificateIn value places bytes tally
   pub list : List FlatFinding
-  pub are : AreFindings value places all_rules list
+  pub all : AllFindings value places all_rules list
   pub holds : fact list
 
 -- what a status says of telling the findings of the certificate that the bytes encode

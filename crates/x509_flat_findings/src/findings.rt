@@ -1,7 +1,7 @@
 //! The findings of a certificate, in a buffer.
 
 ghost use Rattle.std.specs.Prelude.{◌≡◌, ◌≤◌, length, take};
-ghost use Rattle.x509_flat_findings.specs.Findings.{AreFindings, FindingsTold, PutsFindings, PutsList, flat_finding, no_finding};
+ghost use Rattle.x509_flat_findings.specs.Findings.{AllFindings, FindingsTold, PutsFindings, PutsList, flat_finding, no_finding};
 
 use crate::number::number_of;
 use picky_asn1_x509::{Certificate, from_bytes};
@@ -57,7 +57,7 @@ fn found<A: Allocator>(
     requires { length rules.now ≤ length row.old }
     ensures few { result ≤ length rules.now }
     ensures size { length row.new ≡ length row.old }
-    ensures found { AreFindings certificate.now places.now rules.now (take result row.new) }
+    ensures found { AllFindings certificate.now places.now rules.now (take result row.new) }
 {
     let mut count: usize = 0;
     'rules: for index in 0..rules.len() {

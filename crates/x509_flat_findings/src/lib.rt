@@ -3,5 +3,3 @@
 
 pub mod findings;
 pub mod number;
-
-pub use crate::findings::{FlatFinding, findings};

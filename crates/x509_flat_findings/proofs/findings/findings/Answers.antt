@@ -1,0 +1,27 @@
+use Rattle.std.proofs.Common.{refl}
+use Rattle.x509_flat_findings.proofs.findings.findings.Goals as goal
+
+pub returns-in-Ok : goal.returns-in-Ok
+returns-in-Ok g c =
+    let read = c.in-Ok.ensures.read in
+    let puts = c.put_findings-sized.ensures in
+    record {
+      done = λ q. record { value = c.in-Ok.value; tally = read.0; whole = read.1; places = c.of-places.result; stand = c.of-places.ensures read.0 read.1.spelled; list = puts.list; all = puts.all; holds = puts.puts.done q };
+      short = λ q. record { value = c.in-Ok.value; tally = read.0; whole = read.1; places = c.of-places.result; stand = c.of-places.ensures read.0 read.1.spelled; list = puts.list; all = puts.all; holds = puts.puts.short q };
+      refused = λ q. absurd (puts.puts.refused q);
+      memory = λ q. absurd (puts.puts.memory q);
+      unknown = puts.puts.unknown;
+      long = puts.puts.long;
+    }
+
+pub returns-in-Err : goal.returns-in-Err
+returns-in-Err g c =
+    let is = c.unsized_of.ensures.status in
+    record {
+      done = λ q. absurd (is.done q);
+      short = λ q. absurd (is.others.short q);
+      refused = λ q. (record { told = c.unsized_of.ensures.size; same = refl }, c.in-Err.ensures.read (is.refused q));
+      memory = λ q. record { told = c.unsized_of.ensures.size; same = refl };
+      unknown = is.others.unknown;
+      long = is.others.long;
+    }
