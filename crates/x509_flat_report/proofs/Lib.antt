@@ -1,2 +1,2 @@
 -- What a report is made of.
-pub mod Objects
+pub mod Parts

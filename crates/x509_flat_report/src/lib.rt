@@ -9,7 +9,7 @@ mod object;
 mod reading;
 
 use crate::object::{outline_report, whole_report};
-use crate::reading::{Reading, reading};
+use crate::reading::{Reading, read_as};
 use std::alloc::{AllocError, Allocator};
 use x509_flat::kind::Kind;
 use x509_flat::status::{Sized, Status};
@@ -48,7 +48,7 @@ impl Reporter for Objects {
         bytes: &[u8],
         secrets: bool,
     ) -> Result<Vec<u8, A>, AllocError> {
-        match reading(kind) {
+        match read_as(kind) {
             Reading::Whole(kind) => whole_report(alloc, kind, bytes, options(secrets)),
             Reading::Outline(kind) => outline_report(alloc, kind, bytes, options(secrets)),
         }

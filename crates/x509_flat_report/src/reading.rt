@@ -17,7 +17,7 @@ pub enum Reading {
 }
 
 /// As what a type is read.
-pub(crate) fn reading(kind: Kind) -> Reading
+pub(crate) fn read_as(kind: Kind) -> Reading
     ensures { result ≡ reading_of kind }
 {
     match kind {
