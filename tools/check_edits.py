@@ -51,7 +51,7 @@ BUDGETS = [
     (1, ["x509_report_further"]),
     (10, ["x509_oid_names", "x509_oid_text", "x509_name_text", "x509_report_fields", "x509_inspect_parts"]),
     (15, ["x509_inspect", "cimaroly_work", "cimaroly_parts"]),
-    (32, ["lent_memory", "x509_flat", "x509_flat_report", "cimaroly_c"]),
+    (34, ["lent_memory", "x509_flat", "x509_flat_findings", "x509_flat_report", "cimaroly_c"]),
     (9, ["x509_flat_values"]),
     (2, ["x509_make_whole"]),
     (2, ["cimaroly_make"]),

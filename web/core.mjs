@@ -6,6 +6,7 @@
 import { STATUS, useRoom } from "./making.mjs";
 import { DEVIATIONS, Refused } from "./names.mjs";
 import { KINDS, bytesIn, fromBase64, isSequence, isUtf16, kindOfLabel, pemBlocks, use } from "./pem.mjs";
+import { findingOf } from "./rules.mjs";
 import { Values } from "./values.mjs";
 
 export { DEVIATIONS, KINDS, Refused };
@@ -348,6 +349,21 @@ function extensionsOf(der, kind) {
   );
 }
 
+// Which rules a certificate breaks, and where. (The number of a rule has 32 bits.)
+function findingsOf(der) {
+  const call = (room) => {
+    room.unit = 24;
+    const [out, , result] = room.output;
+    return room.callLent("cimaroly_findings", ...room.input, out, BigInt(Math.floor(room.outSize / 24)), result);
+  };
+  const take = (room) =>
+    Array.from({ length: room.word(0) }, (_, index) => {
+      const at = room.out + 24 * index;
+      return findingOf(room.view.getUint32(at, true), room.word(1, at), room.word(2, at));
+    });
+  return run("certificate", der, 24 * 32, call, take, workSizeFor(der));
+}
+
 /** Whether a certificate is for a host, which is a domain name in ASCII or an IP address. */
 function isForHostText(der, host) {
   const text = new TextEncoder().encode(host);
@@ -407,7 +423,7 @@ export class Structure extends Values {
   #fields;
 
   constructor(der, kind) {
-    super({ encoded, extensionsOf, isForHostText });
+    super({ encoded, extensionsOf, findingsOf, isForHostText });
     this.#der = der;
     Object.assign(this, { kind }, checked(der, kind));
   }

@@ -101,7 +101,9 @@ class ByHand(unittest.TestCase):
         parts = "crates/x509_der_parts/specs"
         names = {it.variant: it.name for it in KINDS}
         self.assertEqual(stated(f"{inspected}/Kinds.antt", "kind_name"), names)
-        self.assertEqual(stated(flat, "kind_number"), {it.variant: it.number for it in KINDS})
+        self.assertEqual(stated(flat, "kind_number"), {it.variant: it.number for it in tables.served()})
+        outlines = {make_tables.rattle.outline(it): it.name for it in tables.with_names("outlines")}
+        self.assertEqual(stated("crates/x509_outline_kinds/specs/Kinds.antt", "outline_name"), outlines)
         self.assertEqual(stated(flat, "status_number"), {it.rattle: it.number for it in tables.rows_of("statuses")})
         first = {it.variant: it.label_list[0] if it.label_list else "None" for it in KINDS}
         self.assertEqual(stated(f"{inspected}/Kinds.antt", "label_of"), first)
@@ -127,6 +129,8 @@ class ByHand(unittest.TestCase):
         listed = re.search(r"^all_rules =\n(.*?)$\n*\Z", text_of(path), re.S | re.M).group(1)
         self.assertEqual(re.findall(r"rule\.(\w+)", listed), [it.variant for it in rows])
         self.assertEqual({it.severity for it in rows}, {"error", "warning"})
+        numbers = stated("crates/x509_flat_findings/specs/Findings.antt", "rule_number")
+        self.assertEqual(numbers, {it.variant: it.number for it in rows})
 
     def test_deviations(self):
         body = re.search(r"^pub enum Deviation \{\n(.*?)^}", text_of("crates/x509_der_parts/src/deviation.rt"), re.S | re.M)
@@ -157,7 +161,9 @@ class ByHand(unittest.TestCase):
                     self.assertIn(f'"{it.name}"', named)
 
     def test_formats_on_the_page(self):
-        code, rows = text_of("web/page/formats.mjs"), tables.rows_of("unread")
+        # (a CRL is read)
+        code = text_of("web/page/formats.mjs")
+        rows = [it for it in tables.rows_of("unread") if it.name != "RevocationList"]
         names = dict(re.findall(r'^const (\w+) = \{ name: "(.*?)"', code, re.M))
         self.assertEqual([*names.values()], [it.reason for it in rows])
         labels = re.findall(r'^  \["(.*)", (\w+)\],$', code, re.M)

@@ -1,90 +1,13 @@
 // SPDX-License-Identifier: MIT OR Apache-2.0
 // This file is written by tools/make_commonjs.py from web/cimaroly.d.ts.
 
-/** The types that a structure can be read as. */
-export type Kind =
-  | "certificate"
-  | "request"
-  | "private-key"
-  | "public-key"
-  | "rsa-private-key"
-  | "rsa-public-key"
-  | "ec-private-key"
-  | "name"
-  | "extensions"
-  | "algorithm"
-  | "raw-algorithm"
-  | "request-info"
-  | "tbs-certificate"
-  | "certificate-outline"
-  | "request-outline"
-  | "private-key-outline"
-  | "public-key-outline"
-  | "crl";
+import type { FieldsOf, Kind, Span } from "./fields.cjs";
+
+export type { CertificateFields, FieldName, FieldsByKind, FieldsOf, Kind } from "./fields.cjs";
+export type { PrivateKeyFields, RequestFields, Span } from "./fields.cjs";
 
 /** DER, or PEM or bare base64 as text or bytes; of PEM the first block of the type is read. */
 export type Input = Uint8Array | ArrayBuffer | string;
-
-/** Bytes of the input, from `start` up to but not including `end`. */
-export interface Span {
-  start: number;
-  end: number;
-}
-
-/** Where the fields of a certificate are (RFC 5280, 4.1). Optional ones are missing if the input leaves them out. */
-export interface CertificateFields {
-  tbsCertificate: Span;
-  version?: Span;
-  serialNumber: Span;
-  signature: Span;
-  issuer: Span;
-  validity: Span;
-  subject: Span;
-  subjectPublicKeyInfo: Span;
-  issuerUniqueID?: Span;
-  subjectUniqueID?: Span;
-  extensions?: Span;
-  signatureAlgorithm: Span;
-  signatureValue: Span;
-}
-
-/** Where the fields of a certification request are (RFC 2986, 4). */
-export interface RequestFields {
-  certificationRequestInfo: Span;
-  version: Span;
-  subject: Span;
-  subjectPKInfo: Span;
-  attributes: Span;
-  signatureAlgorithm: Span;
-  signature: Span;
-}
-
-/** Where the fields of a private key are (RFC 5958, 2). Optional ones are missing if the input leaves them out. */
-export interface PrivateKeyFields {
-  version: Span;
-  privateKeyAlgorithm: Span;
-  privateKey: Span;
-  /** An element that isn't understood, such as `attributes [0]`. */
-  skipped?: Span;
-  publicKey?: Span;
-}
-
-/** The types that have named fields. */
-export interface FieldsByKind {
-  certificate: CertificateFields;
-  request: RequestFields;
-  "private-key": PrivateKeyFields;
-}
-
-type KeyOfEach<T> = T extends unknown ? keyof T : never;
-
-/** The name of a field of any type. */
-export type FieldName = KeyOfEach<FieldsByKind[keyof FieldsByKind]>;
-
-/** The fields of a type; of one that isn't known before the program runs, any that there may be. */
-export type FieldsOf<K extends Kind> = [K] extends [keyof FieldsByKind]
-  ? FieldsByKind[K]
-  : { [Name in FieldName]?: Span };
 
 /** A deviation from the one DER encoding that is written. */
 export interface Deviation extends Span {
@@ -291,16 +214,34 @@ export interface ExtensionValues {
   certificateTimestamps: Timestamp[] | null;
 }
 
-/** What a certificate and a request have. */
-export interface SignedValues extends ExtensionValues {
-  subject: Name;
+/** A rule that a certificate breaks, and the field that it is about; of one that isn't there, what is signed. */
+export interface Finding extends Span {
+  /** Its name, as `serial-not-positive` (docs/FINDINGS.md). */
+  rule: string;
+  /** `error` if the clause forbids it; `warning` if it is allowed, or was, and mostly a mistake. */
+  severity: "error" | "warning";
+  /** What is wrong. */
+  text: string;
+  /** The clause that the rule is from, as `RFC 5280, 4.1.2.2`. */
+  clause: string;
+  /** Why it matters. */
+  reason: string;
+}
+
+/** What all that is signed has. */
+export interface FrameValues {
   /** As people count: 3 of a certificate that says `v3`. */
   version: number;
-  publicKey: PublicKey;
   signatureAlgorithm: Identifier;
   signature: Uint8Array;
   /** The bytes that the signature covers. */
   signedBytes: Uint8Array;
+}
+
+/** What a certificate and a request have. */
+export interface SignedValues extends FrameValues, ExtensionValues {
+  subject: Name;
+  publicKey: PublicKey;
 }
 
 export interface CertificateValues extends SignedValues {
@@ -310,6 +251,7 @@ export interface CertificateValues extends SignedValues {
   notBefore: Date;
   /** The last second in which it is. */
   notAfter: Date;
+  findings: Finding[];
 }
 
 /** What each type has; what it hasn't is `undefined`. Of a request it is what is asked for. */
@@ -326,20 +268,20 @@ export interface ValuesByKind {
   "ec-private-key": { publicKey: PublicKey | null };
   name: { subject: Name };
   extensions: ExtensionValues;
-  algorithm: {};
-  "raw-algorithm": {};
-  "request-info": {};
-  "tbs-certificate": {};
+  "certificate-outline": FrameValues &
+    Pick<CertificateValues, "subject" | "issuer" | "serialNumber" | "notBefore" | "notAfter">;
+  "request-outline": FrameValues & Pick<SignedValues, "subject">;
+  crl: FrameValues & Pick<CertificateValues, "issuer">;
 }
 
+type Missing<V> = V extends "publicKey" ? null : undefined;
+
 /** A value of a type; of one that isn't known before the program runs, of any. */
-export type ValueOf<K extends Kind, V extends keyof CertificateValues> = K extends Kind
+export type ValueOf<K extends Kind, V extends keyof CertificateValues> = K extends keyof ValuesByKind
   ? ValuesByKind[K] extends { [Name in V]: infer Value }
     ? Value
-    : V extends "publicKey"
-      ? null
-      : undefined
-  : never;
+    : Missing<V>
+  : Missing<V>;
 
 /** Input that isn't a valid encoding of the type it was read as. */
 export class Refused extends Error {
@@ -412,6 +354,8 @@ export class Structure<K extends Kind = Kind> implements Verdict {
   get signedBytes(): ValueOf<K, "signedBytes">;
   /** The digest of its bytes in hexadecimal, by an algorithm of WebCrypto: `SHA-256` by default. */
   fingerprint(algorithm?: string): Promise<string>;
+  /** The rules of RFC 5280, X.690 and RFC 8017 that a certificate breaks, each once and in their order. */
+  get findings(): ValueOf<K, "findings">;
   /**
    * Whether one of its alternative names is that of a host, a domain name or an IP address (RFC 9525, 6). A wildcard stands
    * for one whole label, the left-most; the common name doesn't count.

@@ -4,7 +4,7 @@
 "use strict";
 
 // What people ask of a structure, as values: all of it is what the library's report tells (docs/JSON.md), or the bytes at
-// the places that it tells.
+// the places that it tells; but for hosts and findings there are calls of their own.
 
 const { Identifier, Name, alternativeName, bytesOf, hexadecimal } = require("./directory.cjs");
 const { digestOf } = require("./digests.cjs");
@@ -16,7 +16,7 @@ const { ISSUERS, OCSP, addressesOf, pointAddresses, policiesOf, timestampsOf } =
 // The members of a report that have the fields of each type.
 const ROOTS = ["Certificate", "CertificationRequest", "PrivateKeyInfo", "SubjectPublicKeyInfo", "RSAPrivateKey"];
 ROOTS.push("RSAPublicKey", "ECPrivateKey", "Name", "Extensions", "AlgorithmIdentifier", "CertificationRequestInfo");
-ROOTS.push("TBSCertificate");
+ROOTS.push("TBSCertificate", "CertificateList");
 
 const EXTENSION_REQUEST = "1.2.840.113549.1.9.14";
 const SUBJECT_KEY = "2.5.29.14";
@@ -94,11 +94,12 @@ class Values {
   #calls;
   #root;
   #extensions;
+  #findings;
   #publicKey;
 
   /**
-   * `encoded(bytes, kind)` gives the DER encoding of bytes, `extensionsOf(bytes, kind)` where their extensions stand, and
-   * `isForHostText(bytes, text)` whether a certificate is for a host.
+   * `encoded(bytes, kind)` gives the DER encoding of bytes, `extensionsOf(bytes, kind)` where their extensions stand,
+   * `findingsOf(bytes)` the rules that a certificate breaks, and `isForHostText(bytes, text)` whether it is for a host.
    */
   constructor(calls) {
     this.#calls = calls;
@@ -108,15 +109,15 @@ class Values {
   get #fields() {
     if (this.#root === undefined) {
       const report = this.report();
-      this.#root = report[ROOTS.find((it) => report[it] !== undefined)];
+      this.#root = report[ROOTS.find((it) => report[it] !== undefined)] ?? {};
     }
     return this.#root;
   }
 
-  // The fields of a certificate or request that are signed.
+  // The fields of a certificate, a request or a revocation list that are signed.
   get #signed() {
-    const { tbsCertificate, certificationRequestInfo } = this.#fields;
-    return tbsCertificate ?? certificationRequestInfo;
+    const { tbsCertificate, certificationRequestInfo, tbsCertList } = this.#fields;
+    return tbsCertificate ?? certificationRequestInfo ?? tbsCertList;
   }
 
   #named(node) {
@@ -267,6 +268,13 @@ class Values {
   /** The digest of the structure's bytes in hexadecimal, by an algorithm of WebCrypto. */
   async fingerprint(algorithm = "SHA-256") {
     return hexadecimal(await digestOf(algorithm, this.der));
+  }
+
+  /** The rules that a certificate breaks, each once and in their order (docs/FINDINGS.md). */
+  get findings() {
+    if (this.kind !== "certificate") return undefined;
+    this.#findings ??= this.#calls.findingsOf(this.der);
+    return this.#findings;
   }
 
   /** Whether one of its alternative names is that of a host (RFC 9525, 6). */

@@ -87,6 +87,18 @@ export class Entry {
     return this.outline ?? this.report;
   }
 
+  /** The rules that it breaks; none of what isn't a certificate, or is refused. */
+  get findings() {
+    if (this.kind !== "certificate" || !["ok", "deviations"].includes(this.report.result)) return [];
+    try {
+      this.foundFindings ??= this.cimaroly.read(this.bytes, this.kind).findings;
+    } catch (error) {
+      if (!isFailure(error)) throw error;
+      this.foundFindings = [];
+    }
+    return this.foundFindings;
+  }
+
   /** The report of what is shown with the secret numbers. */
   reportWithSecrets() {
     const kind = this.outline === null ? this.kind : outlineOf(this.kind);

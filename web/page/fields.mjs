@@ -1,11 +1,12 @@
 // The report of a structure as a list of fields, in the order of the input: each behind the field that it stands in.
 
+import { headerLength } from "./elements.mjs";
 import { isNode, valueOf } from "./values.mjs";
 
 // The extensions whose fields stand on one line if each has a value of its own: basicConstraints, authorityKeyIdentifier,
 // privateKeyUsagePeriod, policyConstraints, and Microsoft's template; and the fields, also of other extensions, of which that holds.
 const LINES = new Set(["2.5.29.19", "2.5.29.35", "2.5.29.16", "2.5.29.36", "1.3.6.1.4.1.311.21.7"]);
-const LINE_FIELDS = new Set(["GeneralSubtree", "PolicyMapping", "SignedCertificateTimestamp"]);
+const LINE_FIELDS = new Set(["GeneralSubtree", "PolicyMapping", "SignedCertificateTimestamp", "revokedCertificate"]);
 const BASIC_CONSTRAINTS = "2.5.29.19";
 
 /** A field of the report. */
@@ -151,4 +152,12 @@ export function fieldOver(fields, start, end) {
     if (inner === undefined) return found;
     found = inner;
   }
+}
+
+/** The field of a place: the innermost that covers it, or that which fills it but for an explicit tag at its front. */
+export function fieldOf(fields, bytes, [start, end]) {
+  const field = fieldOver(fields, start, end);
+  if (field === null || field.start === start) return field;
+  const content = start + headerLength(bytes, start, end);
+  return field.inner.find((it) => it.start === content && it.end === end) ?? field;
 }

@@ -71,8 +71,15 @@ function parted({ algorithm, parameters }) {
   return { algorithm: ALGORITHMS.get(id) ?? name ?? id, id, curve, size: SIZES.get(curve?.id ?? id) };
 }
 
+/** An algorithm that isn't read, as an outline tells it. */
+export function unreadLine({ algorithm: { value } }) {
+  const { id, name } = value;
+  return `${name === undefined ? id : `${id} (${name})`}, not read by this library`;
+}
+
 /** A public key with its algorithm. */
 export function publicLine(identifier, key) {
+  if (identifier.algorithm.read === false) return unreadLine(identifier);
   const { algorithm, id, curve, size } = parted(identifier);
   if (key.modulus !== undefined) return joined(algorithm, named(curve), modulusSize(key.modulus));
   return joined(algorithm, named(curve), id === EC ? pointSize(size, key) : stringSize(size, key.bits));
@@ -80,6 +87,7 @@ export function publicLine(identifier, key) {
 
 /** A private key with its algorithm. */
 export function privateLine(identifier, key) {
+  if (identifier.algorithm.read === false) return unreadLine(identifier);
   const { algorithm, curve, size } = parted(identifier);
   if (key.modulus !== undefined) return joined(algorithm, named(curve), modulusSize(key.modulus));
   if (key.privateKey === undefined) return joined(algorithm, named(curve), stringSize(size, secretBits(key)));

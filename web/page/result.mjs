@@ -7,7 +7,8 @@ import { digestsOf, digestsToCome } from "./digests.mjs";
 import { at, make, withTimes } from "./dom.mjs";
 import { EditForm } from "./editor.mjs";
 import { headerLength } from "./elements.mjs";
-import { fieldOver, fieldsOf } from "./fields.mjs";
+import { fieldOf, fieldOver, fieldsOf } from "./fields.mjs";
+import { headingOf, itemOf } from "./findings.mjs";
 import { Identifiers } from "./identifiers.mjs";
 import { KINDS, toBase64 } from "../pem.mjs";
 import { Saving } from "./saving.mjs";
@@ -84,6 +85,7 @@ export class Result {
     this.drawSummary(shownReport, digestsToCome(shownReport));
     this.takeDigests(shownReport);
     this.listDeviations(FIRST);
+    this.listFindings(structure.findings);
     this.drawRefusal(report);
     this.drawPanes(report);
   }
@@ -181,18 +183,26 @@ export class Result {
       {},
       make("h4", {}, sentenceCase(name)),
       make("p", {}, sentenceOn(name)),
-      make("ul", {}, ...deviations.map((it) => make("li", {}, this.deviation(it)))),
+      make("ul", {}, ...deviations.map((it) => make("li", {}, this.placeOf("deviation", name, it.at)))),
     );
   }
 
-  deviation({ name, at: place }) {
+  listFindings(findings) {
+    at("findings").hidden = findings.length === 0;
+    at("findings-title").textContent = headingOf(findings);
+    const button = ({ text, start, end }) => this.placeOf("finding", text, [start, end]);
+    at("finding-list").replaceChildren(...findings.map((it) => itemOf(it, button(it))));
+  }
+
+  // A button that goes to the place of a deviation or a finding.
+  placeOf(what, name, place) {
     const [start, end] = place;
-    const path = (fieldOver(this.fields, start, end)?.path ?? []).slice(-2);
+    const path = (fieldOf(this.fields, this.raw, place)?.path ?? []).slice(-2);
     const where = path.map((it) => shown(it.label)).join(" › ");
     const told = `${name}: bytes ${start} to ${end}, ${where}`;
     return make(
       "button",
-      { type: "button", class: "deviation", "aria-label": told, onclick: () => this.go(place) },
+      { type: "button", class: what, "aria-label": told, onclick: () => this.go(place) },
       make("span", { class: "place" }, `${start}..${end}`),
       make("span", { class: "where" }, where),
     );
@@ -287,9 +297,9 @@ export class Result {
     at("spoken").textContent = `byte ${byte}: ${hexOf(this.raw[byte])}, in ${path.join(", ")}`;
   }
 
-  /** Goes to a place: selects the field over it, and lights up its bytes. */
+  /** Goes to a place: selects its field, and lights up its bytes. */
   go([start, end]) {
-    const field = fieldOver(this.fields, start, end);
+    const field = fieldOf(this.fields, this.raw, [start, end]);
     if (field === null) return;
     this.tree.select(field, { isTold: false });
     this.light(field, field.start === start && field.end === end ? null : { start, end });

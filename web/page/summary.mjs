@@ -3,7 +3,7 @@
 
 import { standingAt } from "../values.mjs";
 import { digestsIn } from "./digests.mjs";
-import { ecLine, privateLine, publicLine, rsaLine } from "./key.mjs";
+import { ecLine, privateLine, publicLine, rsaLine, unreadLine } from "./key.mjs";
 import { clipped, counted, grouped, shown } from "./text.mjs";
 import { isNode, valueOf } from "./values.mjs";
 
@@ -222,9 +222,14 @@ function extensionsRows(list, bytes) {
   return [["extensions", String(list.items.length), list], ...rows, ...serviceRows(list.items, bytes)];
 }
 
+// How an outline is signed, if that isn't read.
+function signatureRows({ signatureAlgorithm: it }) {
+  return it.algorithm.read === false ? [["signature", unreadLine(it), it]] : [];
+}
+
 const ROWS = {
-  Certificate: (it, bytes) => certificateRows(it.tbsCertificate, bytes),
-  CertificationRequest: (it, bytes) => requestRows(it.certificationRequestInfo, bytes),
+  Certificate: (it, bytes) => [...certificateRows(it.tbsCertificate, bytes), ...signatureRows(it)],
+  CertificationRequest: (it, bytes) => [...requestRows(it.certificationRequestInfo, bytes), ...signatureRows(it)],
   PrivateKeyInfo: (it) => [["key", privateLine(it.privateKeyAlgorithm, it.privateKey), it.privateKeyAlgorithm]],
   SubjectPublicKeyInfo: (it) => [["key", publicLine(it.algorithm, it.subjectPublicKey), it]],
   RSAPrivateKey: (it) => [["key", rsaLine(it.modulus), it.modulus]],
@@ -234,7 +239,7 @@ const ROWS = {
   Extensions: extensionsRows,
   CertificationRequestInfo: requestRows,
   TBSCertificate: certificateRows,
-  CertificateList: (it, bytes) => listRows(it.tbsCertList, bytes),
+  CertificateList: (it, bytes) => [...listRows(it.tbsCertList, bytes), ...signatureRows(it)],
   AlgorithmIdentifier: (it) => [["algorithm", valueOf("", it.algorithm, new Uint8Array(1)).whole, it]],
 };
 

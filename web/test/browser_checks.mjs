@@ -2,6 +2,7 @@
 
 import assert from "node:assert/strict";
 import { DATA, PROGRAM, SAMPLES, run, sample } from "./data.mjs";
+import { BROKEN, FAULTY } from "./faulty.mjs";
 import { LARGE, MARKUP, NESTED } from "./hostile.mjs";
 import * as inPage from "./in_page.mjs";
 import { ACTIVE, LIT, RESULT, ROWS, SAVED, click, count, text, texts } from "./in_page.mjs";
@@ -38,11 +39,13 @@ function covered(line) {
 
 async function sameAsProgram(page, name) {
   const kind = await page.run(`document.getElementById("kind").value`);
-  const words = ["--type", kind, `${DATA}/${name}`];
-  const { file, line, label, ...told } = JSON.parse(run("show", "--json", ...words));
+  // (a revocation list is one by its label)
+  const words = [...(kind === "crl" ? [] : ["--type", kind]), `${DATA}/${name}`];
+  // (only programs tell the outline of what they refuse)
+  const { file, line, label, outline, ...told } = JSON.parse(run("show", "--json", ...words));
   assert.deepEqual(JSON.parse(await page.run(SAVED)), told, name);
   if (told.result === "refused") return;
-  const lines = linesOf(run("show", ...words)).map(covered);
+  const lines = linesOf(run("show", ...(kind === "crl" ? ["--full"] : []), ...words)).map(covered);
   // (the program puts on one line what the page also folds into one)
   const rows = (await page.run(ROWS)).map(covered);
   assert.deepEqual(rows, lines, name);
@@ -107,6 +110,33 @@ async function goToDeviations(context) {
         if (field !== "") assert.ok(field.endsWith(label), `${name}: ${label} is selected for ${field}`);
         assert.equal(marked, place, name);
       }
+    }
+  });
+}
+
+async function goToFindings(context) {
+  const labels = ["issuer", "issuerUniqueID", "subjectUniqueID", "extensions", "extensions", "extensions"];
+  return withPage(context, TALL, async (page) => {
+    await page.drop("faulty.der", FAULTY);
+    const places = BROKEN.map(([, start, end]) => `${start}..${end}`);
+    assert.deepEqual(await page.run(texts(".finding .place")), places);
+    for (const [index, place] of places.entries()) {
+      const gone = await page.run(inPage.goTo(index, "finding"));
+      assert.deepEqual(gone, [place, place, labels[index]]);
+    }
+    assert.equal(await page.run(text("findings-title")), "Findings: 5 errors and 1 warning");
+    const [title] = await page.run(texts("#finding-list h4"));
+    assert.equal(title, "Issuer is empty");
+    const [severity, reason] = await page.run(texts("#finding-list p"));
+    assert.equal(severity, "Error RFC 5280, 4.1.2.4");
+    assert.equal(reason, "The issuer’s own certificate is looked for by this name.");
+    const { nodes } = await page.send("Accessibility.getFullAXTree");
+    const names = nodes.filter((it) => it.role?.value === "button" && !it.ignored).map((it) => it.name?.value);
+    assert.ok(names.includes("issuer is empty: bytes 19 to 21, tbsCertificate › issuer"), names.join("; "));
+    for (const name of ["certificate_rsa.pem", "request_rsa.pem", "private_key_ec.pem", "refused_month_13.pem"]) {
+      await page.drop(name, sample(name));
+      assert.equal(await page.run(`document.getElementById("findings").checkVisibility()`), false, name);
+      assert.equal(await page.run(count(".finding")), 0, name);
     }
   });
 }
@@ -315,6 +345,8 @@ async function lookAtAll(context, size) {
     await page.run(click("#paste-open"));
     ratios.push(await look(context, page, "form", size));
     await page.run(click("#paste-open"));
+    await page.drop("faulty.der", FAULTY);
+    ratios.push(await look(context, page, "findings", size));
     for (const it of LOOKED_AT) {
       await page.drop(`${it}.pem`, sample(`${it}.pem`));
       await page.run("scrollTo(0, 0)");
@@ -366,6 +398,7 @@ export const checks = [
   ["a selected field lights up its bytes", lightFields],
   ["a byte that is clicked selects its innermost field", pickBytes],
   ["a deviation goes to its bytes", goToDeviations],
+  ["a finding goes to the bytes of its field", goToFindings],
   ["a refusal stands where reading stopped", refusal],
   ["secrets stay covered until they are clicked", secrets],
   ["keys move in the tree and in the bytes", keyboard],

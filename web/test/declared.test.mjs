@@ -1,4 +1,4 @@
-// Whether cimaroly.d.ts has types for all that a structure has: each property and call, and each field of each type.
+// Whether there are types for all that a structure has: each property and call, and each field of each type.
 
 import assert from "node:assert/strict";
 import { readFileSync } from "node:fs";
@@ -7,7 +7,7 @@ import { Structure, read } from "../cimaroly.mjs";
 import { structuresIn } from "../page/input.mjs";
 import { pathOf, sample } from "./data.mjs";
 
-const TYPES = readFileSync(pathOf("web/cimaroly.d.ts"), "utf-8");
+const TYPES = ["cimaroly", "fields"].map((it) => readFileSync(pathOf(`web/${it}.d.ts`), "utf-8")).join("");
 
 // The names that an interface or a class declares.
 function declaredIn(head) {
@@ -28,7 +28,9 @@ test("each property and call of a structure has a type", () => {
 
 test("each value of a type has one", () => {
   const values = declaredIn("interface CertificateValues");
-  for (const it of ["SignedValues", "ExtensionValues"]) for (const name of declaredIn(`interface ${it}`)) values.add(name);
+  for (const it of ["SignedValues", "FrameValues", "ExtensionValues"]) {
+    for (const name of declaredIn(`interface ${it}`)) values.add(name);
+  }
   const reading = read(sample("certificate_rsa.pem"));
   for (const name of values) assert.notEqual(reading[name], undefined, name);
 });

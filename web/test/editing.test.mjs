@@ -18,7 +18,7 @@ const entryOf = (name) => entries.find(([it]) => it === name)[1];
 for (const [name, entry] of entries) {
   test(`the JSON of ${name} makes it again`, () => {
     const why = whyNotEdited(entry);
-    assert.equal(why === "", !/private_key|refused|raw_algorithm/.test(name), why);
+    assert.equal(why === "", !/private_key|refused|raw_algorithm|_md5|_dsa|revocation/.test(name), why);
     if (why !== "") return;
     const text = editableText(entry);
     assert.doesNotMatch(text, /"at"|[\u007f-\u009f\u200b-\u200f\u202a-\u202e\u2066-\u2069]/);

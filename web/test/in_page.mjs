@@ -71,9 +71,9 @@ export const ACTIVE = `(() => {
   return document.getElementById(tree.getAttribute("aria-activedescendant")).querySelector(".label").textContent;
 })()`;
 
-/** Goes to a deviation: its place, the place that is marked then, and the field that is selected. */
-export const goTo = (index) => `(() => {
-  const link = document.querySelectorAll(".deviation")[${index}];
+/** Goes to a deviation, or a finding: its place, the place that is marked then, and the field that is selected. */
+export const goTo = (index, what = "deviation") => `(() => {
+  const link = document.querySelectorAll(".${what}")[${index}];
   link.click();
   const pointed = document.querySelectorAll(".cells .pointed");
   const marked = pointed.length > 0 ? pointed : document.querySelectorAll(".cells .lit");

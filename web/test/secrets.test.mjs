@@ -28,7 +28,9 @@ const isLeft = (bytes) => memories.some(({ buffer }) => Buffer.from(buffer).incl
 
 test("what a call on a private key leaves is overwritten, whatever it was taken for", () => {
   assert.equal(memories.length, 1);
-  for (const kind of KINDS.filter((it) => it !== "private-key")) assert.throws(() => read(KEY, kind), Refused);
+  const others = KINDS.filter((it) => it !== "private-key" && it !== "private-key-outline");
+  for (const kind of others) assert.throws(() => read(KEY, kind), Refused);
+  assert.equal(read(KEY, "private-key-outline").isDer, true);
   const key = read(KEY, "private-key");
   assert.deepEqual(Buffer.from(key.bytes(key.fields.privateKey)), KEY.subarray(12));
   assert.deepEqual(Buffer.from(encode(KEY, "private-key")), KEY);

@@ -23,9 +23,12 @@ const NOT_HERE = PROGRAM === null && "the program isn't there: set CIMAROLY, or 
 const structures = SAMPLES.map((name) => [name, new Entry(cimaroly, structuresIn(sample(name))[0])]);
 const read = structures.filter(([, it]) => it.kind !== null);
 
-// What the program tells besides of where the bytes come from.
+// How the program reads a sample as the same type; a revocation list is one by its label.
+const wordsFor = (name, { kind }) => [...(kind === "crl" ? [] : ["--type", kind]), `${DATA}/${name}`];
+
+// What the program tells besides of where the bytes come from, and of the outline of what it refuses.
 function told(line) {
-  const { file, line: number, label, ...rest } = parseReport(line);
+  const { file, line: number, label, outline, ...rest } = parseReport(line);
   return rest;
 }
 
@@ -37,6 +40,8 @@ function rowsOf(text) {
 
 // (a program that was built earlier has none of these rows, nor the names that a request asks for)
 const LATER = new Set(["serial", "pin", "SHA-256", "SHA-1", "names", "OCSP", "CA issuers", "CRL", "policies"]);
+// (the program tells a revocation list's number among its fields alone)
+LATER.add("number");
 
 // The rows that the page has, and those that the program prints too.
 function assertRows(report, bytes, text) {
@@ -50,21 +55,22 @@ function assertRows(report, bytes, text) {
 for (const [name, structure] of read) {
   test(`the report of ${name}`, { skip: NOT_HERE }, () => {
     for (const secrets of [false, true]) {
-      const words = ["show", "--json", "--type", structure.kind, ...(secrets ? ["--secrets"] : []), `${DATA}/${name}`];
+      const words = ["show", "--json", ...(secrets ? ["--secrets"] : []), ...wordsFor(name, structure)];
       assert.deepEqual(report(structure.bytes, structure.kind, { secrets }), told(run(...words)));
     }
     assert.doesNotMatch(reportText(structure.bytes, structure.kind), /\n/);
   });
 
   test(`the lines of ${name}`, { skip: NOT_HERE }, () => {
-    const text = run("show", "--type", structure.kind, `${DATA}/${name}`);
+    // (with the entries of a revocation list)
+    const text = run("show", ...(structure.kind === "crl" ? ["--full"] : []), ...wordsFor(name, structure));
     if (structure.report.result === "refused") return;
     assert.deepEqual(shownOf(structure.report, structure.bytes), linesOf(text));
   });
 
   test(`the summary of ${name}`, { skip: NOT_HERE }, () => {
-    const text = run("show", "--type", structure.kind, `${DATA}/${name}`);
-    assertRows(structure.report, structure.bytes, text);
+    const text = run("show", ...wordsFor(name, structure));
+    assertRows(structure.shownReport, structure.bytes, text);
   });
 }
 

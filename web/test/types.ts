@@ -1,8 +1,8 @@
 // What tsc makes of the types of the package: it must find nothing wrong here, but where it is said that it does.
 
 import { check, checkExtension, encode, read, Refused, report } from "cimaroly";
-import type { AlternativeName, CertificateFields, Deviation, Extension, FieldName, Kind, Name } from "cimaroly";
-import type { Policy, PrivateKeyFields, PublicKey, RequestFields, Span, Structure } from "cimaroly";
+import type { AlternativeName, CertificateFields, Deviation, Extension, FieldName, Finding, Kind } from "cimaroly";
+import type { Name, Policy, PrivateKeyFields, PublicKey, RequestFields, Span, Structure } from "cimaroly";
 
 export function startOfVersion(pem: string): number | undefined {
   const version: Span | undefined = read(pem).fields["version"];
@@ -52,7 +52,7 @@ export function fieldsOfEach(der: Uint8Array, kind: Kind): Span[] {
   // @ts-expect-error A request has no such field.
   request.fields.serialNumber;
   // @ts-expect-error There is no such type.
-  read(der, "crl");
+  read(der, "pkcs7");
   const any: Structure = read(der, kind);
   const names: FieldName[] = ["subjectPKInfo", "skipped", "issuerUniqueID"];
   const found = names.map((it) => any.fields[it]).filter((it): it is Span => it !== undefined && areKnown[0]);
@@ -81,12 +81,16 @@ export async function valuesOfEach(der: Uint8Array, kind: Kind): Promise<string[
     Same<typeof request.issuer, undefined>,
     Same<typeof key.publicKey, PublicKey | null>,
     Same<typeof any.issuer, Name | undefined>,
+    Same<typeof certificate.findings, Finding[]>,
+    Same<typeof request.findings, undefined>,
     Same<ReturnType<typeof certificate.validity>, "valid" | "not yet valid" | "expired">,
-  ] = [true, true, true, true, true, true, true, true, true, true, true, true, true];
+  ] = [true, true, true, true, true, true, true, true, true, true, true, true, true, true, true];
   // @ts-expect-error A certificate may have no such extension.
   certificate.alternativeNames.length;
   // @ts-expect-error There is no such usage.
   certificate.keyUsage?.includes("signing");
+  // @ts-expect-error There is no such severity.
+  certificate.findings.filter((it) => it.severity === "info");
   // @ts-expect-error A domain name has no bytes.
   certificate.alternativeNames?.map((it) => it.bytes);
   const addresses = certificate.alternativeNames?.map((it) => (it.type === "iPAddress" ? it.bytes.length : 0)) ?? [];

@@ -10,9 +10,11 @@
 
 `check` tells whether bytes encode a structure of a kind, and how they deviate from its DER encoding. `read` gives a
 `Certificate`, a `Request`, a `PublicKey`, a `PrivateKey` or a `RevocationList`, with their values; an `Outline` of what is of
-an algorithm that isn't read; and of other kinds a `Structure`, which they all are: it has fields, deviations, signed part, DER encoding and report. `read_all` gives a list of them. What is refused
-raises `Refused`, which says why, at which byte and in which field. `read_each` gives what came of each PEM block, and goes on
-behind those that are refused. `check_extension` checks the value of an extension that `check` takes as octets.
+an algorithm that isn't read; and of other kinds a `Structure`, which they all are: it has fields, deviations, signed
+part, DER encoding and report. `read_all` gives a list of them. What is refused raises `Refused`, which says why, at
+which byte and in which field. `read_each` gives what came of each PEM block, and goes on behind those that are refused.
+`check_extension` checks the value of an extension that `check` takes as octets, and a certificate's `findings` tell
+which rules it breaks.
 
 `RequestBuilder` and `CertificateBuilder` build what is to be signed, any signer signs it, and `with_signature` puts both
 together. `make` makes structures of descriptions. What can't be made raises `NotMade`, which says why.
@@ -22,6 +24,7 @@ overwritten, and no `repr` shows the bytes of a field.
 """
 
 from ._certificates import Certificate, Request
+from ._findings import Finding
 from ._keys import Algorithm, PrivateKey, PublicKey
 from ._kinds import KINDS, Deviation, Kind, Reason, Refused
 from ._making import CertificateBuilder, NotMade, RequestBuilder, ToBeSigned, make, signature_algorithm
@@ -48,6 +51,7 @@ __all__ = [
     "Extension",
     "Extensions",
     "Field",
+    "Finding",
     "GeneralName",
     "Kind",
     "Name",

@@ -9,6 +9,7 @@ from typing import Any, NamedTuple, Optional, Union
 
 from . import _hosts, _library, _services, _values
 from ._armour import encoded
+from ._findings import Finding, finding
 from ._keys import Algorithm, PublicKey, signature_algorithm
 from ._names import COMMON_NAME, Address, AlternativeNames, Name, alternative_names, alternative_names_in
 from ._names import element, integer, octets
@@ -302,6 +303,12 @@ class Certificate(_Signed):
         """What names the issuer's key (RFC 5280, 4.2.1.1)."""
         told = self._told_of(_AUTHORITY_KEY)
         return octets(told["keyIdentifier"]["value"]) if told is not None and "keyIdentifier" in told else None
+
+    @cached_property
+    def findings(self) -> tuple[Finding, ...]:
+        """The rules of RFC 5280, X.690 and RFC 8017 that it breaks (docs/FINDINGS.md), in their order, each once. No
+        signature is checked, and no clock is read."""
+        return tuple(finding(it.rule, it.at.start, it.at.end) for it in _library.findings(self._der))
 
     def matches_host(self, host: Union[str, Address]) -> bool:
         # (by the library, which looks at the first list of names: of two, neither counts)

@@ -26,6 +26,8 @@ _HERE = os.path.dirname(os.path.abspath(__file__))
 _NAME = "libcimaroly.so"
 
 _NUMBERS = {kind: number for number, kind in enumerate(KINDS, 1)}
+# The call that is for certificates alone, and isn't told the kind.
+_FINDINGS = "cimaroly_findings"
 
 # How much memory a thread keeps between calls, and how many items or bytes a first answer has room for.
 _KEPT = 1 << 20
@@ -47,6 +49,12 @@ class Place(ctypes.Structure):
     """`struct cimaroly_place`."""
 
     _fields_ = [("deviation", c_size_t), ("start", c_size_t), ("end", c_size_t)]
+
+
+class FoundAt(ctypes.Structure):
+    """`struct cimaroly_finding`."""
+
+    _fields_ = [("rule", c_uint32), ("at", Span)]
 
 
 class Signed(ctypes.Structure):
@@ -134,6 +142,7 @@ def _load() -> dict[str, Callable[..., int]]:
         "cimaroly_check": (*of_a_kind, c_void_p),
         "cimaroly_encode": (*lent, *buffer),
         "cimaroly_places": (*lent, *buffer),
+        _FINDINGS: making,
         "cimaroly_signed_part": (*of_a_kind, c_void_p),
         "cimaroly_extensions": (*of_a_kind, *buffer),
         "cimaroly_report": (*lent, c_bool, *buffer),
@@ -274,9 +283,10 @@ def input_at(der: Held) -> Any:
 def _asked(name: str, kind: Kind, der: Held, *arguments: Any) -> int:
     """The status of a call on an input of a kind, which is given more memory until that is enough."""
     call, size = CALLS[name], 16 * len(der) + 16384
+    kinds = () if name == _FINDINGS else (_NUMBERS[kind],)
     while True:
         lent = _lent(size)
-        status = call(byref(lent.of_library), _NUMBERS[kind], input_at(der), len(der), *arguments)
+        status = call(byref(lent.of_library), *kinds, input_at(der), len(der), *arguments)
         if kind in PRIVATE:
             lent.overwrite()
         if status != OUT_OF_MEMORY:
@@ -414,6 +424,11 @@ def _items(name: str, kind: Kind, der: Held, item: type[ctypes.Structure]) -> li
 def places(kind: Kind, der: Held) -> list[Place]:
     """Where each deviation stands."""
     return _items("cimaroly_places", kind, der, Place)
+
+
+def findings(der: Held) -> list[FoundAt]:
+    """Which rules a certificate breaks, and where."""
+    return _items(_FINDINGS, "certificate", der, FoundAt)
 
 
 def extensions(kind: Kind, der: Held) -> list[tuple[int, ...]]:

@@ -26,7 +26,7 @@ PARTS = [
     (block("CERTIFICATE", "MII*"), "CERTIFICATE", "line {}: invalid base64"),
     (block("PRIVATE KEY", "MII*"), "PRIVATE KEY", "line {}: invalid base64"),
     (block("PRIVATE KEY", "MAA"), "PRIVATE KEY", "line {}: invalid base64"),
-    (block("X509 CRL", "MAA="), "X509 CRL", ""),
+    (block("PKCS7", "MAA="), "PKCS7", ""),
     (block("CERTIFICATE", "MAA=", "X509 CRL"), "CERTIFICATE", "line {}: the end of another block than CERTIFICATE"),
     (b"-----BEGIN CERTIFICATE-----\nMAA=\n", "CERTIFICATE", "line {}: the block CERTIFICATE has no end"),
     (KEY.replace(b"\n", b" \r\n"), "PRIVATE KEY", ""),
@@ -117,7 +117,7 @@ class All(unittest.TestCase):
             cimaroly.read_all(CERTIFICATE + MONTH_13 + ENCRYPTED)
         with self.assertRaisesRegex(cimaroly.PemError, r"no PEM block of kind request \(blocks: CERTIFICATE, PRIVATE KEY\)"):
             cimaroly.read_all(KEY + CERTIFICATE, "request")
-        self.assertEqual([it.kind for it in cimaroly.read_all(KEY + block("X509 CRL", "MAA="))], ["private-key"])
+        self.assertEqual([it.kind for it in cimaroly.read_all(KEY + block("PKCS7", "MAA="))], ["private-key"])
 
     def test_one_is_read_in_spite_of_others(self) -> None:
         self.assertEqual(cimaroly.read(ENCRYPTED + CERTIFICATE), cimaroly.read(CERTIFICATE))

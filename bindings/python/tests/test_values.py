@@ -577,8 +577,8 @@ class Readme(unittest.TestCase):
             text = page.read().replace("\n```", "\n\n")
 
         def opened(name: str, mode: str) -> IO[bytes]:
-            self.assertEqual((name, mode), ("leaf.pem", "rb"))
-            return io.BytesIO(file("certificate_ed25519.pem"))
+            self.assertEqual(mode, "rb")
+            return io.BytesIO(file({"leaf.pem": "certificate_ed25519.pem", "md5.pem": "certificate_md5.pem"}[name]))
 
         shown = doctest.DocTestParser().get_doctest(text, {"cimaroly": cimaroly, "open": opened}, "README", None, 0)
         found = doctest.DocTestRunner().run(shown)

@@ -5,6 +5,7 @@ use alloc::vec::Vec;
 
 use crate::error::Error;
 use crate::fields::{Certificate, Extension, PrivateKey, Request};
+use crate::findings::{Finding, Rule};
 use crate::keys::PublicKey;
 use crate::kind::Kind;
 use crate::library::{self, ExtensionPlaces};
@@ -84,6 +85,16 @@ pub fn encode(kind: Kind, der: &[u8]) -> Result<Vec<u8>, Error> {
 pub fn places(kind: Kind, der: &[u8]) -> Result<Vec<Place>, Error> {
     filled(&Place::EMPTY, 16, |out| {
         lent(der, |reader| reader.places(kind, der, out).map(<[Place]>::len))
+    })
+}
+
+/// As [`Reader::findings`].
+///
+/// # Errors
+/// [`Error::Refused`], and [`Error::OutOfMemory`] if the allocator refuses memory.
+pub fn findings(der: &[u8]) -> Result<Vec<Finding>, Error> {
+    filled(&Finding::EMPTY, Rule::ALL.len(), |out| {
+        lent(der, |reader| reader.findings(der, out).map(<[Finding]>::len))
     })
 }
 

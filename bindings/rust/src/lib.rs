@@ -46,6 +46,7 @@ mod error;
 mod few;
 mod field_path;
 mod fields;
+mod findings;
 mod further;
 mod general_names;
 mod keys;
@@ -66,12 +67,13 @@ mod values;
 
 #[cfg(feature = "alloc")]
 pub use crate::allocated::{
-    certificate, check, encode, extensions, places, private_key, public_key, report, request,
-    signed_part,
+    certificate, check, encode, extensions, findings, places, private_key, public_key, report,
+    request, signed_part,
 };
 pub use crate::error::{Error, Reason, Refused};
 pub use crate::field_path::FieldPath;
 pub use crate::fields::{Certificate, Extension, Field, PrivateKey, Request};
+pub use crate::findings::{Finding, Rule};
 pub use crate::further::check_extension;
 pub use crate::general_names::{GeneralName, GeneralNames};
 pub use crate::keys::{Digest, PublicKey, RsaPrivateKey, SignatureAlgorithm};

@@ -9,12 +9,13 @@
 pub(crate) mod keys;
 #[cfg(feature = "alloc")]
 pub(crate) mod making;
+pub(crate) mod places;
 pub(crate) mod services;
 
 use core::mem::{size_of_val, MaybeUninit};
 
 use crate::times::Time;
-use crate::told::{Counts, Place};
+use crate::told::Counts;
 
 /// 16 bytes of the memory that a [`crate::Reader`] works in. What they hold before a call doesn't
 /// matter, and after it says nothing.
@@ -206,7 +207,7 @@ pub(crate) mod status {
 mod c {
     use super::{
         AttributePlace, BasicConstraints, Certificate, ExtensionPlaces, FlatPemBlock,
-        GeneralNamePlace, Memory, Place, PrivateKey, Request, Signed, Span, Time, Verdict, USAGES,
+        GeneralNamePlace, Memory, PrivateKey, Request, Signed, Span, Time, Verdict, USAGES,
     };
 
     extern "C" {
@@ -224,15 +225,6 @@ mod c {
             out: *mut u8,
             out_size: usize,
             size: *mut usize,
-        ) -> u32;
-        pub(super) fn cimaroly_places(
-            memory: *mut Memory,
-            kind: u32,
-            der: *const u8,
-            der_size: usize,
-            places: *mut Place,
-            room: usize,
-            count: *mut usize,
         ) -> u32;
         pub(super) fn cimaroly_signed_part(
             kind: u32,
@@ -362,19 +354,6 @@ pub(crate) fn encode(
     let (at, room) = (out.as_mut_ptr(), out.len());
     // SAFETY: as above; `out` has room for `room` bytes.
     unsafe { c::cimaroly_encode(&mut memory, kind, der.as_ptr(), der.len(), at, room, size) }
-}
-
-pub(crate) fn places(
-    memory: &mut [Block],
-    kind: u32,
-    der: &[u8],
-    out: &mut [Place],
-    count: &mut usize,
-) -> u32 {
-    let mut memory = Memory::of(memory);
-    let (at, room) = (out.as_mut_ptr(), out.len());
-    // SAFETY: as above; `out` has room for `room` places, of which any numbers are one.
-    unsafe { c::cimaroly_places(&mut memory, kind, der.as_ptr(), der.len(), at, room, count) }
 }
 
 pub(crate) fn signed_part(kind: u32, der: &[u8], told: &mut Signed) -> u32 {

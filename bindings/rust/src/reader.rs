@@ -6,6 +6,7 @@ use core::str;
 use crate::error::{Error, Reason, Refused};
 use crate::field_path::FieldPath;
 use crate::fields::{Certificate, Extension, Field, PrivateKey, Request};
+use crate::findings::Finding;
 use crate::keys::PublicKey;
 use crate::kind::Kind;
 use crate::library::{self, status, Block, ExtensionPlaces, Span};
@@ -85,8 +86,25 @@ impl<'m> Reader<'m> {
         out: &'o mut [Place],
     ) -> Result<&'o [Place], Error> {
         let mut count = 0;
-        let status = library::places(self.memory, kind as u32, der, out, &mut count);
+        let status = library::places::places(self.memory, kind as u32, der, out, &mut count);
         self.done(status, kind, der, count)?;
+        Ok(out.get(..count).unwrap_or_default())
+    }
+
+    /// Writes which rules a certificate breaks to the front of `out`, in the order of
+    /// [`Rule::ALL`](crate::Rule::ALL): each that it breaks, once. No signature is checked, and no
+    /// clock is read.
+    ///
+    /// # Errors
+    /// [`Error::Refused`], [`Error::OutOfMemory`] and [`Error::BufferTooShort`].
+    pub fn findings<'o>(
+        &mut self,
+        der: &[u8],
+        out: &'o mut [Finding],
+    ) -> Result<&'o [Finding], Error> {
+        let mut count = 0;
+        let status = library::places::findings(self.memory, der, out, &mut count);
+        self.done(status, Kind::Certificate, der, count)?;
         Ok(out.get(..count).unwrap_or_default())
     }
 
