@@ -1,5 +1,6 @@
 //! Object identifiers: their text and their names; and the text of names.
 
+ghost use Rattle.std.specs.Prelude.{◌≡◌, [], option_map, unwrap_or};
 ghost use Rattle.cimaroly_c.specs.Exports.{Arena};
 ghost use Rattle.cimaroly_c.specs.Oids.{NameTextWritten, NameWritten, OidNameWritten, SomeTextWritten, TellsName, TextWritten};
 
@@ -45,12 +46,22 @@ fn write_name(text: &[u8], out: &mut [u8], size: &mut usize) -> u32
     Status::Done.number()
 }
 
+/// The bytes of a name; none where there is none.
+fn bytes_of(name: Option<&'static str>) -> &'static [u8]
+    ensures { result.now ≡ unwrap_or (option_map (λ t. t.now) name.entry) [] }
+{
+    match name {
+        Some(text) => text.as_bytes(),
+        None => b"",
+    }
+}
+
 /// Writes the name of an object identifier to the front of a buffer, as in `commonName`: nothing where it has none.
 #[unsafe(no_mangle)]
 pub extern "C" fn cimaroly_oid_name(content: &[u8], out: &mut [u8], size: &mut usize) -> u32
     ensures { OidNameWritten content.now out.old out.new result size.new }
 {
-    write_name(name_in(content).unwrap_or("").as_bytes(), out, size)
+    write_name(bytes_of(name_in(content)), out, size)
 }
 
 /// Writes the text of a name to the front of a buffer, if there is room for it.
