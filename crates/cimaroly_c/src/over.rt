@@ -1,6 +1,7 @@
 //! The calls over a block of memory, each in an arena of its own.
 
 ghost use Rattle.std.specs.Prelude.{◌≡◌, ◌+◌, ◌*◌, ◌/◌, ◌<◌, ◌≤◌, length};
+ghost use Rattle.picky_asn1_x509.specs.Certificates.{certificate};
 ghost use Rattle.x509_flat.specs.Checks.{TellsOf};
 ghost use Rattle.x509_flat.specs.Constraints.{ConstraintsTold};
 ghost use Rattle.x509_flat.specs.Encodings.{EncodesOf};
