@@ -14,10 +14,10 @@
  * - What is written may overlap neither the input nor anything else that the call is given.
  * - Nothing is kept between calls, so any number of threads may call at once, each with memory of its own.
  * - A call never calls malloc. Calls that only look take no memory: cimaroly_check works in less than 2 KB of the stack,
- *   whatever the size of the input. Calls that make, cimaroly_encode, cimaroly_report and, if the input has deviations,
- *   cimaroly_places work in memory that they are lent (struct cimaroly_memory), which is the caller's again when they
- *   return. Where the environment is hosted, their forms whose names end in _malloc take what is needed from malloc, ask
- *   for more if it was too little, and free it.
+ *   whatever the size of the input. Calls that make, cimaroly_encode, cimaroly_findings, cimaroly_report and, if the
+ *   input has deviations, cimaroly_places work in memory that they are lent (struct cimaroly_memory), which is the
+ *   caller's again when they return. Where the environment is hosted, their forms whose names end in _malloc take what
+ *   is needed from malloc, ask for more if it was too little, and free it.
  * - A result, a size or a count is written whatever the status, and is all zeros unless stated otherwise. A buffer is
  *   written with CIMAROLY_OK alone; with every other status it is unchanged, unless stated otherwise.
  * - Places count bytes of the input from 0. A span covers the bytes start..end, without the one at end.
@@ -47,21 +47,29 @@
 extern "C" {
 #endif
 
-/* What an input can be read as. */
+/*
+ * What an input can be read as. Of the outlines and of CIMAROLY_CRL the frame is read: algorithms have any identifier and
+ * any parameters, keys and signatures are bits, names have strings of any type, and extensions are octets.
+ */
 enum cimaroly_kind {
-    CIMAROLY_CERTIFICATE = 1,     /* Certificate (RFC 5280, 4.1) */
-    CIMAROLY_REQUEST = 2,         /* CertificationRequest (RFC 2986, 4) */
-    CIMAROLY_PRIVATE_KEY = 3,     /* PrivateKeyInfo, or OneAsymmetricKey (RFC 5958, 2) */
-    CIMAROLY_PUBLIC_KEY = 4,      /* SubjectPublicKeyInfo (RFC 5280, 4.1.2.7) */
-    CIMAROLY_RSA_PRIVATE_KEY = 5, /* RSAPrivateKey (RFC 8017, A.1.2) */
-    CIMAROLY_RSA_PUBLIC_KEY = 6,  /* RSAPublicKey (RFC 8017, A.1.1) */
-    CIMAROLY_EC_PRIVATE_KEY = 7,  /* ECPrivateKey (RFC 5915, 3) */
-    CIMAROLY_NAME = 8,            /* Name (RFC 5280, 4.1.2.4) */
-    CIMAROLY_EXTENSIONS = 9,      /* Extensions (RFC 5280, 4.1) */
-    CIMAROLY_ALGORITHM = 10,      /* AlgorithmIdentifier (RFC 5280, 4.1.1.2), of an algorithm that is known */
-    CIMAROLY_RAW_ALGORITHM = 11,  /* AlgorithmIdentifier with any parameters */
-    CIMAROLY_REQUEST_INFO = 12,   /* CertificationRequestInfo (RFC 2986, 4.1) */
-    CIMAROLY_TBS_CERTIFICATE = 13 /* TBSCertificate (RFC 5280, 4.1.2) */
+    CIMAROLY_CERTIFICATE = 1,          /* Certificate (RFC 5280, 4.1) */
+    CIMAROLY_REQUEST = 2,              /* CertificationRequest (RFC 2986, 4) */
+    CIMAROLY_PRIVATE_KEY = 3,          /* PrivateKeyInfo, or OneAsymmetricKey (RFC 5958, 2) */
+    CIMAROLY_PUBLIC_KEY = 4,           /* SubjectPublicKeyInfo (RFC 5280, 4.1.2.7) */
+    CIMAROLY_RSA_PRIVATE_KEY = 5,      /* RSAPrivateKey (RFC 8017, A.1.2) */
+    CIMAROLY_RSA_PUBLIC_KEY = 6,       /* RSAPublicKey (RFC 8017, A.1.1) */
+    CIMAROLY_EC_PRIVATE_KEY = 7,       /* ECPrivateKey (RFC 5915, 3) */
+    CIMAROLY_NAME = 8,                 /* Name (RFC 5280, 4.1.2.4) */
+    CIMAROLY_EXTENSIONS = 9,           /* Extensions (RFC 5280, 4.1) */
+    CIMAROLY_ALGORITHM = 10,           /* AlgorithmIdentifier (RFC 5280, 4.1.1.2), of an algorithm that is known */
+    CIMAROLY_RAW_ALGORITHM = 11,       /* AlgorithmIdentifier with any parameters */
+    CIMAROLY_REQUEST_INFO = 12,        /* CertificationRequestInfo (RFC 2986, 4.1) */
+    CIMAROLY_TBS_CERTIFICATE = 13,     /* TBSCertificate (RFC 5280, 4.1.2) */
+    CIMAROLY_CERTIFICATE_OUTLINE = 14, /* Certificate (RFC 5280, 4.1), of any algorithm */
+    CIMAROLY_REQUEST_OUTLINE = 15,     /* CertificationRequest (RFC 2986, 4), of any algorithm */
+    CIMAROLY_PRIVATE_KEY_OUTLINE = 16, /* OneAsymmetricKey (RFC 5958, 2), of any algorithm */
+    CIMAROLY_PUBLIC_KEY_OUTLINE = 17,  /* SubjectPublicKeyInfo (RFC 5280, 4.1.2.7), of any algorithm */
+    CIMAROLY_CRL = 18                  /* CertificateList (RFC 5280, 5.1), of any algorithm */
 };
 
 /* What a call answers. */
@@ -105,6 +113,40 @@ enum cimaroly_deviation {
     CIMAROLY_AUTHORITY_KEY_FIELD_ORDER = 8,
     CIMAROLY_GENERAL_NAME_FORM = 9,
     CIMAROLY_SKIPPED_KEY_ELEMENT = 10
+};
+
+/* Rules that a certificate may break though it is read; docs/FINDINGS.md says more of each. */
+enum cimaroly_rule {
+    CIMAROLY_RULE_SERIAL_NOT_POSITIVE = 1,
+    CIMAROLY_RULE_SERIAL_TOO_LONG = 2,
+    CIMAROLY_RULE_ALGORITHMS_DIFFER = 3,
+    CIMAROLY_RULE_ISSUER_EMPTY = 4,
+    CIMAROLY_RULE_VALIDITY_REVERSED = 5,
+    CIMAROLY_RULE_NOT_BEFORE_FORM = 6,
+    CIMAROLY_RULE_NOT_AFTER_FORM = 7,
+    CIMAROLY_RULE_SUBJECT_EMPTY = 8,
+    CIMAROLY_RULE_AUTHORITY_UNNAMED = 9,
+    CIMAROLY_RULE_MODULUS_NOT_POSITIVE = 10,
+    CIMAROLY_RULE_MODULUS_EVEN = 11,
+    CIMAROLY_RULE_MODULUS_SHORT = 12,
+    CIMAROLY_RULE_EXPONENT_LOW = 13,
+    CIMAROLY_RULE_EXPONENT_EVEN = 14,
+    CIMAROLY_RULE_ISSUER_UNIQUE_ID = 15,
+    CIMAROLY_RULE_SUBJECT_UNIQUE_ID = 16,
+    CIMAROLY_RULE_AUTHORITY_KEY_CRITICAL = 17,
+    CIMAROLY_RULE_SUBJECT_KEY_CRITICAL = 18,
+    CIMAROLY_RULE_SUBJECT_KEY_MISSING = 19,
+    CIMAROLY_RULE_KEY_USAGE_EMPTY = 20,
+    CIMAROLY_RULE_KEY_USAGE_PADDED = 21,
+    CIMAROLY_RULE_SIGNING_WITHOUT_AUTHORITY = 22,
+    CIMAROLY_RULE_AUTHORITY_WITHOUT_SIGNING = 23,
+    CIMAROLY_RULE_SUBJECT_NAMES_EMPTY = 24,
+    CIMAROLY_RULE_ISSUER_NAMES_EMPTY = 25,
+    CIMAROLY_RULE_AUTHORITY_NOT_CRITICAL = 26,
+    CIMAROLY_RULE_PATH_LENGTH_IDLE = 27,
+    CIMAROLY_RULE_PATH_LENGTH_WITHOUT_SIGNING = 28,
+    CIMAROLY_RULE_AUTHORITY_DEFAULT_SPELLED = 29,
+    CIMAROLY_RULE_PURPOSES_EMPTY = 30
 };
 
 /* What cimaroly_pem_next answers. */
@@ -263,6 +305,12 @@ struct cimaroly_point {
     struct cimaroly_span issuer;  /* the content of cRLIssuer: general names, one behind another */
 };
 
+/* A rule that a certificate breaks. */
+struct cimaroly_finding {
+    uint32_t rule;           /* the enum cimaroly_rule */
+    struct cimaroly_span at; /* where the field stands that the rule is about; of an absent one, what is signed */
+};
+
 /* What basic constraints say (RFC 5280, 4.2.1.9). */
 struct cimaroly_constraints {
     bool is_ca;           /* false where cA is absent */
@@ -361,10 +409,10 @@ uint32_t cimaroly_places(struct cimaroly_memory *memory, uint32_t kind, const ui
                          struct cimaroly_place *places, size_t room, size_t *count);
 
 /*
- * What the signature of a certificate or a request covers.
+ * What the signature of a certificate, a request or a revocation list covers.
  *
  * CIMAROLY_OK, CIMAROLY_REFUSED.
- * CIMAROLY_UNKNOWN_KIND: `kind` is neither CIMAROLY_CERTIFICATE nor CIMAROLY_REQUEST.
+ * CIMAROLY_UNKNOWN_KIND: `kind` is none of CIMAROLY_CERTIFICATE, CIMAROLY_REQUEST, their outlines and CIMAROLY_CRL.
  */
 uint32_t cimaroly_signed_part(uint32_t kind, const uint8_t *der, size_t der_size, struct cimaroly_signed *part);
 
@@ -595,6 +643,17 @@ uint32_t cimaroly_extensions(uint32_t kind, const uint8_t *der, size_t der_size,
                              size_t room, size_t *count);
 
 /*
+ * Writes which rules of RFC 5280, X.690 and RFC 8017 a certificate breaks to the front of `findings`, which has room for
+ * `room` of them, in the order of the rules: each that it breaks, once, and no other. No signature is checked, and no
+ * clock is read.
+ *
+ * CIMAROLY_OK, CIMAROLY_BUFFER_TOO_SHORT: *count is how many there are.
+ * CIMAROLY_REFUSED, CIMAROLY_OUT_OF_MEMORY.
+ */
+uint32_t cimaroly_findings(struct cimaroly_memory *memory, const uint8_t *der, size_t der_size,
+                           struct cimaroly_finding *findings, size_t room, size_t *count);
+
+/*
  * Writes what stands in the input to the front of `out`, which has room for `out_size` bytes: one JSON object in UTF-8,
  * without a line feed or a zero behind it. docs/JSON.md describes its members; `file`, `line` and `label` are left out,
  * and so are the secret numbers of private keys unless `secrets` is true.
@@ -774,6 +833,136 @@ static inline const char *cimaroly_deviation_name(size_t deviation)
     return names[deviation < sizeof names / sizeof *names ? deviation : 0];
 }
 
+/* The name of a rule, as docs/FINDINGS.md has it; "" if no rule has the number. */
+static inline const char *cimaroly_rule_name(size_t rule)
+{
+    static const char *const names[] = {
+        "",
+        "serial-not-positive",
+        "serial-too-long",
+        "algorithms-differ",
+        "issuer-empty",
+        "validity-reversed",
+        "not-before-form",
+        "not-after-form",
+        "subject-empty",
+        "authority-unnamed",
+        "modulus-not-positive",
+        "modulus-even",
+        "modulus-short",
+        "exponent-low",
+        "exponent-even",
+        "issuer-unique-id",
+        "subject-unique-id",
+        "authority-key-critical",
+        "subject-key-critical",
+        "subject-key-missing",
+        "key-usage-empty",
+        "key-usage-padded",
+        "signing-without-authority",
+        "authority-without-signing",
+        "subject-names-empty",
+        "issuer-names-empty",
+        "authority-not-critical",
+        "path-length-idle",
+        "path-length-without-signing",
+        "authority-default-spelled",
+        "purposes-empty",
+    };
+    return names[rule < sizeof names / sizeof *names ? rule : 0];
+}
+
+/* What is wrong where a rule is broken, in plain words; "" if no rule has the number. */
+static inline const char *cimaroly_rule_text(size_t rule)
+{
+    static const char *const texts[] = {
+        "",
+        "serial number isn't positive",
+        "serial number has more than 20 octets",
+        "the algorithm in the signed part isn't the one beside the signature",
+        "issuer is empty",
+        "notAfter is before notBefore",
+        "notBefore is a GeneralizedTime before 2050",
+        "notAfter is a GeneralizedTime before 2050",
+        "subject is empty, and no critical subjectAltName names it",
+        "subject of an authority is empty",
+        "RSA modulus isn't positive",
+        "RSA modulus is even",
+        "RSA modulus has fewer than 2048 bits",
+        "RSA exponent is below 3",
+        "RSA exponent is even",
+        "issuer has a unique identifier",
+        "subject has a unique identifier",
+        "authority key identifier is critical",
+        "subject key identifier is critical",
+        "authority has no subject key identifier",
+        "key usage allows nothing",
+        "key usage has trailing zero bits",
+        "key may sign certificates, but the subject isn't an authority",
+        "subject is an authority, but no key usage lets the key sign certificates",
+        "subjectAltName has no names",
+        "issuerAltName has no names",
+        "basic constraints of an authority that may sign certificates aren't critical",
+        "path length is limited, but the subject isn't an authority",
+        "path length is limited, but no key usage lets the key sign certificates",
+        "cA FALSE is encoded, though it is the default",
+        "extKeyUsage has no purposes",
+    };
+    return texts[rule < sizeof texts / sizeof *texts ? rule : 0];
+}
+
+/* The clause that a rule is from, as in RFC 5280, 4.1.2.2; "" if no rule has the number. */
+static inline const char *cimaroly_rule_clause(size_t rule)
+{
+    static const char *const clauses[] = {
+        "",
+        "RFC 5280, 4.1.2.2",
+        "RFC 5280, 4.1.2.2",
+        "RFC 5280, 4.1.1.2",
+        "RFC 5280, 4.1.2.4",
+        "RFC 5280, 4.1.2.5",
+        "RFC 5280, 4.1.2.5",
+        "RFC 5280, 4.1.2.5",
+        "RFC 5280, 4.1.2.6",
+        "RFC 5280, 4.1.2.6",
+        "RFC 8017, 3.1",
+        "RFC 8017, 3.1",
+        "NIST SP 800-131A, 3",
+        "RFC 8017, 3.1",
+        "RFC 8017, 3.1",
+        "RFC 5280, 4.1.2.8",
+        "RFC 5280, 4.1.2.8",
+        "RFC 5280, 4.2.1.1",
+        "RFC 5280, 4.2.1.2",
+        "RFC 5280, 4.2.1.2",
+        "RFC 5280, 4.2.1.3",
+        "X.690, 11.2.2",
+        "RFC 5280, 4.2.1.9",
+        "RFC 5280, 4.2.1.3",
+        "RFC 5280, 4.2.1.6",
+        "RFC 5280, 4.2.1.7",
+        "RFC 5280, 4.2.1.9",
+        "RFC 5280, 4.2.1.9",
+        "RFC 5280, 4.2.1.9",
+        "X.690, 11.5",
+        "RFC 5280, 4.2.1.12",
+    };
+    return clauses[rule < sizeof clauses / sizeof *clauses ? rule : 0];
+}
+
+/* Whether what a rule finds is allowed, and mostly a mistake; else the clause forbids it. */
+static inline bool cimaroly_rule_is_warning(size_t rule)
+{
+    static const uint32_t warnings[] = {
+        CIMAROLY_RULE_MODULUS_SHORT,
+        CIMAROLY_RULE_AUTHORITY_WITHOUT_SIGNING,
+    };
+    for (size_t i = 0; i < sizeof warnings / sizeof *warnings; i++)
+        if (warnings[i] == rule)
+            return true;
+    return false;
+}
+
 #if __STDC_HOSTED__
 /*
  * Frees what `memory` has, and takes more from malloc, for a call on `der_size` bytes. False if malloc fails, and then
@@ -825,6 +1014,12 @@ static inline uint32_t cimaroly_places_malloc(uint32_t kind, const uint8_t *der,
                                               struct cimaroly_place *places, size_t room, size_t *count)
 {
     CIMAROLY_WHERE_NEEDED(der_size, cimaroly_places(memory, kind, der, der_size, places, room, count));
+}
+
+static inline uint32_t cimaroly_findings_malloc(const uint8_t *der, size_t der_size, struct cimaroly_finding *findings,
+                                                size_t room, size_t *count)
+{
+    CIMAROLY_OVER_MALLOC(der_size, cimaroly_findings(memory, der, der_size, findings, room, count));
 }
 
 static inline uint32_t cimaroly_report_malloc(uint32_t kind, const uint8_t *der, size_t der_size, bool secrets,

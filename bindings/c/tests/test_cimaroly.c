@@ -215,7 +215,7 @@ static char *report_of(const struct row *row, bool secrets)
 static void secrets_are_hidden(const struct row *row)
 {
     bool has_secrets = row->kind == CIMAROLY_PRIVATE_KEY || row->kind == CIMAROLY_RSA_PRIVATE_KEY ||
-                       row->kind == CIMAROLY_EC_PRIVATE_KEY;
+                       row->kind == CIMAROLY_EC_PRIVATE_KEY || row->kind == CIMAROLY_PRIVATE_KEY_OUTLINE;
     char *hidden = report_of(row, false);
     char *shown = report_of(row, true);
     has_secrets = has_secrets && stated_status(row) == CIMAROLY_OK;
