@@ -273,7 +273,7 @@ class Table(unittest.TestCase):
         rows = table()
         numbers = {it.split("@")[0] for row in rows for it in row["deviations"].split() if "@" in it}
         self.assertEqual(numbers, set(map(str, range(1, 11))))
-        self.assertEqual(len({row["kind"] for row in rows if row["result"] != "refused"}), 13)
+        self.assertEqual(len({row["kind"] for row in rows if row["result"] != "refused"}), 18)
 
 
 if __name__ == "__main__":
