@@ -95,9 +95,10 @@ class MadeAgain(unittest.TestCase):
                 self.assertEqual(run("make", "-", data=report), (run("der", "--type", kind, "-", data=data)[0], b"", 0))
 
     def test_rows_of_the_table(self):
-        """Each input of the table that all bindings are tested by, if it is read."""
+        """Each input of the table that all bindings are tested by, if it is read; outlines and CRLs aren't made."""
         with open(f"{ROOT}/bindings/tests/table.tsv", newline="", encoding="utf-8") as file:
             rows = [it for it in csv.DictReader(file, delimiter="\t", quoting=csv.QUOTE_NONE) if it["result"] != "refused"]
+        rows = [it for it in rows if it["kind"] != "crl" and not it["kind"].endswith("-outline")]
         self.assertGreater(len(rows), 50)
         for row in rows:
             data = read(row["input"]) if "." in row["input"] else row["input"].encode()
