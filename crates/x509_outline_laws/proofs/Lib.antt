@@ -1,0 +1,7 @@
+mod Carrying
+mod Algorithms
+mod Names
+mod Keys
+mod Extensions
+mod SignedParts
+mod Parts
