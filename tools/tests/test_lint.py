@@ -127,23 +127,57 @@ class Program(unittest.TestCase):
             self.assertIn(b"no rule is named 'serial\\u{1b}': see cimaroly lint --list", error)
 
 
+def openssl(*words, data):
+    return subprocess.run(["openssl", *words], input=data, capture_output=True, check=True).stdout.decode()
+
+
+def seen_by_openssl(pem):
+    """The rules that a root certificate breaks, by what OpenSSL prints of it."""
+    text = openssl("x509", "-noout", "-text", data=pem)
+    parsed = openssl("asn1parse", data=pem)
+    serial = re.search(r"Serial Number:\s*(\S+)", text).group(1)
+    size = re.search(r"RSA Public-Key: \((\d+) bit\)|rsaEncryption\s+Public-Key: \((\d+) bit\)", text)
+    constraints = re.search(r"X509v3 Basic Constraints: *(critical)?\s+CA:TRUE", text)
+    usage = re.search(r"X509v3 Key Usage: *(?:critical)?\s+(.*)", text)
+    written = re.search(r"X509v3 Key Usage(?:\n.*BOOLEAN.*)?\n.*\[HEX DUMP\]:(\w+)", parsed)
+    times = re.findall(r"(UTCTIME|GENERALIZEDTIME) *:(\d+)Z", parsed)[:2]
+    early = [form == "GENERALIZEDTIME" and digits < "2050" for form, digits in times]
+    signs = usage and "Certificate Sign" in usage.group(1)
+    broken = {
+        "serial-not-positive": serial == "0" or serial.startswith(("-", "(Negative)")),
+        "not-before-form": early[0],
+        "not-after-form": early[1],
+        "modulus-short": size and int(size.group(1) or size.group(2)) < 2048,
+        "subject-key-missing": constraints and "X509v3 Subject Key Identifier" not in text,
+        "authority-without-signing": constraints and not signs,
+        "authority-not-critical": constraints and not constraints.group(1) and (signs or not usage),
+    }
+    if written:
+        # (an OCTET STRING's content: tag, length, the number of unused bits, and the bits)
+        unused, last = bytes.fromhex(written.group(1))[2], bytes.fromhex(written.group(1))[-1]
+        broken["key-usage-padded"] = not last >> unused & 1
+    return {rule for rule, it in broken.items() if it}
+
+
 @NEEDS_PROGRAM
-@unittest.skipUnless(os.path.isdir(STORE), f"there is no {STORE}")
+@unittest.skipUnless(os.path.isfile(f"{STORE}/ca-certificates.crt"), f"there is no {STORE}/ca-certificates.crt")
 class RootCertificates(unittest.TestCase):
-    """The certificates that this system trusts: what is found in them, OpenSSL sees too."""
+    """The certificates that this system trusts: what is found in them, OpenSSL sees too, and nothing else."""
 
     def test_findings(self):
-        out, error, status = run("lint", STORE)
+        path = f"{STORE}/ca-certificates.crt"
+        with open(path, "rb") as file:
+            lines = file.read().splitlines(keepends=True)
+        out, error, status = run("lint", "--json", path)
         self.assertRegex(error.decode(), r"^\d+ certificates?: \d+ without findings, \d+ with findings, \d+ refused")
         self.assertIn(status, (0, 1, 3))
-        # (a TeletexString in a name is refused, and a Java keystore passed over)
-        for line in [it for it in out.decode().splitlines() if not re.search(": (refused|passed over): ", it)]:
-            path, number, text = re.match(r"(.*?):(\d+): (?:error|warning): (.*?) at \d+\.\.\d+ \(", line).groups()
-            # (openssl x509 reads the first certificate of a file)
-            if text == RULES["modulus-short"].text and number == "1":
-                shown = subprocess.run(["openssl", "x509", "-in", path, "-noout", "-text"], capture_output=True, check=True).stdout
-                size = int(re.search(rb"Public-Key: \((\d+) bit\)", shown).group(1))
-                self.assertLess(size, 2048)
+        told = [json.loads(it) for it in out.splitlines()]
+        self.assertGreater(len(told), 100)
+        # (a TeletexString in a name is refused)
+        for it in [it for it in told if "findings" in it]:
+            with self.subTest(line=it["line"]):
+                pem = b"".join(lines[it["line"] - 1 :])
+                self.assertEqual({finding["rule"] for finding in it["findings"]}, seen_by_openssl(pem))
 
 
 if __name__ == "__main__":
