@@ -218,7 +218,9 @@ class Snippets(BindingTest):
         )
         self.write("main.c", program.encode())
         self.ran("cc", "-Wall", "-Wextra", f"-I{BINDINGS}/c", "main.c", ARCHIVE, "-o", "main", folder=self.place)
-        self.assertIn("2 times RSA parameters absent\n0 times algorithm", self.ran(f"{self.place}/main", folder=self.place))
+        printed = self.ran(f"{self.place}/main", folder=self.place)
+        self.assertIn("2 times RSA parameters absent\n0 times algorithm", printed)
+        self.assertTrue(printed.endswith("until 2022-10-16\n"), printed)
 
     def test_python(self):
         self.write("main.py", snippet("python").encode())
