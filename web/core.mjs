@@ -4,49 +4,12 @@
 // or cimaroly32.wasm where there are no 64-bit memories, with the calls of bindings/c/cimaroly.h.
 
 import { STATUS, useRoom } from "./making.mjs";
-import { DEVIATIONS, Refused } from "./names.mjs";
+import { DEVIATIONS, FIELDS, Refused } from "./names.mjs";
 import { KINDS, bytesIn, fromBase64, isSequence, isUtf16, kindOfLabel, pemBlocks, use } from "./pem.mjs";
 import { findingOf } from "./rules.mjs";
 import { Values } from "./values.mjs";
 
 export { DEVIATIONS, KINDS, Refused };
-
-const FIELDS = {
-  certificate: {
-    call: "cimaroly_certificate_fields",
-    names: [
-      "tbsCertificate",
-      "version",
-      "serialNumber",
-      "signature",
-      "issuer",
-      "validity",
-      "subject",
-      "subjectPublicKeyInfo",
-      "issuerUniqueID",
-      "subjectUniqueID",
-      "extensions",
-      "signatureAlgorithm",
-      "signatureValue",
-    ],
-  },
-  request: {
-    call: "cimaroly_request_fields",
-    names: [
-      "certificationRequestInfo",
-      "version",
-      "subject",
-      "subjectPKInfo",
-      "attributes",
-      "signatureAlgorithm",
-      "signature",
-    ],
-  },
-  "private-key": {
-    call: "cimaroly_private_key_fields",
-    names: ["version", "privateKeyAlgorithm", "privateKey", "skipped", "publicKey"],
-  },
-};
 
 // What the search for a PEM block answers where there is no more.
 const NO_MORE = 1;

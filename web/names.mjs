@@ -1,5 +1,5 @@
-// The names of errors and deviations, in the order of their numbers in bindings/c/cimaroly.h, as tools/make_tables.py writes
-// them, and what is thrown with the name of an error.
+// The names of errors, deviations and fields, in the order of bindings/c/cimaroly.h, as tools/make_tables.py writes them, and
+// what is thrown with the name of an error.
 
 /** Why an input is refused; there is no number 0. */
 export const ERRORS = Object.freeze([
@@ -34,6 +34,65 @@ export const DEVIATIONS = Object.freeze([
   "general name under the other kind of tag",
   "element skipped behind a private key",
 ]);
+
+/** The types that have named fields, with the calls that tell where these are. */
+export const FIELDS = {
+  certificate: {
+    call: "cimaroly_certificate_fields",
+    names: [
+      "tbsCertificate",
+      "version",
+      "serialNumber",
+      "signature",
+      "issuer",
+      "validity",
+      "subject",
+      "subjectPublicKeyInfo",
+      "issuerUniqueID",
+      "subjectUniqueID",
+      "extensions",
+      "signatureAlgorithm",
+      "signatureValue",
+    ],
+  },
+  request: {
+    call: "cimaroly_request_fields",
+    names: [
+      "certificationRequestInfo",
+      "version",
+      "subject",
+      "subjectPKInfo",
+      "attributes",
+      "signatureAlgorithm",
+      "signature",
+    ],
+  },
+  "private-key": {
+    call: "cimaroly_private_key_fields",
+    names: ["version", "privateKeyAlgorithm", "privateKey", "skipped", "publicKey"],
+  },
+  crl: {
+    call: "cimaroly_crl_fields",
+    names: [
+      "tbsCertList",
+      "version",
+      "signature",
+      "issuer",
+      "thisUpdate",
+      "nextUpdate",
+      "revokedCertificates",
+      "crlExtensions",
+      "signatureAlgorithm",
+      "signatureValue",
+    ],
+  },
+};
+
+// An outline has the fields of what it is the outline of.
+for (const kind of ["certificate", "request", "private-key"]) {
+  const { call, names } = FIELDS[kind];
+  FIELDS[`${kind}-outline`] = { call: call.replace(/fields$/, "outline_fields"), names };
+}
 
 /** Input that isn't a valid encoding of the type it was read as. */
 export class Refused extends Error {

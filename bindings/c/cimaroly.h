@@ -134,19 +134,38 @@ enum cimaroly_rule {
     CIMAROLY_RULE_ISSUER_UNIQUE_ID = 15,
     CIMAROLY_RULE_SUBJECT_UNIQUE_ID = 16,
     CIMAROLY_RULE_AUTHORITY_KEY_CRITICAL = 17,
-    CIMAROLY_RULE_SUBJECT_KEY_CRITICAL = 18,
-    CIMAROLY_RULE_SUBJECT_KEY_MISSING = 19,
-    CIMAROLY_RULE_KEY_USAGE_EMPTY = 20,
-    CIMAROLY_RULE_KEY_USAGE_PADDED = 21,
-    CIMAROLY_RULE_SIGNING_WITHOUT_AUTHORITY = 22,
-    CIMAROLY_RULE_AUTHORITY_WITHOUT_SIGNING = 23,
-    CIMAROLY_RULE_SUBJECT_NAMES_EMPTY = 24,
-    CIMAROLY_RULE_ISSUER_NAMES_EMPTY = 25,
-    CIMAROLY_RULE_AUTHORITY_NOT_CRITICAL = 26,
-    CIMAROLY_RULE_PATH_LENGTH_IDLE = 27,
-    CIMAROLY_RULE_PATH_LENGTH_WITHOUT_SIGNING = 28,
-    CIMAROLY_RULE_AUTHORITY_DEFAULT_SPELLED = 29,
-    CIMAROLY_RULE_PURPOSES_EMPTY = 30
+    CIMAROLY_RULE_AUTHORITY_KEY_MISSING = 18,
+    CIMAROLY_RULE_AUTHORITY_KEY_PARTIAL = 19,
+    CIMAROLY_RULE_SUBJECT_KEY_CRITICAL = 20,
+    CIMAROLY_RULE_SUBJECT_KEY_MISSING = 21,
+    CIMAROLY_RULE_KEY_USAGE_EMPTY = 22,
+    CIMAROLY_RULE_KEY_USAGE_PADDED = 23,
+    CIMAROLY_RULE_KEY_USAGE_NOT_CRITICAL = 24,
+    CIMAROLY_RULE_SIGNING_WITHOUT_AUTHORITY = 25,
+    CIMAROLY_RULE_AUTHORITY_WITHOUT_SIGNING = 26,
+    CIMAROLY_RULE_POLICY_MAPPINGS_NOT_CRITICAL = 27,
+    CIMAROLY_RULE_SUBJECT_NAMES_EMPTY = 28,
+    CIMAROLY_RULE_SUBJECT_NAMES_CRITICAL = 29,
+    CIMAROLY_RULE_ALTERNATIVE_NAME_EMPTY = 30,
+    CIMAROLY_RULE_ADDRESS_LENGTH = 31,
+    CIMAROLY_RULE_MAILBOX_WITHOUT_AT = 32,
+    CIMAROLY_RULE_ISSUER_NAMES_EMPTY = 33,
+    CIMAROLY_RULE_ISSUER_NAMES_CRITICAL = 34,
+    CIMAROLY_RULE_DIRECTORY_ATTRIBUTES_CRITICAL = 35,
+    CIMAROLY_RULE_AUTHORITY_NOT_CRITICAL = 36,
+    CIMAROLY_RULE_PATH_LENGTH_IDLE = 37,
+    CIMAROLY_RULE_PATH_LENGTH_WITHOUT_SIGNING = 38,
+    CIMAROLY_RULE_AUTHORITY_DEFAULT_SPELLED = 39,
+    CIMAROLY_RULE_NAME_CONSTRAINTS_NOT_CRITICAL = 40,
+    CIMAROLY_RULE_NAME_CONSTRAINTS_WITHOUT_AUTHORITY = 41,
+    CIMAROLY_RULE_POLICY_CONSTRAINTS_NOT_CRITICAL = 42,
+    CIMAROLY_RULE_PURPOSES_EMPTY = 43,
+    CIMAROLY_RULE_ANY_PURPOSE_CRITICAL = 44,
+    CIMAROLY_RULE_REVOCATION_POINTS_CRITICAL = 45,
+    CIMAROLY_RULE_ANY_POLICY_NOT_CRITICAL = 46,
+    CIMAROLY_RULE_FRESHEST_LIST_CRITICAL = 47,
+    CIMAROLY_RULE_AUTHORITY_ACCESS_CRITICAL = 48,
+    CIMAROLY_RULE_SUBJECT_ACCESS_CRITICAL = 49
 };
 
 /* What cimaroly_pem_next answers. */
@@ -232,6 +251,20 @@ struct cimaroly_private_key {
     struct cimaroly_span private_key;
     struct cimaroly_span skipped;    /* an element that isn't understood, such as attributes [0], or none */
     struct cimaroly_span public_key; /* or none */
+};
+
+/* Where the fields of a revocation list stand, each with its tag and its length (RFC 5280, 5.1). */
+struct cimaroly_crl {
+    struct cimaroly_span tbs_cert_list;
+    struct cimaroly_span version; /* or none */
+    struct cimaroly_span signature;
+    struct cimaroly_span issuer;
+    struct cimaroly_span this_update;
+    struct cimaroly_span next_update;          /* or none */
+    struct cimaroly_span revoked_certificates; /* or none */
+    struct cimaroly_span crl_extensions;       /* or none */
+    struct cimaroly_span signature_algorithm;
+    struct cimaroly_span signature_value;
 };
 
 /* Where an extension and its fields stand, each with its tag and its length (RFC 5280, 4.1). */
@@ -425,6 +458,18 @@ uint32_t cimaroly_certificate_fields(const uint8_t *der, size_t der_size, struct
 uint32_t cimaroly_request_fields(const uint8_t *der, size_t der_size, struct cimaroly_request *fields);
 uint32_t cimaroly_private_key_fields(const uint8_t *der, size_t der_size,
                                      struct cimaroly_private_key *fields);
+
+/*
+ * The same for outlines, whose algorithms, names and extensions may be of any kind (`skipped` is the attributes of a
+ * private key), and for a revocation list of any algorithm.
+ *
+ * CIMAROLY_OK, CIMAROLY_REFUSED.
+ */
+uint32_t cimaroly_certificate_outline_fields(const uint8_t *der, size_t der_size, struct cimaroly_certificate *fields);
+uint32_t cimaroly_request_outline_fields(const uint8_t *der, size_t der_size, struct cimaroly_request *fields);
+uint32_t cimaroly_private_key_outline_fields(const uint8_t *der, size_t der_size,
+                                             struct cimaroly_private_key *fields);
+uint32_t cimaroly_crl_fields(const uint8_t *der, size_t der_size, struct cimaroly_crl *fields);
 
 /*
  * Between which times a certificate is valid, both included (RFC 5280, 4.1.2.5). It takes no memory.
@@ -855,19 +900,38 @@ static inline const char *cimaroly_rule_name(size_t rule)
         "issuer-unique-id",
         "subject-unique-id",
         "authority-key-critical",
+        "authority-key-missing",
+        "authority-key-partial",
         "subject-key-critical",
         "subject-key-missing",
         "key-usage-empty",
         "key-usage-padded",
+        "key-usage-not-critical",
         "signing-without-authority",
         "authority-without-signing",
+        "policy-mappings-not-critical",
         "subject-names-empty",
+        "subject-names-critical",
+        "alternative-name-empty",
+        "address-length",
+        "mailbox-without-at",
         "issuer-names-empty",
+        "issuer-names-critical",
+        "directory-attributes-critical",
         "authority-not-critical",
         "path-length-idle",
         "path-length-without-signing",
         "authority-default-spelled",
+        "name-constraints-not-critical",
+        "name-constraints-without-authority",
+        "policy-constraints-not-critical",
         "purposes-empty",
+        "any-purpose-critical",
+        "revocation-points-critical",
+        "any-policy-not-critical",
+        "freshest-list-critical",
+        "authority-access-critical",
+        "subject-access-critical",
     };
     return names[rule < sizeof names / sizeof *names ? rule : 0];
 }
@@ -894,19 +958,38 @@ static inline const char *cimaroly_rule_text(size_t rule)
         "issuer has a unique identifier",
         "subject has a unique identifier",
         "authority key identifier is critical",
+        "no authority key identifier has a keyIdentifier, though issuer and subject differ",
+        "authority key identifier has one of authorityCertIssuer and authorityCertSerialNumber without the other",
         "subject key identifier is critical",
         "authority has no subject key identifier",
         "key usage allows nothing",
         "key usage has trailing zero bits",
+        "key usage isn't critical",
         "key may sign certificates, but the subject isn't an authority",
         "subject is an authority, but no key usage lets the key sign certificates",
+        "policy mappings aren't critical",
         "subjectAltName has no names",
+        "subjectAltName is critical, though the subject isn't empty",
+        "an alternative name is empty",
+        "an iPAddress has neither four nor sixteen octets",
+        "an rfc822Name has no @",
         "issuerAltName has no names",
+        "issuerAltName is critical",
+        "subjectDirectoryAttributes is critical",
         "basic constraints of an authority that may sign certificates aren't critical",
         "path length is limited, but the subject isn't an authority",
         "path length is limited, but no key usage lets the key sign certificates",
         "cA FALSE is encoded, though it is the default",
+        "name constraints aren't critical",
+        "name constraints are there, but the subject isn't an authority",
+        "policy constraints aren't critical",
         "extKeyUsage has no purposes",
+        "extKeyUsage has anyExtendedKeyUsage, and is critical",
+        "cRLDistributionPoints is critical",
+        "inhibitAnyPolicy isn't critical",
+        "freshestCRL is critical",
+        "authorityInfoAccess is critical",
+        "subjectInfoAccess is critical",
     };
     return texts[rule < sizeof texts / sizeof *texts ? rule : 0];
 }
@@ -933,19 +1016,38 @@ static inline const char *cimaroly_rule_clause(size_t rule)
         "RFC 5280, 4.1.2.8",
         "RFC 5280, 4.1.2.8",
         "RFC 5280, 4.2.1.1",
+        "RFC 5280, 4.2.1.1",
+        "RFC 5280, A.2",
         "RFC 5280, 4.2.1.2",
         "RFC 5280, 4.2.1.2",
         "RFC 5280, 4.2.1.3",
         "X.690, 11.2.2",
+        "RFC 5280, 4.2.1.3",
         "RFC 5280, 4.2.1.9",
         "RFC 5280, 4.2.1.3",
+        "RFC 5280, 4.2.1.5",
+        "RFC 5280, 4.2.1.6",
+        "RFC 5280, 4.2.1.6",
+        "RFC 5280, 4.2.1.6",
+        "RFC 5280, 4.2.1.6",
         "RFC 5280, 4.2.1.6",
         "RFC 5280, 4.2.1.7",
+        "RFC 5280, 4.2.1.7",
+        "RFC 5280, 4.2.1.8",
         "RFC 5280, 4.2.1.9",
         "RFC 5280, 4.2.1.9",
         "RFC 5280, 4.2.1.9",
         "X.690, 11.5",
+        "RFC 5280, 4.2.1.10",
+        "RFC 5280, 4.2.1.10",
+        "RFC 5280, 4.2.1.11",
         "RFC 5280, 4.2.1.12",
+        "RFC 5280, 4.2.1.12",
+        "RFC 5280, 4.2.1.13",
+        "RFC 5280, 4.2.1.14",
+        "RFC 5280, 4.2.1.15",
+        "RFC 5280, 4.2.2.1",
+        "RFC 5280, 4.2.2.2",
     };
     return clauses[rule < sizeof clauses / sizeof *clauses ? rule : 0];
 }
@@ -955,7 +1057,13 @@ static inline bool cimaroly_rule_is_warning(size_t rule)
 {
     static const uint32_t warnings[] = {
         CIMAROLY_RULE_MODULUS_SHORT,
+        CIMAROLY_RULE_KEY_USAGE_NOT_CRITICAL,
         CIMAROLY_RULE_AUTHORITY_WITHOUT_SIGNING,
+        CIMAROLY_RULE_POLICY_MAPPINGS_NOT_CRITICAL,
+        CIMAROLY_RULE_SUBJECT_NAMES_CRITICAL,
+        CIMAROLY_RULE_ISSUER_NAMES_CRITICAL,
+        CIMAROLY_RULE_ANY_PURPOSE_CRITICAL,
+        CIMAROLY_RULE_REVOCATION_POINTS_CRITICAL,
     };
     for (size_t i = 0; i < sizeof warnings / sizeof *warnings; i++)
         if (warnings[i] == rule)

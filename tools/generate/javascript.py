@@ -56,7 +56,7 @@ def core():
     for kind in tables.kinds_with_fields():
         lines += [f"  {key(kind)}: {{", f'    call: "{tables.call_of(kind)}",']
         lines += [*array("    ", "names: ", [quoted(it.name) for it in tables.fields(kind)], ","), "  },"]
-    yield constant("core.mjs", "const FIELDS = {", lines, "};")
+    yield constant("names.mjs", "export const FIELDS = {", lines, "};")
 
 
 def types():
@@ -66,6 +66,7 @@ def types():
     for kind in tables.kinds_with_fields():
         yield Region(path, f"export interface {tables.variant(kind)}Fields {{", "}", members(kind))
     lines = [f"  {key(it)}: {tables.variant(it)}Fields;" for it in tables.kinds_with_fields()]
+    lines += [f"  {key(it)}: {tables.variant(it.removesuffix(tables.OUTLINE))}Fields;" for it in tables.outlines_with_fields()]
     yield Region(path, "export interface FieldsByKind {", "}", lines)
     roots = dict.fromkeys(it.type for it in kinds)
     yield Region("web/cimaroly.d.ts", "  field?: string;", "}", [f"  {it}?: ReportNode;" for it in roots])

@@ -89,9 +89,10 @@ def rules():
     said = "    /// The clause that it is from: `RFC 5280, 4.1.2.2`."
     said += "\n    #[allow(clippy::match_same_arms)] // (they stand in the order of the rules)"
     yield answers("Rule", said, "clause", [(it.variant, it.clause) for it in rows])
-    warnings = " | ".join(f"Rule::{it.variant}" for it in rows if it.severity == "warning")
+    first, *others = [f"Rule::{it.variant}" for it in rows if it.severity == "warning"]
+    lines = [" " * 12 + first, *[" " * 16 + f"| {it}" for it in others]]
     behind = "    pub const fn is_warning(self) -> bool {"
-    yield Region(f"{SOURCE}/{FILES['Rule']}", behind, "    }", [f"        matches!(self, {warnings})"])
+    yield Region(f"{SOURCE}/{FILES['Rule']}", behind, "    }", ["        matches!(", " " * 12 + "self,", *lines, "        )"])
 
 
 def field_doc(field):
@@ -104,10 +105,11 @@ def field_doc(field):
 
 
 def places(kind):
-    """A kind's struct in the library."""
+    """A kind's struct in the library, which is that of its outline too."""
     name = "pub struct ExtensionPlaces" if kind == "extension" else f"pub(crate) struct {tables.variant(kind)}"
     lines = [f"    pub(crate) {it.member}: Span," for it in tables.fields(kind)]
-    return Region(f"{SOURCE}/library.rs", f"{name} {{", "}", lines)
+    file = "library.rs" if kind == "extension" else "library/fields.rs"
+    return Region(f"{SOURCE}/{file}", f"{name} {{", "}", lines)
 
 
 def struct(kind):
@@ -141,3 +143,5 @@ def regions():
     yield Region(f"{SOURCE}/library.rs", "pub(crate) mod status {", "}", lines)
     for kind in tables.with_fields():
         yield from (places(kind), struct(kind), made(kind))
+    for kind in tables.outlines_with_fields():
+        yield from (struct(kind), made(kind))

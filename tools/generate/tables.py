@@ -6,6 +6,8 @@ import os
 from types import SimpleNamespace
 
 ROOT = os.path.dirname(os.path.dirname(os.path.dirname(os.path.abspath(__file__))))
+# What the kinds of outlines end with, behind the kind that they are outlines of.
+OUTLINE = "-outline"
 
 
 @functools.cache
@@ -43,8 +45,8 @@ def named(table):
 
 
 def fields(kind):
-    """The rows of the fields of a kind, in the order of the standard."""
-    return [it for it in rows_of("fields") if it.kind == kind]
+    """The rows of the fields of a kind or of its outline, in the order of the standard."""
+    return [it for it in rows_of("fields") if it.kind == kind.removesuffix(OUTLINE)]
 
 
 def with_fields():
@@ -54,6 +56,11 @@ def with_fields():
 
 def kinds_with_fields():
     return [it for it in with_fields() if it != "extension"]
+
+
+def outlines_with_fields():
+    """The outlines of these kinds, which have their fields."""
+    return [f"{it}{OUTLINE}" for it in kinds_with_fields() if f"{it}{OUTLINE}" in {row.name for row in rows_of("outlines")}]
 
 
 def call_of(kind):

@@ -69,8 +69,14 @@ def key_identifier(critical=False):
     return extension("2.5.29.14", element(4, b"\x01\x02\x03\x04"), critical)
 
 
-def authority_key(critical=False):
-    return extension("2.5.29.35", sequence(element(0x80, b"\x01\x02\x03\x04")), critical)
+KEY_IDENTIFIER = element(0x80, b"\x01\x02\x03\x04")
+CERT_ISSUER = element(0xA1, element(0xA4, name("issuer")))
+CERT_SERIAL = element(0x82, b"\x01")
+
+
+def authority_key(*fields, critical=False):
+    """Which key signed: as it stands, by its identifier."""
+    return extension("2.5.29.35", sequence(*(fields or [KEY_IDENTIFIER])), critical)
 
 
 def usage(payload=b"\x06", unused=1, critical=True):
@@ -82,12 +88,21 @@ def constraints(*fields, critical=True):
     return extension("2.5.29.19", sequence(*fields), critical)
 
 
-def purposes(*texts):
-    return extension("2.5.29.37", sequence(*map(identifier, texts)))
+def purposes(*texts, critical=False):
+    return extension("2.5.29.37", sequence(*map(identifier, texts)), critical)
 
 
-def alternative_names(text="2.5.29.17", *names, critical=False):
-    return extension(text, sequence(*(element(0x82, it.encode()) for it in names)), critical)
+def alternative_names(text="2.5.29.17", *names, others=(), critical=False):
+    return extension(text, sequence(*(element(0x82, it.encode()) for it in names), *others), critical)
+
+
+def address(size):
+    return element(0x87, bytes(size))
+
+
+def signed(*extensions):
+    """These extensions, and which key signed."""
+    return {"extensions": (*extensions, authority_key())}
 
 
 TRUE, FALSE = element(1, b"\xff"), element(1, b"\x00")
@@ -106,7 +121,8 @@ FIELDS = {
     "extensions": (constraints(TRUE), usage(), key_identifier(), authority_key()),
 }
 
-# The extensions of a certificate of somebody else.
+# The extensions of a certificate of an authority, but which key signed, and those of a certificate of somebody else.
+AUTHORITY = FIELDS["extensions"][:3]
 LEAF = (usage(b"\x80", 7), alternative_names("2.5.29.17", "leaf.example.org"))
 
 
@@ -128,17 +144,28 @@ def certificate(**changes):
 
 
 def place_of(field, **changes):
-    """Where a field of it stands: how many bytes stand before it, and before its end."""
+    """Where a field of it stands: how many bytes stand before it, and before its end. One that is absent is in all that is signed."""
     fields, _ = parts_of(changes)
-    signed = b"".join(fields.values())
+    part = sequence(*fields.values())
     whole = certificate(**changes)
-    at = whole.index(signed)
+    start = whole.index(part)
+    if not fields[field]:
+        return start, start + len(part)
+    at = start + len(part) - sum(map(len, fields.values()))
     for key, it in fields.items():
         if key == field:
             return at, at + len(it)
         at += len(it)
     raise KeyError(field)
 
+
+# Values of extensions: a policy that is taken for another, names that are permitted, and from where on a policy is demanded; and the
+# identifiers of lists of names.
+MAPPINGS = sequence(sequence(identifier("1.2.3.4"), identifier("1.2.3.5")))
+PERMITTED = sequence(element(0xA0, sequence(element(0x82, b"example.org"))))
+DEMANDED = sequence(element(0x80, b"\x00"))
+NAMES = ("2.5.29.17", "2.5.29.18")
+MAIL, URI = element(0x81, b"a@example.org"), element(0x86, b"a:b")
 
 # What breaks each rule, and the field at which that is told.
 BROKEN = {
@@ -149,7 +176,7 @@ BROKEN = {
     "validity-reversed": [{"validity": sequence(utc(2049), utc(2020))}],
     "not-before-form": [{"validity": sequence(general(2049), general(2050))}],
     "not-after-form": [{"validity": sequence(utc(2020), general(2049))}],
-    "subject-empty": [{"subject": name(), "extensions": LEAF}, {"subject": name(), "extensions": ()}],
+    "subject-empty": [{"subject": name(), **signed(*LEAF)}],
     "modulus-not-positive": [{"subjectPublicKeyInfo": rsa_key(-(1 << 2048) - 1)}],
     "modulus-even": [{"subjectPublicKeyInfo": rsa_key(MODULUS + 1)}],
     "modulus-short": [{"subjectPublicKeyInfo": rsa_key((1 << 2047) - 1)}],
@@ -158,41 +185,75 @@ BROKEN = {
     "issuer-unique-id": [{"issuerUniqueID": element(0x81, b"\x00\x01")}],
     "subject-unique-id": [{"subjectUniqueID": element(0x82, b"\x00\x01")}],
     "authority-key-critical": [{"extensions": (*LEAF, authority_key(critical=True))}],
-    "subject-key-critical": [{"extensions": (*LEAF, key_identifier(critical=True))}],
-    "subject-key-missing": [{"extensions": (constraints(TRUE), usage())}],
-    "key-usage-empty": [{"extensions": (usage(b"", 0),)}],
-    "key-usage-padded": [{"extensions": (usage(b"\x80", 6),)}, {"extensions": (usage(b"\x80\x00", 7),)}],
-    "signing-without-authority": [{"extensions": (usage(),)}, {"extensions": (usage(), constraints())}],
-    "authority-without-signing": [{"extensions": (constraints(TRUE), usage(b"\x02", 1), key_identifier())}],
-    "subject-names-empty": [{"extensions": (alternative_names("2.5.29.17"),)}],
-    "issuer-names-empty": [{"extensions": (alternative_names("2.5.29.18"),)}],
-    "authority-not-critical": [{"extensions": (constraints(TRUE, critical=False), usage(), key_identifier())}],
-    "path-length-idle": [{"extensions": (constraints(integer(0)),)}],
-    "authority-default-spelled": [{"extensions": (constraints(FALSE),)}],
-    "purposes-empty": [{"extensions": (purposes(),)}],
+    "authority-key-missing": [{"extensions": LEAF}, {"extensions": (*LEAF, authority_key(CERT_ISSUER, CERT_SERIAL))}],
+    "authority-key-partial": [
+        {"extensions": (*LEAF, authority_key(KEY_IDENTIFIER, CERT_ISSUER))},
+        {"extensions": (*LEAF, authority_key(KEY_IDENTIFIER, CERT_SERIAL))},
+    ],
+    "subject-key-critical": [signed(*LEAF, key_identifier(critical=True))],
+    "subject-key-missing": [signed(constraints(TRUE), usage())],
+    "key-usage-empty": [signed(usage(b"", 0))],
+    "key-usage-padded": [signed(usage(b"\x80", 6)), signed(usage(b"\x80\x00", 7))],
+    "key-usage-not-critical": [signed(usage(b"\x80", 7, critical=False))],
+    "signing-without-authority": [signed(usage()), signed(usage(), constraints())],
+    "authority-without-signing": [signed(constraints(TRUE), usage(b"\x02", 1), key_identifier())],
+    "policy-mappings-not-critical": [signed(*AUTHORITY, extension("2.5.29.33", MAPPINGS))],
+    "subject-names-empty": [signed(alternative_names("2.5.29.17"))],
+    "subject-names-critical": [signed(alternative_names("2.5.29.17", "leaf.example.org", critical=True))],
+    "alternative-name-empty": [
+        signed(alternative_names(text, "a.example.org", others=[it]))
+        for text in NAMES
+        for it in (element(0x82), element(0x86), element(0xA4, name()))
+    ],
+    "address-length": [signed(alternative_names(text, others=[address(it)])) for text in NAMES for it in (0, 3, 5, 8, 15, 17, 32)],
+    "mailbox-without-at": [signed(alternative_names(text, others=[element(0x81, b"mail.example.org")])) for text in NAMES],
+    "issuer-names-empty": [signed(alternative_names("2.5.29.18"))],
+    "issuer-names-critical": [signed(alternative_names("2.5.29.18", "issuer.example.org", critical=True))],
+    "directory-attributes-critical": [signed(extension("2.5.29.9", sequence(), critical=True))],
+    "authority-not-critical": [signed(constraints(TRUE, critical=False), usage(), key_identifier())],
+    "path-length-idle": [signed(constraints(integer(0)))],
+    "authority-default-spelled": [signed(constraints(FALSE))],
+    "name-constraints-not-critical": [signed(*AUTHORITY, extension("2.5.29.30", PERMITTED))],
+    "name-constraints-without-authority": [signed(extension("2.5.29.30", PERMITTED, critical=True))],
+    "policy-constraints-not-critical": [signed(*AUTHORITY, extension("2.5.29.36", DEMANDED))],
+    "purposes-empty": [signed(purposes())],
+    "any-purpose-critical": [signed(purposes("1.3.6.1.5.5.7.3.1", "2.5.29.37.0", critical=True))],
+    "revocation-points-critical": [signed(extension("2.5.29.31", sequence(), critical=True))],
+    "any-policy-not-critical": [signed(*AUTHORITY, extension("2.5.29.54", integer(0)))],
+    "freshest-list-critical": [signed(extension("2.5.29.46", sequence(), critical=True))],
+    "authority-access-critical": [signed(extension("1.3.6.1.5.5.7.1.1", sequence(), critical=True))],
+    "subject-access-critical": [signed(extension("1.3.6.1.5.5.7.1.11", sequence(), critical=True))],
 }
 
 # What breaks two at once, since one can't be broken without the other.
 BOTH = {
     ("subject-empty", "authority-unnamed"): {"subject": name()},
-    ("key-usage-empty", "key-usage-padded"): {"extensions": (usage(b"\x00", 7),)},
-    ("authority-without-signing", "path-length-without-signing"): {
-        "extensions": (constraints(TRUE, integer(0)), usage(b"\x02", 1), key_identifier())
-    },
+    ("subject-empty", "authority-key-missing"): {"subject": name(), "extensions": ()},
+    ("alternative-name-empty", "mailbox-without-at"): signed(alternative_names("2.5.29.17", others=[element(0x81)])),
+    ("key-usage-empty", "key-usage-padded"): signed(usage(b"\x00", 7)),
+    ("authority-without-signing", "path-length-without-signing"): signed(constraints(TRUE, integer(0)), usage(b"\x02", 1), key_identifier()),
 }
 
 # What comes close to breaking a rule, and breaks none.
 KEPT = [
     {},
-    {"extensions": LEAF},
-    {"extensions": ()},
+    signed(*LEAF),
+    {"issuer": name("subject"), "extensions": ()},
+    {"issuer": name("subject"), "extensions": LEAF},
+    {"extensions": (*LEAF, authority_key(KEY_IDENTIFIER, CERT_ISSUER, CERT_SERIAL))},
     {"serialNumber": integer((1 << 159) - 1)},
     {"validity": sequence(utc(2049), general(2050))},
     {"validity": sequence(utc(2020), utc(2020))},
-    {"subject": name(), "extensions": (alternative_names("2.5.29.17", "leaf.example.org", critical=True),)},
+    {"subject": name(), **signed(alternative_names("2.5.29.17", "leaf.example.org", critical=True))},
     {"subjectPublicKeyInfo": rsa_key()},
     {"subjectPublicKeyInfo": rsa_key(exponent=3)},
-    {"extensions": (constraints(TRUE, integer(0)), usage(b"\x07\x80", 7), key_identifier(), authority_key())},
-    {"extensions": (usage(b"\x00\x80", 7), constraints())},
-    {"extensions": (purposes("1.3.6.1.5.5.7.3.1"),)},
+    signed(constraints(TRUE, integer(0)), usage(b"\x07\x80", 7), key_identifier()),
+    signed(usage(b"\x00\x80", 7), constraints()),
+    signed(purposes("1.3.6.1.5.5.7.3.1")),
+    signed(purposes("2.5.29.37.0")),
+    signed(purposes("1.3.6.1.5.5.7.3.1", critical=True)),
+    signed(*(alternative_names(text, "a", others=[address(4), address(16), MAIL, URI, element(0xA4, name("a"))]) for text in NAMES)),
+    signed(*AUTHORITY, extension("2.5.29.30", PERMITTED, critical=True), extension("2.5.29.33", MAPPINGS, critical=True)),
+    signed(*AUTHORITY, extension("2.5.29.36", DEMANDED, critical=True), extension("2.5.29.54", integer(0), critical=True)),
+    signed(*(extension(text, sequence()) for text in ("2.5.29.9", "2.5.29.31", "2.5.29.46", "1.3.6.1.5.5.7.1.1", "1.3.6.1.5.5.7.1.11"))),
 ]

@@ -53,12 +53,12 @@ class Rules(unittest.TestCase):
     def test_one_rule_alone(self):
         for names, changes in BOTH.items():
             data = certificate(**changes)
+            found_in_all = [(it, place_of(RULES[it].where, **changes)) for it in names]
             for name in names:
                 with self.subTest(name):
-                    others = [it for it in names if it != name]
-                    at = place_of(RULES[name].where, **changes)
-                    self.assertEqual(found("--rule", name, data=data), ([(name, at)], 3))
-                    self.assertEqual(found("--rule", ",".join(names), "--ignore", name, data=data)[0], [(it, at) for it in others])
+                    others = [it for it in found_in_all if it[0] != name]
+                    self.assertEqual(found("--rule", name, data=data), ([it for it in found_in_all if it[0] == name], 3))
+                    self.assertEqual(found("--rule", ",".join(names), "--ignore", name, data=data)[0], others)
                     self.assertEqual(found("--ignore", ",".join(names), data=data), ([], 0))
 
 
@@ -127,6 +127,22 @@ class Program(unittest.TestCase):
             self.assertIn(b"no rule is named 'serial\\u{1b}': see cimaroly lint --list", error)
 
 
+# The rules on whether an extension is critical, by OpenSSL's names.
+BY_CRITICALITY = [
+    ("subject-names-critical", "X509v3 Subject Alternative Name", True),
+    ("issuer-names-critical", "X509v3 Issuer Alternative Name", True),
+    ("authority-key-critical", "X509v3 Authority Key Identifier", True),
+    ("subject-key-critical", "X509v3 Subject Key Identifier", True),
+    ("revocation-points-critical", "X509v3 CRL Distribution Points", True),
+    ("authority-access-critical", "Authority Information Access", True),
+    ("subject-access-critical", "Subject Information Access", True),
+    ("name-constraints-not-critical", "X509v3 Name Constraints", False),
+    ("policy-mappings-not-critical", "X509v3 Policy Mappings", False),
+    ("policy-constraints-not-critical", "X509v3 Policy Constraints", False),
+    ("any-policy-not-critical", "X509v3 Inhibit Any Policy", False),
+]
+
+
 def openssl(*words, data):
     return subprocess.run(["openssl", *words], input=data, capture_output=True, check=True).stdout.decode()
 
@@ -143,6 +159,9 @@ def seen_by_openssl(pem):
     times = re.findall(r"(UTCTIME|GENERALIZEDTIME) *:(\d+)Z", parsed)[:2]
     early = [form == "GENERALIZEDTIME" and digits < "2050" for form, digits in times]
     signs = usage and "Certificate Sign" in usage.group(1)
+    authority = re.search(r"X509v3 Authority Key Identifier:.*((?:\n {16}.*)*)", text)
+    parts = [part in authority.group(1) for part in ("DirName:", "serial:")] if authority else [False, False]
+    names = [re.search(rf"{it}: *(.*)", text).group(1) for it in ("Issuer", "Subject")]
     broken = {
         "serial-not-positive": serial == "0" or serial.startswith(("-", "(Negative)")),
         "not-before-form": early[0],
@@ -150,8 +169,13 @@ def seen_by_openssl(pem):
         "modulus-short": size and int(size.group(1) or size.group(2)) < 2048,
         "subject-key-missing": constraints and "X509v3 Subject Key Identifier" not in text,
         "authority-without-signing": constraints and not signs,
+        "key-usage-not-critical": re.search(r"X509v3 Key Usage: *\n", text),
+        "authority-key-missing": names[0] != names[1] and not authority,
+        "authority-key-partial": parts[0] != parts[1],
         "authority-not-critical": constraints and not constraints.group(1) and (signs or not usage),
     }
+    for rule, extension, critical in BY_CRITICALITY:
+        broken[rule] = re.search(rf"{extension}: *{'critical' if critical else ''} *\n", text)
     if written:
         # (an OCTET STRING's content: tag, length, the number of unused bits, and the bits)
         unused, last = bytes.fromhex(written.group(1))[2], bytes.fromhex(written.group(1))[-1]

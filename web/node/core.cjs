@@ -7,47 +7,10 @@
 // or cimaroly32.wasm where there are no 64-bit memories, with the calls of bindings/c/cimaroly.h.
 
 const { STATUS, useRoom } = require("./making.cjs");
-const { DEVIATIONS, Refused } = require("./names.cjs");
+const { DEVIATIONS, FIELDS, Refused } = require("./names.cjs");
 const { KINDS, bytesIn, fromBase64, isSequence, isUtf16, kindOfLabel, pemBlocks, use } = require("./pem.cjs");
 const { findingOf } = require("./rules.cjs");
 const { Values } = require("./values.cjs");
-
-const FIELDS = {
-  certificate: {
-    call: "cimaroly_certificate_fields",
-    names: [
-      "tbsCertificate",
-      "version",
-      "serialNumber",
-      "signature",
-      "issuer",
-      "validity",
-      "subject",
-      "subjectPublicKeyInfo",
-      "issuerUniqueID",
-      "subjectUniqueID",
-      "extensions",
-      "signatureAlgorithm",
-      "signatureValue",
-    ],
-  },
-  request: {
-    call: "cimaroly_request_fields",
-    names: [
-      "certificationRequestInfo",
-      "version",
-      "subject",
-      "subjectPKInfo",
-      "attributes",
-      "signatureAlgorithm",
-      "signature",
-    ],
-  },
-  "private-key": {
-    call: "cimaroly_private_key_fields",
-    names: ["version", "privateKeyAlgorithm", "privateKey", "skipped", "publicKey"],
-  },
-};
 
 // What the search for a PEM block answers where there is no more.
 const NO_MORE = 1;

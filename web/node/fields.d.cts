@@ -66,11 +66,29 @@ export interface PrivateKeyFields {
   publicKey?: Span;
 }
 
-/** The types that have named fields. */
+/** Where the fields of a revocation list are (RFC 5280, 5.1). Optional ones are missing if the input leaves them out. */
+export interface CrlFields {
+  tbsCertList: Span;
+  version?: Span;
+  signature: Span;
+  issuer: Span;
+  thisUpdate: Span;
+  nextUpdate?: Span;
+  revokedCertificates?: Span;
+  crlExtensions?: Span;
+  signatureAlgorithm: Span;
+  signatureValue: Span;
+}
+
+/** The types that have named fields: an outline has those of what it is the outline of. */
 export interface FieldsByKind {
   certificate: CertificateFields;
   request: RequestFields;
   "private-key": PrivateKeyFields;
+  crl: CrlFields;
+  "certificate-outline": CertificateFields;
+  "request-outline": RequestFields;
+  "private-key-outline": PrivateKeyFields;
 }
 
 type KeyOfEach<T> = T extends unknown ? keyof T : never;

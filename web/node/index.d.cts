@@ -4,7 +4,7 @@
 import type { FieldsOf, Kind, Span } from "./fields.cjs";
 
 export type { CertificateFields, FieldName, FieldsByKind, FieldsOf, Kind } from "./fields.cjs";
-export type { PrivateKeyFields, RequestFields, Span } from "./fields.cjs";
+export type { CrlFields, PrivateKeyFields, RequestFields, Span } from "./fields.cjs";
 
 /** DER, or PEM or bare base64 as text or bytes; of PEM the first block of the type is read. */
 export type Input = Uint8Array | ArrayBuffer | string;

@@ -124,7 +124,7 @@ async function goToFindings(context) {
       const gone = await page.run(inPage.goTo(index, "finding"));
       assert.deepEqual(gone, [place, place, labels[index]]);
     }
-    assert.equal(await page.run(text("findings-title")), "Findings: 5 errors and 1 warning");
+    assert.equal(await page.run(text("findings-title")), "Findings: 6 errors and 1 warning");
     const [title] = await page.run(texts("#finding-list h4"));
     assert.equal(title, "Issuer is empty");
     const [severity, reason] = await page.run(texts("#finding-list p"));

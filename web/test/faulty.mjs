@@ -1,8 +1,8 @@
 // A certificate that breaks rules, by hand (RFC 5280, 4.1).
 
 /**
- * Its issuer is empty, it has unique identifiers, and as an authority it has a path length, but neither a subject key
- * identifier nor a key usage.
+ * Its issuer is empty, it has unique identifiers, and as an authority it has a path length, but no key identifier
+ * and no key usage.
  */
 export const FAULTY = Buffer.from(
   "3078306ca003020102020101300506032b65703000301e170d3139313031373137343132385a170d3232313031363137343132385a" +
@@ -17,6 +17,7 @@ export const BROKEN = [
   ["issuer-empty", 19, 21],
   ["issuer-unique-id", 80, 84],
   ["subject-unique-id", 84, 88],
+  ["authority-key-missing", 88, 112],
   ["subject-key-missing", 88, 112],
   ["authority-without-signing", 88, 112],
   ["path-length-without-signing", 88, 112],

@@ -71,6 +71,6 @@ test("the page has findings of certificates alone", () => {
   assert.deepEqual(entryOf(FAULTY, "certificate-outline").findings, []);
   const [refused] = structuresIn(sample("refused_month_13.pem"));
   assert.deepEqual(new Entry(cimaroly, refused).findings, []);
-  assert.equal(headingOf(read(FAULTY).findings), "Findings: 5 errors and 1 warning");
+  assert.equal(headingOf(read(FAULTY).findings), "Findings: 6 errors and 1 warning");
   assert.equal(headingOf(read(FAULTY).findings.slice(0, 1)), "Findings: 1 error");
 });

@@ -25,6 +25,7 @@ struct told {
         struct cimaroly_certificate certificate;
         struct cimaroly_request request;
         struct cimaroly_private_key private_key;
+        struct cimaroly_crl crl;
         uint8_t bytes[sizeof(struct cimaroly_certificate)];
     } of;
 };
@@ -69,6 +70,10 @@ DEFINE_LOOK(signed_part, GIVEN_KIND_AND_INPUT, &told->of.part)
 DEFINE_LOOK(certificate_fields, GIVEN_INPUT, &told->of.certificate)
 DEFINE_LOOK(request_fields, GIVEN_INPUT, &told->of.request)
 DEFINE_LOOK(private_key_fields, GIVEN_INPUT, &told->of.private_key)
+DEFINE_LOOK(certificate_outline_fields, GIVEN_INPUT, &told->of.certificate)
+DEFINE_LOOK(request_outline_fields, GIVEN_INPUT, &told->of.request)
+DEFINE_LOOK(private_key_outline_fields, GIVEN_INPUT, &told->of.private_key)
+DEFINE_LOOK(crl_fields, GIVEN_INPUT, &told->of.crl)
 DEFINE_LOOK(extensions, GIVEN_KIND_AND_INPUT, GIVEN_BUFFER(struct cimaroly_extension))
 DEFINE_CALL(report, GIVEN_KIND_AND_INPUT, false, GIVEN_BUFFER(uint8_t))
 
@@ -76,6 +81,7 @@ DEFINE_CALL(report, GIVEN_KIND_AND_INPUT, false, GIVEN_BUFFER(uint8_t))
 #define LOOK(name, unit, result, kind) {#name, lent_##name, NULL, unit, result, kind}
 
 enum call_number { CHECK, ENCODE, PLACES, SIGNED_PART, CERTIFICATE_FIELDS, REQUEST_FIELDS, PRIVATE_KEY_FIELDS,
+                   CERTIFICATE_OUTLINE_FIELDS, REQUEST_OUTLINE_FIELDS, PRIVATE_KEY_OUTLINE_FIELDS, CRL_FIELDS,
                    EXTENSION_PLACES, REPORT, CALLS };
 
 static const struct call calls[CALLS] = {
@@ -86,6 +92,10 @@ static const struct call calls[CALLS] = {
     LOOK(certificate_fields, 0, sizeof(struct cimaroly_certificate), CIMAROLY_CERTIFICATE),
     LOOK(request_fields, 0, sizeof(struct cimaroly_request), CIMAROLY_REQUEST),
     LOOK(private_key_fields, 0, sizeof(struct cimaroly_private_key), CIMAROLY_PRIVATE_KEY),
+    LOOK(certificate_outline_fields, 0, sizeof(struct cimaroly_certificate), CIMAROLY_CERTIFICATE_OUTLINE),
+    LOOK(request_outline_fields, 0, sizeof(struct cimaroly_request), CIMAROLY_REQUEST_OUTLINE),
+    LOOK(private_key_outline_fields, 0, sizeof(struct cimaroly_private_key), CIMAROLY_PRIVATE_KEY_OUTLINE),
+    LOOK(crl_fields, 0, sizeof(struct cimaroly_crl), CIMAROLY_CRL),
     LOOK(extensions, sizeof(struct cimaroly_extension), 0, EXTENSIONS_KINDS),
     CALL(report, 1, 0, ANY_KIND),
 };

@@ -6,6 +6,7 @@
  *        from one try to the next: by an eighth, where none is given. The last line is 'N passed, M failed'.
  */
 #include "calls.h"
+#include "fields.h"
 #include "guard.h"
 #include "table.h"
 
@@ -123,16 +124,6 @@ static void signed_part_is_right(const struct row *row, const struct told *told)
         expect(part.inside[i] == 0 && part.outside[i] == 0, row, "signed_part", "a count");
 }
 
-/* The names of fields, in the order of the structures. */
-static const char *const field_names[][14] = {
-    {"tbs_certificate", "version", "serial_number", "signature", "issuer", "validity", "subject",
-     "subject_public_key_info", "issuer_unique_id", "subject_unique_id", "extensions", "signature_algorithm",
-     "signature_value", NULL},
-    {"certification_request_info", "version", "subject", "subject_public_key_info", "attributes",
-     "signature_algorithm", "signature", NULL},
-    {"version", "private_key_algorithm", "private_key", "skipped", "public_key", NULL},
-};
-
 /* The place of a field that a row states, or no place. */
 static struct cimaroly_span stated_field(const struct row *row, const char *name)
 {
@@ -152,7 +143,7 @@ static struct cimaroly_span stated_field(const struct row *row, const char *name
 
 static void fields_are_right(const struct row *row, const struct told *told, const char *call)
 {
-    const char *const *names = field_names[row->kind - CIMAROLY_CERTIFICATE];
+    const char *const *names = names_of(row->kind);
     struct cimaroly_span fields[13];
     memcpy(fields, told->of.bytes, sizeof fields);
     for (size_t i = 0; names[i] != NULL; i++)

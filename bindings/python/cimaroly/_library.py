@@ -110,7 +110,23 @@ FIELDS: dict[Kind, tuple[str, ...]] = {
         "signature",
     ),
     "private-key": ("version", "private_key_algorithm", "private_key", "skipped", "public_key"),
+    "crl": (
+        "tbs_cert_list",
+        "version",
+        "signature",
+        "issuer",
+        "this_update",
+        "next_update",
+        "revoked_certificates",
+        "crl_extensions",
+        "signature_algorithm",
+        "signature_value",
+    ),
 }
+# An outline has the fields of what it is the outline of.
+FIELDS["certificate-outline"] = FIELDS["certificate"]
+FIELDS["request-outline"] = FIELDS["request"]
+FIELDS["private-key-outline"] = FIELDS["private-key"]
 # The numbers of `struct cimaroly_verdict` and of `struct cimaroly_extension`.
 _VERDICT, _EXTENSION = struct.Struct("@13N"), struct.Struct("@8N")
 
@@ -149,6 +165,10 @@ def _load() -> dict[str, Callable[..., int]]:
         "cimaroly_certificate_fields": (*given, c_void_p),
         "cimaroly_request_fields": (*given, c_void_p),
         "cimaroly_private_key_fields": (*given, c_void_p),
+        "cimaroly_certificate_outline_fields": (*given, c_void_p),
+        "cimaroly_request_outline_fields": (*given, c_void_p),
+        "cimaroly_private_key_outline_fields": (*given, c_void_p),
+        "cimaroly_crl_fields": (*given, c_void_p),
         "cimaroly_validity": (*given, c_void_p, c_void_p),
         "cimaroly_serial_number": (*given, c_void_p),
         "cimaroly_subject_attributes": (*given, *buffer),

@@ -221,7 +221,8 @@ class Structure:
 
     @property
     def fields(self) -> Mapping[str, Field]:
-        """The fields that a certificate, a request or a private key has, by their names in `cimaroly.h`.
+        """The fields that a certificate, a request, a private key, an outline of one or a CRL has, by their names in
+        `cimaroly.h`.
 
         Raises `ValueError` for another kind.
         """

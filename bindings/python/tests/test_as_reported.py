@@ -15,7 +15,7 @@ from cimaroly import _keys, _library, _names, _values
 from cimaroly._names import element
 from tests import made
 from tests.test_cimaroly import DATA
-from tests.test_values import contents
+from tests.test_compared import contents
 
 COMMON, TITLE, MAIL = "550403", "55040c", "2a864886f70d010901"
 

@@ -13,7 +13,7 @@ from typing import Any
 import cimaroly
 from cimaroly._names import element
 from tests import made
-from tests.test_values import contents
+from tests.test_compared import contents
 
 ROOT = os.path.dirname(os.path.dirname(os.path.dirname(os.path.dirname(os.path.abspath(__file__)))))
 PROGRAM = os.environ.get("CIMAROLY") or f"{ROOT}/dist/{platform.machine()}-linux/cimaroly"
@@ -34,7 +34,7 @@ def rules(certificate: cimaroly.Certificate) -> list[str]:
 class Findings(unittest.TestCase):
     def test_what_is_told_of_one(self) -> None:
         certificate = made.certificate(subject=NAME, serial=b"\0")
-        number, issuer = certificate.findings
+        number, issuer, key = certificate.findings
         self.assertIsInstance(number, cimaroly.Finding)
         self.assertEqual((number.rule, number.severity), ("serial-not-positive", "error"))
         self.assertEqual((number.text, number.clause), ("serial number isn't positive", "RFC 5280, 4.1.2.2"))
@@ -42,17 +42,19 @@ class Findings(unittest.TestCase):
         self.assertEqual(certificate.der[number.start : number.end], b"\2\1\0")
         field = certificate.fields["issuer"]
         self.assertEqual((issuer.rule, issuer.start, issuer.end), ("issuer-empty", field.start, field.end))
+        self.assertEqual(key.rule, "authority-key-missing")
 
     def test_rules(self) -> None:
         purposes = made.extension(made.PURPOSES, made.sequence())
         usage = made.extension(made.KEY_USAGE, element(3, b"\2\4"))
         reversed_times = (made.TIMES[1], made.TIMES[0])
+        missing = "authority-key-missing"
         broken: list[tuple[cimaroly.Certificate, list[str]]] = [
-            (made.certificate(subject=NAME), []),
+            (made.certificate(subject=NAME), [missing]),
             (made.certificate(), ["subject-empty"]),
-            (made.certificate(subject=NAME, times=reversed_times), ["validity-reversed"]),
-            (made.certificate(purposes, subject=NAME), ["purposes-empty"]),
-            (made.certificate(usage, subject=NAME), ["signing-without-authority"]),
+            (made.certificate(subject=NAME, times=reversed_times), ["validity-reversed", missing]),
+            (made.certificate(purposes, subject=NAME), [missing, "purposes-empty"]),
+            (made.certificate(usage, subject=NAME), [missing, "key-usage-not-critical", "signing-without-authority"]),
         ]
         for certificate, more in broken:
             self.assertEqual(rules(certificate), ["issuer-empty", *more])

@@ -20,7 +20,7 @@ except ImportError:
 import cimaroly
 from cimaroly._names import element
 from tests import made
-from tests.test_values import contents
+from tests.test_compared import contents
 
 UTC = datetime.timezone.utc
 

@@ -4,7 +4,10 @@ use alloc::string::String;
 use alloc::vec::Vec;
 
 use crate::error::Error;
-use crate::fields::{Certificate, Extension, PrivateKey, Request};
+use crate::fields::{
+    Certificate, CertificateOutline, Crl, Extension, PrivateKey, PrivateKeyOutline, Request,
+    RequestOutline,
+};
 use crate::findings::{Finding, Rule};
 use crate::keys::PublicKey;
 use crate::kind::Kind;
@@ -129,6 +132,38 @@ pub fn request(der: &[u8]) -> Result<Request<'_>, Error> {
 /// [`Error::Refused`], and [`Error::OutOfMemory`] if the allocator refuses memory.
 pub fn private_key(der: &[u8]) -> Result<PrivateKey<'_>, Error> {
     lent(der, |reader| reader.private_key(der))
+}
+
+/// As [`Reader::certificate_outline`].
+///
+/// # Errors
+/// [`Error::Refused`], and [`Error::OutOfMemory`] if the allocator refuses memory.
+pub fn certificate_outline(der: &[u8]) -> Result<CertificateOutline<'_>, Error> {
+    lent(der, |reader| reader.certificate_outline(der))
+}
+
+/// As [`Reader::request_outline`].
+///
+/// # Errors
+/// [`Error::Refused`], and [`Error::OutOfMemory`] if the allocator refuses memory.
+pub fn request_outline(der: &[u8]) -> Result<RequestOutline<'_>, Error> {
+    lent(der, |reader| reader.request_outline(der))
+}
+
+/// As [`Reader::private_key_outline`].
+///
+/// # Errors
+/// [`Error::Refused`], and [`Error::OutOfMemory`] if the allocator refuses memory.
+pub fn private_key_outline(der: &[u8]) -> Result<PrivateKeyOutline<'_>, Error> {
+    lent(der, |reader| reader.private_key_outline(der))
+}
+
+/// As [`Reader::crl`].
+///
+/// # Errors
+/// [`Error::Refused`], and [`Error::OutOfMemory`] if the allocator refuses memory.
+pub fn crl(der: &[u8]) -> Result<Crl<'_>, Error> {
+    lent(der, |reader| reader.crl(der))
 }
 
 /// As [`Reader::public_key`].

@@ -118,6 +118,96 @@ pub struct PrivateKey<'a> {
     pub public_key: Option<Field<'a>>,
 }
 
+/// The fields of a certificate of any algorithm, read in outline (RFC 5280, 4.1).
+#[derive(Clone, Copy, Debug, PartialEq, Eq)]
+pub struct CertificateOutline<'a> {
+    /// `tbsCertificate`, which the signature covers.
+    pub tbs_certificate: Field<'a>,
+    /// `version`.
+    pub version: Option<Field<'a>>,
+    /// `serialNumber`.
+    pub serial_number: Field<'a>,
+    /// `signature`, an algorithm.
+    pub signature: Field<'a>,
+    /// `issuer`.
+    pub issuer: Field<'a>,
+    /// `validity`.
+    pub validity: Field<'a>,
+    /// `subject`.
+    pub subject: Field<'a>,
+    /// `subjectPublicKeyInfo`.
+    pub subject_public_key_info: Field<'a>,
+    /// `issuerUniqueID`.
+    pub issuer_unique_id: Option<Field<'a>>,
+    /// `subjectUniqueID`.
+    pub subject_unique_id: Option<Field<'a>>,
+    /// `extensions`.
+    pub extensions: Option<Field<'a>>,
+    /// `signatureAlgorithm`.
+    pub signature_algorithm: Field<'a>,
+    /// `signatureValue`.
+    pub signature_value: Field<'a>,
+}
+
+/// The fields of a request of any algorithm, read in outline (RFC 2986, 4).
+#[derive(Clone, Copy, Debug, PartialEq, Eq)]
+pub struct RequestOutline<'a> {
+    /// `certificationRequestInfo`, which the signature covers.
+    pub certification_request_info: Field<'a>,
+    /// `version`.
+    pub version: Field<'a>,
+    /// `subject`.
+    pub subject: Field<'a>,
+    /// `subjectPKInfo`.
+    pub subject_public_key_info: Field<'a>,
+    /// `attributes`.
+    pub attributes: Field<'a>,
+    /// `signatureAlgorithm`.
+    pub signature_algorithm: Field<'a>,
+    /// `signature`.
+    pub signature: Field<'a>,
+}
+
+/// The fields of a private key of any algorithm, read in outline (RFC 5958, 2).
+#[derive(Clone, Copy, Debug, PartialEq, Eq)]
+pub struct PrivateKeyOutline<'a> {
+    /// `version`.
+    pub version: Field<'a>,
+    /// `privateKeyAlgorithm`.
+    pub private_key_algorithm: Field<'a>,
+    /// `privateKey`.
+    pub private_key: Field<'a>,
+    /// An element that isn't understood, such as `attributes [0]`.
+    pub skipped: Option<Field<'a>>,
+    /// `publicKey`.
+    pub public_key: Option<Field<'a>>,
+}
+
+/// The fields of a revocation list of any algorithm (RFC 5280, 5.1).
+#[derive(Clone, Copy, Debug, PartialEq, Eq)]
+pub struct Crl<'a> {
+    /// `tbsCertList`, which the signature covers.
+    pub tbs_cert_list: Field<'a>,
+    /// `version`.
+    pub version: Option<Field<'a>>,
+    /// `signature`, an algorithm.
+    pub signature: Field<'a>,
+    /// `issuer`.
+    pub issuer: Field<'a>,
+    /// `thisUpdate`.
+    pub this_update: Field<'a>,
+    /// `nextUpdate`.
+    pub next_update: Option<Field<'a>>,
+    /// `revokedCertificates`.
+    pub revoked_certificates: Option<Field<'a>>,
+    /// `crlExtensions`.
+    pub crl_extensions: Option<Field<'a>>,
+    /// `signatureAlgorithm`.
+    pub signature_algorithm: Field<'a>,
+    /// `signatureValue`.
+    pub signature_value: Field<'a>,
+}
+
 /// An extension (RFC 5280, 4.1).
 #[derive(Clone, Copy, Debug, PartialEq, Eq)]
 pub struct Extension<'a> {

@@ -42,37 +42,76 @@ pub enum Rule {
     SubjectUniqueId = 16,
     /// Authority key identifier is critical.
     AuthorityKeyCritical = 17,
+    /// No authority key identifier has a `keyIdentifier`, though issuer and subject differ.
+    AuthorityKeyMissing = 18,
+    /// Authority key identifier has one of `authorityCertIssuer` and `authorityCertSerialNumber`
+    /// without the other.
+    AuthorityKeyPartial = 19,
     /// Subject key identifier is critical.
-    SubjectKeyCritical = 18,
+    SubjectKeyCritical = 20,
     /// Authority has no subject key identifier.
-    SubjectKeyMissing = 19,
+    SubjectKeyMissing = 21,
     /// Key usage allows nothing.
-    KeyUsageEmpty = 20,
+    KeyUsageEmpty = 22,
     /// Key usage has trailing zero bits.
-    KeyUsagePadded = 21,
+    KeyUsagePadded = 23,
+    /// Key usage isn't critical.
+    KeyUsageNotCritical = 24,
     /// Key may sign certificates, but the subject isn't an authority.
-    SigningWithoutAuthority = 22,
+    SigningWithoutAuthority = 25,
     /// Subject is an authority, but no key usage lets the key sign certificates.
-    AuthorityWithoutSigning = 23,
+    AuthorityWithoutSigning = 26,
+    /// Policy mappings aren't critical.
+    PolicyMappingsNotCritical = 27,
     /// `subjectAltName` has no names.
-    SubjectNamesEmpty = 24,
+    SubjectNamesEmpty = 28,
+    /// `subjectAltName` is critical, though the subject isn't empty.
+    SubjectNamesCritical = 29,
+    /// An alternative name is empty.
+    AlternativeNameEmpty = 30,
+    /// An `iPAddress` has neither four nor sixteen octets.
+    AddressLength = 31,
+    /// An `rfc822Name` has no @.
+    MailboxWithoutAt = 32,
     /// `issuerAltName` has no names.
-    IssuerNamesEmpty = 25,
+    IssuerNamesEmpty = 33,
+    /// `issuerAltName` is critical.
+    IssuerNamesCritical = 34,
+    /// `subjectDirectoryAttributes` is critical.
+    DirectoryAttributesCritical = 35,
     /// Basic constraints of an authority that may sign certificates aren't critical.
-    AuthorityNotCritical = 26,
+    AuthorityNotCritical = 36,
     /// Path length is limited, but the subject isn't an authority.
-    PathLengthIdle = 27,
+    PathLengthIdle = 37,
     /// Path length is limited, but no key usage lets the key sign certificates.
-    PathLengthWithoutSigning = 28,
+    PathLengthWithoutSigning = 38,
     /// `cA` FALSE is encoded, though it is the default.
-    AuthorityDefaultSpelled = 29,
+    AuthorityDefaultSpelled = 39,
+    /// Name constraints aren't critical.
+    NameConstraintsNotCritical = 40,
+    /// Name constraints are there, but the subject isn't an authority.
+    NameConstraintsWithoutAuthority = 41,
+    /// Policy constraints aren't critical.
+    PolicyConstraintsNotCritical = 42,
     /// `extKeyUsage` has no purposes.
-    PurposesEmpty = 30,
+    PurposesEmpty = 43,
+    /// `extKeyUsage` has `anyExtendedKeyUsage`, and is critical.
+    AnyPurposeCritical = 44,
+    /// `cRLDistributionPoints` is critical.
+    RevocationPointsCritical = 45,
+    /// `inhibitAnyPolicy` isn't critical.
+    AnyPolicyNotCritical = 46,
+    /// `freshestCRL` is critical.
+    FreshestListCritical = 47,
+    /// `authorityInfoAccess` is critical.
+    AuthorityAccessCritical = 48,
+    /// `subjectInfoAccess` is critical.
+    SubjectAccessCritical = 49,
 }
 
 impl Rule {
     /// Every rule, in the order of their numbers.
-    pub const ALL: [Rule; 30] = [
+    pub const ALL: [Rule; 49] = [
         Rule::SerialNotPositive,
         Rule::SerialTooLong,
         Rule::AlgorithmsDiffer,
@@ -90,19 +129,38 @@ impl Rule {
         Rule::IssuerUniqueId,
         Rule::SubjectUniqueId,
         Rule::AuthorityKeyCritical,
+        Rule::AuthorityKeyMissing,
+        Rule::AuthorityKeyPartial,
         Rule::SubjectKeyCritical,
         Rule::SubjectKeyMissing,
         Rule::KeyUsageEmpty,
         Rule::KeyUsagePadded,
+        Rule::KeyUsageNotCritical,
         Rule::SigningWithoutAuthority,
         Rule::AuthorityWithoutSigning,
+        Rule::PolicyMappingsNotCritical,
         Rule::SubjectNamesEmpty,
+        Rule::SubjectNamesCritical,
+        Rule::AlternativeNameEmpty,
+        Rule::AddressLength,
+        Rule::MailboxWithoutAt,
         Rule::IssuerNamesEmpty,
+        Rule::IssuerNamesCritical,
+        Rule::DirectoryAttributesCritical,
         Rule::AuthorityNotCritical,
         Rule::PathLengthIdle,
         Rule::PathLengthWithoutSigning,
         Rule::AuthorityDefaultSpelled,
+        Rule::NameConstraintsNotCritical,
+        Rule::NameConstraintsWithoutAuthority,
+        Rule::PolicyConstraintsNotCritical,
         Rule::PurposesEmpty,
+        Rule::AnyPurposeCritical,
+        Rule::RevocationPointsCritical,
+        Rule::AnyPolicyNotCritical,
+        Rule::FreshestListCritical,
+        Rule::AuthorityAccessCritical,
+        Rule::SubjectAccessCritical,
     ];
 
     /// The number, from 1 on.
@@ -138,19 +196,38 @@ impl Rule {
             Rule::IssuerUniqueId => "issuer-unique-id",
             Rule::SubjectUniqueId => "subject-unique-id",
             Rule::AuthorityKeyCritical => "authority-key-critical",
+            Rule::AuthorityKeyMissing => "authority-key-missing",
+            Rule::AuthorityKeyPartial => "authority-key-partial",
             Rule::SubjectKeyCritical => "subject-key-critical",
             Rule::SubjectKeyMissing => "subject-key-missing",
             Rule::KeyUsageEmpty => "key-usage-empty",
             Rule::KeyUsagePadded => "key-usage-padded",
+            Rule::KeyUsageNotCritical => "key-usage-not-critical",
             Rule::SigningWithoutAuthority => "signing-without-authority",
             Rule::AuthorityWithoutSigning => "authority-without-signing",
+            Rule::PolicyMappingsNotCritical => "policy-mappings-not-critical",
             Rule::SubjectNamesEmpty => "subject-names-empty",
+            Rule::SubjectNamesCritical => "subject-names-critical",
+            Rule::AlternativeNameEmpty => "alternative-name-empty",
+            Rule::AddressLength => "address-length",
+            Rule::MailboxWithoutAt => "mailbox-without-at",
             Rule::IssuerNamesEmpty => "issuer-names-empty",
+            Rule::IssuerNamesCritical => "issuer-names-critical",
+            Rule::DirectoryAttributesCritical => "directory-attributes-critical",
             Rule::AuthorityNotCritical => "authority-not-critical",
             Rule::PathLengthIdle => "path-length-idle",
             Rule::PathLengthWithoutSigning => "path-length-without-signing",
             Rule::AuthorityDefaultSpelled => "authority-default-spelled",
+            Rule::NameConstraintsNotCritical => "name-constraints-not-critical",
+            Rule::NameConstraintsWithoutAuthority => "name-constraints-without-authority",
+            Rule::PolicyConstraintsNotCritical => "policy-constraints-not-critical",
             Rule::PurposesEmpty => "purposes-empty",
+            Rule::AnyPurposeCritical => "any-purpose-critical",
+            Rule::RevocationPointsCritical => "revocation-points-critical",
+            Rule::AnyPolicyNotCritical => "any-policy-not-critical",
+            Rule::FreshestListCritical => "freshest-list-critical",
+            Rule::AuthorityAccessCritical => "authority-access-critical",
+            Rule::SubjectAccessCritical => "subject-access-critical",
         }
     }
 
@@ -177,18 +254,34 @@ impl Rule {
             Rule::IssuerUniqueId => "issuer has a unique identifier",
             Rule::SubjectUniqueId => "subject has a unique identifier",
             Rule::AuthorityKeyCritical => "authority key identifier is critical",
+            Rule::AuthorityKeyMissing => {
+                "no authority key identifier has a keyIdentifier, though issuer and subject differ"
+            }
+            Rule::AuthorityKeyPartial => {
+                "authority key identifier has one of authorityCertIssuer and authorityCertSerialNumber without the other"
+            }
             Rule::SubjectKeyCritical => "subject key identifier is critical",
             Rule::SubjectKeyMissing => "authority has no subject key identifier",
             Rule::KeyUsageEmpty => "key usage allows nothing",
             Rule::KeyUsagePadded => "key usage has trailing zero bits",
+            Rule::KeyUsageNotCritical => "key usage isn't critical",
             Rule::SigningWithoutAuthority => {
                 "key may sign certificates, but the subject isn't an authority"
             }
             Rule::AuthorityWithoutSigning => {
                 "subject is an authority, but no key usage lets the key sign certificates"
             }
+            Rule::PolicyMappingsNotCritical => "policy mappings aren't critical",
             Rule::SubjectNamesEmpty => "subjectAltName has no names",
+            Rule::SubjectNamesCritical => {
+                "subjectAltName is critical, though the subject isn't empty"
+            }
+            Rule::AlternativeNameEmpty => "an alternative name is empty",
+            Rule::AddressLength => "an iPAddress has neither four nor sixteen octets",
+            Rule::MailboxWithoutAt => "an rfc822Name has no @",
             Rule::IssuerNamesEmpty => "issuerAltName has no names",
+            Rule::IssuerNamesCritical => "issuerAltName is critical",
+            Rule::DirectoryAttributesCritical => "subjectDirectoryAttributes is critical",
             Rule::AuthorityNotCritical => {
                 "basic constraints of an authority that may sign certificates aren't critical"
             }
@@ -197,7 +290,18 @@ impl Rule {
                 "path length is limited, but no key usage lets the key sign certificates"
             }
             Rule::AuthorityDefaultSpelled => "cA FALSE is encoded, though it is the default",
+            Rule::NameConstraintsNotCritical => "name constraints aren't critical",
+            Rule::NameConstraintsWithoutAuthority => {
+                "name constraints are there, but the subject isn't an authority"
+            }
+            Rule::PolicyConstraintsNotCritical => "policy constraints aren't critical",
             Rule::PurposesEmpty => "extKeyUsage has no purposes",
+            Rule::AnyPurposeCritical => "extKeyUsage has anyExtendedKeyUsage, and is critical",
+            Rule::RevocationPointsCritical => "cRLDistributionPoints is critical",
+            Rule::AnyPolicyNotCritical => "inhibitAnyPolicy isn't critical",
+            Rule::FreshestListCritical => "freshestCRL is critical",
+            Rule::AuthorityAccessCritical => "authorityInfoAccess is critical",
+            Rule::SubjectAccessCritical => "subjectInfoAccess is critical",
         }
     }
 
@@ -223,26 +327,55 @@ impl Rule {
             Rule::IssuerUniqueId => "RFC 5280, 4.1.2.8",
             Rule::SubjectUniqueId => "RFC 5280, 4.1.2.8",
             Rule::AuthorityKeyCritical => "RFC 5280, 4.2.1.1",
+            Rule::AuthorityKeyMissing => "RFC 5280, 4.2.1.1",
+            Rule::AuthorityKeyPartial => "RFC 5280, A.2",
             Rule::SubjectKeyCritical => "RFC 5280, 4.2.1.2",
             Rule::SubjectKeyMissing => "RFC 5280, 4.2.1.2",
             Rule::KeyUsageEmpty => "RFC 5280, 4.2.1.3",
             Rule::KeyUsagePadded => "X.690, 11.2.2",
+            Rule::KeyUsageNotCritical => "RFC 5280, 4.2.1.3",
             Rule::SigningWithoutAuthority => "RFC 5280, 4.2.1.9",
             Rule::AuthorityWithoutSigning => "RFC 5280, 4.2.1.3",
+            Rule::PolicyMappingsNotCritical => "RFC 5280, 4.2.1.5",
             Rule::SubjectNamesEmpty => "RFC 5280, 4.2.1.6",
+            Rule::SubjectNamesCritical => "RFC 5280, 4.2.1.6",
+            Rule::AlternativeNameEmpty => "RFC 5280, 4.2.1.6",
+            Rule::AddressLength => "RFC 5280, 4.2.1.6",
+            Rule::MailboxWithoutAt => "RFC 5280, 4.2.1.6",
             Rule::IssuerNamesEmpty => "RFC 5280, 4.2.1.7",
+            Rule::IssuerNamesCritical => "RFC 5280, 4.2.1.7",
+            Rule::DirectoryAttributesCritical => "RFC 5280, 4.2.1.8",
             Rule::AuthorityNotCritical => "RFC 5280, 4.2.1.9",
             Rule::PathLengthIdle => "RFC 5280, 4.2.1.9",
             Rule::PathLengthWithoutSigning => "RFC 5280, 4.2.1.9",
             Rule::AuthorityDefaultSpelled => "X.690, 11.5",
+            Rule::NameConstraintsNotCritical => "RFC 5280, 4.2.1.10",
+            Rule::NameConstraintsWithoutAuthority => "RFC 5280, 4.2.1.10",
+            Rule::PolicyConstraintsNotCritical => "RFC 5280, 4.2.1.11",
             Rule::PurposesEmpty => "RFC 5280, 4.2.1.12",
+            Rule::AnyPurposeCritical => "RFC 5280, 4.2.1.12",
+            Rule::RevocationPointsCritical => "RFC 5280, 4.2.1.13",
+            Rule::AnyPolicyNotCritical => "RFC 5280, 4.2.1.14",
+            Rule::FreshestListCritical => "RFC 5280, 4.2.1.15",
+            Rule::AuthorityAccessCritical => "RFC 5280, 4.2.2.1",
+            Rule::SubjectAccessCritical => "RFC 5280, 4.2.2.2",
         }
     }
 
     /// Whether what it finds is allowed, or was, and mostly a mistake; else the clause forbids it.
     #[must_use]
     pub const fn is_warning(self) -> bool {
-        matches!(self, Rule::ModulusShort | Rule::AuthorityWithoutSigning)
+        matches!(
+            self,
+            Rule::ModulusShort
+                | Rule::KeyUsageNotCritical
+                | Rule::AuthorityWithoutSigning
+                | Rule::PolicyMappingsNotCritical
+                | Rule::SubjectNamesCritical
+                | Rule::IssuerNamesCritical
+                | Rule::AnyPurposeCritical
+                | Rule::RevocationPointsCritical
+        )
     }
 }
 

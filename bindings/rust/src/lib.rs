@@ -67,12 +67,15 @@ mod values;
 
 #[cfg(feature = "alloc")]
 pub use crate::allocated::{
-    certificate, check, encode, extensions, findings, places, private_key, public_key, report,
-    request, signed_part,
+    certificate, certificate_outline, check, crl, encode, extensions, findings, places,
+    private_key, private_key_outline, public_key, report, request, request_outline, signed_part,
 };
 pub use crate::error::{Error, Reason, Refused};
 pub use crate::field_path::FieldPath;
-pub use crate::fields::{Certificate, Extension, Field, PrivateKey, Request};
+pub use crate::fields::{
+    Certificate, CertificateOutline, Crl, Extension, Field, PrivateKey, PrivateKeyOutline, Request,
+    RequestOutline,
+};
 pub use crate::findings::{Finding, Rule};
 pub use crate::further::check_extension;
 pub use crate::general_names::{GeneralName, GeneralNames};

@@ -6,6 +6,7 @@
 //! overlaps nothing else; and the library keeps no pointer.
 #![allow(unsafe_code)]
 
+pub(crate) mod fields;
 pub(crate) mod keys;
 #[cfg(feature = "alloc")]
 pub(crate) mod making;
@@ -92,49 +93,6 @@ pub(crate) struct Signed {
     pub(crate) outside: Counts,
 }
 
-/// `struct cimaroly_certificate`.
-#[derive(Default)]
-#[repr(C)]
-pub(crate) struct Certificate {
-    pub(crate) tbs_certificate: Span,
-    pub(crate) version: Span,
-    pub(crate) serial_number: Span,
-    pub(crate) signature: Span,
-    pub(crate) issuer: Span,
-    pub(crate) validity: Span,
-    pub(crate) subject: Span,
-    pub(crate) subject_public_key_info: Span,
-    pub(crate) issuer_unique_id: Span,
-    pub(crate) subject_unique_id: Span,
-    pub(crate) extensions: Span,
-    pub(crate) signature_algorithm: Span,
-    pub(crate) signature_value: Span,
-}
-
-/// `struct cimaroly_request`.
-#[derive(Default)]
-#[repr(C)]
-pub(crate) struct Request {
-    pub(crate) certification_request_info: Span,
-    pub(crate) version: Span,
-    pub(crate) subject: Span,
-    pub(crate) subject_public_key_info: Span,
-    pub(crate) attributes: Span,
-    pub(crate) signature_algorithm: Span,
-    pub(crate) signature: Span,
-}
-
-/// `struct cimaroly_private_key`.
-#[derive(Default)]
-#[repr(C)]
-pub(crate) struct PrivateKey {
-    pub(crate) version: Span,
-    pub(crate) private_key_algorithm: Span,
-    pub(crate) private_key: Span,
-    pub(crate) skipped: Span,
-    pub(crate) public_key: Span,
-}
-
 /// Where an extension and its fields stand: an item of the buffer that
 /// [`crate::Reader::extensions`] fills.
 #[derive(Clone, Copy, Debug, Default)]
@@ -206,8 +164,8 @@ pub(crate) mod status {
 
 mod c {
     use super::{
-        AttributePlace, BasicConstraints, Certificate, ExtensionPlaces, FlatPemBlock,
-        GeneralNamePlace, Memory, PrivateKey, Request, Signed, Span, Time, Verdict, USAGES,
+        AttributePlace, BasicConstraints, ExtensionPlaces, FlatPemBlock, GeneralNamePlace, Memory,
+        Signed, Span, Time, Verdict, USAGES,
     };
 
     extern "C" {
@@ -231,21 +189,6 @@ mod c {
             der: *const u8,
             der_size: usize,
             part: *mut Signed,
-        ) -> u32;
-        pub(super) fn cimaroly_certificate_fields(
-            der: *const u8,
-            der_size: usize,
-            fields: *mut Certificate,
-        ) -> u32;
-        pub(super) fn cimaroly_request_fields(
-            der: *const u8,
-            der_size: usize,
-            fields: *mut Request,
-        ) -> u32;
-        pub(super) fn cimaroly_private_key_fields(
-            der: *const u8,
-            der_size: usize,
-            fields: *mut PrivateKey,
         ) -> u32;
         pub(super) fn cimaroly_extensions(
             kind: u32,
@@ -359,21 +302,6 @@ pub(crate) fn encode(
 pub(crate) fn signed_part(kind: u32, der: &[u8], told: &mut Signed) -> u32 {
     // SAFETY: as above.
     unsafe { c::cimaroly_signed_part(kind, der.as_ptr(), der.len(), told) }
-}
-
-pub(crate) fn certificate(der: &[u8], told: &mut Certificate) -> u32 {
-    // SAFETY: as above.
-    unsafe { c::cimaroly_certificate_fields(der.as_ptr(), der.len(), told) }
-}
-
-pub(crate) fn request(der: &[u8], told: &mut Request) -> u32 {
-    // SAFETY: as above.
-    unsafe { c::cimaroly_request_fields(der.as_ptr(), der.len(), told) }
-}
-
-pub(crate) fn private_key(der: &[u8], told: &mut PrivateKey) -> u32 {
-    // SAFETY: as above.
-    unsafe { c::cimaroly_private_key_fields(der.as_ptr(), der.len(), told) }
 }
 
 pub(crate) fn extensions(

@@ -5,7 +5,10 @@ use core::str;
 
 use crate::error::{Error, Reason, Refused};
 use crate::field_path::FieldPath;
-use crate::fields::{Certificate, Extension, Field, PrivateKey, Request};
+use crate::fields::{
+    Certificate, CertificateOutline, Crl, Extension, Field, PrivateKey, PrivateKeyOutline, Request,
+    RequestOutline,
+};
 use crate::findings::Finding;
 use crate::keys::PublicKey;
 use crate::kind::Kind;
@@ -124,8 +127,8 @@ impl<'m> Reader<'m> {
     /// # Errors
     /// [`Error::Refused`] and [`Error::OutOfMemory`].
     pub fn certificate<'a>(&mut self, der: &'a [u8]) -> Result<Certificate<'a>, Error> {
-        let mut told = library::Certificate::default();
-        let status = library::certificate(der, &mut told);
+        let mut told = library::fields::Certificate::default();
+        let status = library::fields::certificate(der, &mut told);
         self.done(status, Kind::Certificate, der, 0)?;
         Ok(Certificate {
             tbs_certificate: field(der, told.tbs_certificate),
@@ -150,8 +153,8 @@ impl<'m> Reader<'m> {
     /// # Errors
     /// [`Error::Refused`] and [`Error::OutOfMemory`].
     pub fn request<'a>(&mut self, der: &'a [u8]) -> Result<Request<'a>, Error> {
-        let mut told = library::Request::default();
-        let status = library::request(der, &mut told);
+        let mut told = library::fields::Request::default();
+        let status = library::fields::request(der, &mut told);
         self.done(status, Kind::Request, der, 0)?;
         Ok(Request {
             certification_request_info: field(der, told.certification_request_info),
@@ -170,8 +173,8 @@ impl<'m> Reader<'m> {
     /// # Errors
     /// [`Error::Refused`] and [`Error::OutOfMemory`].
     pub fn private_key<'a>(&mut self, der: &'a [u8]) -> Result<PrivateKey<'a>, Error> {
-        let mut told = library::PrivateKey::default();
-        let status = library::private_key(der, &mut told);
+        let mut told = library::fields::PrivateKey::default();
+        let status = library::fields::private_key(der, &mut told);
         self.done(status, Kind::PrivateKey, der, 0)?;
         Ok(PrivateKey {
             version: field(der, told.version),
@@ -179,6 +182,95 @@ impl<'m> Reader<'m> {
             private_key: field(der, told.private_key),
             skipped: optional(der, told.skipped),
             public_key: optional(der, told.public_key),
+        })
+    }
+
+    /// The fields of a certificate of any algorithm.
+    ///
+    /// # Errors
+    /// [`Error::Refused`] and [`Error::OutOfMemory`].
+    pub fn certificate_outline<'a>(
+        &mut self,
+        der: &'a [u8],
+    ) -> Result<CertificateOutline<'a>, Error> {
+        let mut told = library::fields::Certificate::default();
+        let status = library::fields::certificate_outline(der, &mut told);
+        self.done(status, Kind::CertificateOutline, der, 0)?;
+        Ok(CertificateOutline {
+            tbs_certificate: field(der, told.tbs_certificate),
+            version: optional(der, told.version),
+            serial_number: field(der, told.serial_number),
+            signature: field(der, told.signature),
+            issuer: field(der, told.issuer),
+            validity: field(der, told.validity),
+            subject: field(der, told.subject),
+            subject_public_key_info: field(der, told.subject_public_key_info),
+            issuer_unique_id: optional(der, told.issuer_unique_id),
+            subject_unique_id: optional(der, told.subject_unique_id),
+            extensions: optional(der, told.extensions),
+            signature_algorithm: field(der, told.signature_algorithm),
+            signature_value: field(der, told.signature_value),
+        })
+    }
+
+    /// The fields of a request of any algorithm.
+    ///
+    /// # Errors
+    /// [`Error::Refused`] and [`Error::OutOfMemory`].
+    pub fn request_outline<'a>(&mut self, der: &'a [u8]) -> Result<RequestOutline<'a>, Error> {
+        let mut told = library::fields::Request::default();
+        let status = library::fields::request_outline(der, &mut told);
+        self.done(status, Kind::RequestOutline, der, 0)?;
+        Ok(RequestOutline {
+            certification_request_info: field(der, told.certification_request_info),
+            version: field(der, told.version),
+            subject: field(der, told.subject),
+            subject_public_key_info: field(der, told.subject_public_key_info),
+            attributes: field(der, told.attributes),
+            signature_algorithm: field(der, told.signature_algorithm),
+            signature: field(der, told.signature),
+        })
+    }
+
+    /// The fields of a private key of any algorithm; its attributes are what is skipped.
+    ///
+    /// # Errors
+    /// [`Error::Refused`] and [`Error::OutOfMemory`].
+    pub fn private_key_outline<'a>(
+        &mut self,
+        der: &'a [u8],
+    ) -> Result<PrivateKeyOutline<'a>, Error> {
+        let mut told = library::fields::PrivateKey::default();
+        let status = library::fields::private_key_outline(der, &mut told);
+        self.done(status, Kind::PrivateKeyOutline, der, 0)?;
+        Ok(PrivateKeyOutline {
+            version: field(der, told.version),
+            private_key_algorithm: field(der, told.private_key_algorithm),
+            private_key: field(der, told.private_key),
+            skipped: optional(der, told.skipped),
+            public_key: optional(der, told.public_key),
+        })
+    }
+
+    /// The fields of a revocation list of any algorithm.
+    ///
+    /// # Errors
+    /// [`Error::Refused`] and [`Error::OutOfMemory`].
+    pub fn crl<'a>(&mut self, der: &'a [u8]) -> Result<Crl<'a>, Error> {
+        let mut told = library::fields::Crl::default();
+        let status = library::fields::crl(der, &mut told);
+        self.done(status, Kind::Crl, der, 0)?;
+        Ok(Crl {
+            tbs_cert_list: field(der, told.tbs_cert_list),
+            version: optional(der, told.version),
+            signature: field(der, told.signature),
+            issuer: field(der, told.issuer),
+            this_update: field(der, told.this_update),
+            next_update: optional(der, told.next_update),
+            revoked_certificates: optional(der, told.revoked_certificates),
+            crl_extensions: optional(der, told.crl_extensions),
+            signature_algorithm: field(der, told.signature_algorithm),
+            signature_value: field(der, told.signature_value),
         })
     }
 

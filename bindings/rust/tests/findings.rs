@@ -1,6 +1,6 @@
 //! The rules that a certificate breaks, over one by hand (RFC 5280, 4.1): its issuer is empty, it has
-//! unique identifiers, and as an authority it has a path length, but neither a subject key identifier
-//! nor a key usage.
+//! unique identifiers, and as an authority it has a path length, but no key identifier and no key
+//! usage.
 
 mod support;
 
@@ -17,10 +17,11 @@ const CERTIFICATE: &[u8] =
     \x30\x12\x06\x03\x55\x1D\x13\x01\x01\xFF\x04\x08\x30\x06\x01\x01\xFF\x02\x01\x05\
     \x30\x05\x06\x03\x2B\x65\x70\x03\x01\x00";
 
-const STATED: [(Rule, Range<usize>); 6] = [
+const STATED: [(Rule, Range<usize>); 7] = [
     (Rule::IssuerEmpty, 19..21),
     (Rule::IssuerUniqueId, 80..84),
     (Rule::SubjectUniqueId, 84..88),
+    (Rule::AuthorityKeyMissing, 88..112),
     (Rule::SubjectKeyMissing, 88..112),
     (Rule::AuthorityWithoutSigning, 88..112),
     (Rule::PathLengthWithoutSigning, 88..112),
@@ -38,7 +39,11 @@ fn rules_that_are_broken() {
     let found = reader.findings(CERTIFICATE, &mut out).unwrap();
     assert_eq!(told(found), STATED);
     let warnings: Vec<Rule> = Rule::ALL.into_iter().filter(|it| it.is_warning()).collect();
-    assert_eq!(warnings, [Rule::ModulusShort, Rule::AuthorityWithoutSigning]);
+    assert_eq!(warnings.len(), 8);
+    assert_eq!(
+        warnings[..3],
+        [Rule::ModulusShort, Rule::KeyUsageNotCritical, Rule::AuthorityWithoutSigning]
+    );
     #[cfg(feature = "alloc")]
     assert_eq!(told(&cimaroly::findings(CERTIFICATE).unwrap()), STATED);
 }

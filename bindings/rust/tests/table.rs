@@ -132,57 +132,61 @@ fn same_fields(row: &Row, fields: &[(&str, Option<Field<'_>>)]) {
     assert!(stated.is_empty(), "{}: {stated:?}", row.name());
 }
 
-#[test]
-fn certificates() {
-    each(false, |row, reader| {
-        if row.kind != Kind::Certificate {
-            return;
-        }
-        let it = reader.certificate(&row.der).unwrap();
-        let fields = [
-            ("tbs_certificate", Some(it.tbs_certificate)),
-            ("version", it.version),
-            ("serial_number", Some(it.serial_number)),
-            ("signature", Some(it.signature)),
-            ("issuer", Some(it.issuer)),
-            ("validity", Some(it.validity)),
-            ("subject", Some(it.subject)),
-            ("subject_public_key_info", Some(it.subject_public_key_info)),
-            ("issuer_unique_id", it.issuer_unique_id),
-            ("subject_unique_id", it.subject_unique_id),
-            ("extensions", it.extensions),
-            ("signature_algorithm", Some(it.signature_algorithm)),
-            ("signature_value", Some(it.signature_value)),
-        ];
-        same_fields(row, &fields);
-    });
+/// The fields of what a reader tells, each with its name; those that may be left out stand behind
+/// the semicolon.
+macro_rules! fields {
+    ($it:expr; $($field:ident)*; $($optional:ident)*) => {{
+        let it = $it.unwrap();
+        [
+            $((stringify!($field), Some(it.$field)),)*
+            $((stringify!($optional), it.$optional),)*
+        ]
+    }};
+}
+
+macro_rules! certificate_fields {
+    ($it:expr) => {
+        fields!($it; tbs_certificate serial_number signature issuer validity subject
+            subject_public_key_info signature_algorithm signature_value;
+            version issuer_unique_id subject_unique_id extensions)
+    };
+}
+
+macro_rules! request_fields {
+    ($it:expr) => {
+        fields!($it; certification_request_info version subject subject_public_key_info attributes
+            signature_algorithm signature;)
+    };
+}
+
+macro_rules! private_key_fields {
+    ($it:expr) => {
+        fields!($it; version private_key_algorithm private_key; skipped public_key)
+    };
 }
 
 #[test]
-fn requests_and_private_keys() {
+fn fields_of_each_kind() {
     each(false, |row, reader| {
-        if row.kind == Kind::Request {
-            let it = reader.request(&row.der).unwrap();
-            let fields = [
-                ("certification_request_info", it.certification_request_info),
-                ("version", it.version),
-                ("subject", it.subject),
-                ("subject_public_key_info", it.subject_public_key_info),
-                ("attributes", it.attributes),
-                ("signature_algorithm", it.signature_algorithm),
-                ("signature", it.signature),
-            ];
-            same_fields(row, &fields.map(|(name, field)| (name, Some(field))));
-        } else if row.kind == Kind::PrivateKey {
-            let it = reader.private_key(&row.der).unwrap();
-            let fields = [
-                ("version", Some(it.version)),
-                ("private_key_algorithm", Some(it.private_key_algorithm)),
-                ("private_key", Some(it.private_key)),
-                ("skipped", it.skipped),
-                ("public_key", it.public_key),
-            ];
-            same_fields(row, &fields);
+        let der = &row.der;
+        match row.kind {
+            Kind::Certificate => same_fields(row, &certificate_fields!(reader.certificate(der))),
+            Kind::CertificateOutline => {
+                same_fields(row, &certificate_fields!(reader.certificate_outline(der)));
+            }
+            Kind::Request => same_fields(row, &request_fields!(reader.request(der))),
+            Kind::RequestOutline => same_fields(row, &request_fields!(reader.request_outline(der))),
+            Kind::PrivateKey => same_fields(row, &private_key_fields!(reader.private_key(der))),
+            Kind::PrivateKeyOutline => {
+                same_fields(row, &private_key_fields!(reader.private_key_outline(der)));
+            }
+            Kind::Crl => {
+                let fields = fields!(reader.crl(der); tbs_cert_list signature issuer this_update
+                    signature_algorithm signature_value;
+                    version next_update revoked_certificates crl_extensions);
+                same_fields(row, &fields);
+            }
+            _ => {}
         }
     });
 }
@@ -309,6 +313,18 @@ fn over_the_allocator() {
             Kind::PrivateKey => {
                 assert_eq!(cimaroly::private_key(der), reader.private_key(der), "{name}");
             }
+            Kind::CertificateOutline => {
+                let found = reader.certificate_outline(der);
+                assert_eq!(cimaroly::certificate_outline(der), found, "{name}");
+            }
+            Kind::RequestOutline => {
+                assert_eq!(cimaroly::request_outline(der), reader.request_outline(der), "{name}");
+            }
+            Kind::PrivateKeyOutline => {
+                let found = reader.private_key_outline(der);
+                assert_eq!(cimaroly::private_key_outline(der), found, "{name}");
+            }
+            Kind::Crl => assert_eq!(cimaroly::crl(der), reader.crl(der), "{name}"),
             Kind::PublicKey => {
                 assert_eq!(cimaroly::public_key(der), reader.public_key(der), "{name}");
             }

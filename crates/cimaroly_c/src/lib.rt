@@ -17,6 +17,7 @@ mod findings;
 mod keys;
 mod making;
 mod oids;
+mod outlines;
 mod over;
 mod over_keys;
 mod over_making;

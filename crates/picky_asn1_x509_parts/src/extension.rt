@@ -4,20 +4,21 @@ ghost use Rattle.std.specs.Prelude.{◌≡◌, ◌↔◌, true, false, Contains,
 ghost use Rattle.x509_der.specs.View.{if_found};
 ghost use Rattle.x509_der.specs.laws.Meaning.{sequence_keeps, seen_lawful, seen_element};
 ghost use Rattle.picky_asn1_x509_parts.specs.declared.extension_value.ExtensionValue.TheVariants as value;
-ghost use Rattle.picky_asn1_x509_parts.specs.Extensions.{key_kept, authority_key_arcs, subject_key_arcs, key_usage_arcs, subject_name_arcs, issuer_name_arcs, constraints_arcs, extended_usage_arcs, crl_number_arcs, any_usage_arcs, kind_of as kind_by, kind_in, critical_of, critical_kinds, inner, fields_bytes, extension_back, extension_base, extension_meaning, extension_bytes, extension, made, viewed, with_critical};
+ghost use Rattle.picky_asn1_x509_parts.specs.Extensions.{key_kept, authority_key_arcs, subject_key_arcs, key_usage_arcs, subject_name_arcs, issuer_name_arcs, constraints_arcs, extended_usage_arcs, crl_number_arcs, any_usage_arcs, kind_of as kind_by, kind_in, critical_of, critical_kinds, inner, extension_back, extension_base, extension_meaning, extension_bytes, extension, made, viewed, with_critical};
 
 use crate::authority_key_identifier::AuthorityKeyIdentifier;
 use crate::basic_constraints::BasicConstraints;
 use crate::extended_key_usage::ExtendedKeyUsage;
-use crate::extension_value::{ExtensionKey, ExtensionValue, Key, KeyNest, known_value};
+use crate::extension_value::{ExtensionKey, ExtensionValue, KeyNest, known_value};
 pub use crate::extension_view::ExtensionView;
 use crate::key_identifier::KeyIdentifier;
 use crate::key_usage::KeyUsage;
+use crate::matching_fields::MatchingFields;
 use std::alloc::{AllocError, Allocator, Global};
 use std::marker::Model;
 use x509_der::parts::{
     Content, DefinedBy, Field, Join, Judge, One, Optional, Output, Reader, Ref, SEQUENCE_TAG,
-    Sequence, Tagged, ToContent, View, WholeDeviations, clone_both, pass_viewed, read_viewed,
+    Sequence, Tagged, View, WholeDeviations, clone_both, pass_viewed, read_viewed,
 };
 use x509_der::{
     CloneEq, Deviation, FromDer, IntegerAsn1, ObjectIdentifier, ObjectIdentifierAsn1,
@@ -25,60 +26,6 @@ use x509_der::{
 };
 use x509_names::{GeneralName, GeneralNames};
 use x509_oids_objects as oids;
-
-/// The fields in the SEQUENCE, owned.
-type Inner<A> = DefinedBy<Key<A>, ExtensionValue<A>>;
-
-/// The fields as they were read: the value is of the kind that the object identifier says.
-#[derive(Drop)]
-struct MatchingFields<A: Allocator>(Inner<A>);
-
-impl<A: Allocator> Model for MatchingFields<A> {
-    ghost use Rattle.picky_asn1_x509_parts.specs.Extensions.{Fields, AreFitting};
-
-    ghost Value = { Fields A };
-
-    ghost view = { λ f. f.0 };
-
-    ghost invariant = { λ f. AreFitting f.0 };
-
-    ghost inverse = { λ f. record { 0 = f } };
-}
-
-impl<A: Allocator> ToContent for MatchingFields<A> {
-    ghost content = { fields_bytes };
-
-    fn put_content<O: Output>(&self, out: &mut [u8], at: usize) -> Result<usize, TooLong> {
-        self.0.put::<O>(out, at)
-    }
-}
-
-impl<A: Allocator + Copy> Content<A> for MatchingFields<A> {
-    ghost use Rattle.picky_asn1_x509_parts.specs.facts.ExtensionFacts.{key_apart, inner_agrees};
-
-    type ContentBrief = (ExtensionKey, ());
-
-    ghost content_shape = { inner };
-
-    ghost content_brief = { λ f. (key_kept f.0, tt) };
-
-    ghost content_lawful = { λ h. ⟦<Inner<A> as Field<A>>⟧.lawful (tt, key_apart) };
-
-    ghost content_agrees = { inner_agrees };
-
-    fn known_content(&self) {
-        self.0.known();
-    }
-
-    fn read_content(alloc: A, reader: &mut Reader<'_, A>) -> Result<Self, ReadError> {
-        let fields = Inner::<A>::read(alloc, reader)?;
-        Ok(MatchingFields(fields))
-    }
-
-    fn pass_content(alloc: A, reader: &mut Reader<'_, A>) -> Result<(ExtensionKey, ()), ReadError> {
-        Inner::<A>::pass(alloc, reader)
-    }
-}
 
 /// An extension: its object identifier, whether it is critical, and its value, which is of the kind that the object
 /// identifier says. Contracts see the three.

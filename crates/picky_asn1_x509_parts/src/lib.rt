@@ -12,6 +12,7 @@ pub mod extensions;
 pub mod key_identifier;
 pub mod key_usage;
 pub mod laws;
+mod matching_fields;
 
 pub use crate::attribute::{Attribute, AttributeValues, Attributes};
 pub use crate::authority_key_identifier::AuthorityKeyIdentifier;

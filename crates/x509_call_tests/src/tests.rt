@@ -1,5 +1,6 @@
 //! Calls by themselves: what they answer, what they take, and what they leave.
 
+mod algorithm_makers;
 mod algorithms;
 mod bit_strings;
 mod certificates;

@@ -3,7 +3,9 @@ use Rattle.std.proofs.Common.{◌≡◌, false, refl}
 use Rattle.picky_asn1_x509_parts.specs.Extensions.{viewed}
 use Rattle.picky_asn1_x509_parts.specs.declared.extension_view.ExtensionView.{ExtensionView}
 use Rattle.picky_asn1_x509_parts.specs.declared.extension_view.ExtensionView.TheVariants as view
-use Rattle.x509_findings_parts.specs.Extensions.{allows_signing, forbids_signing, has_no_purpose, limits_no_path, limits_path, makes_authority, names_authority_key, names_no_issuer, names_no_subject, names_subject, names_subject_key, spells_default}
+use Rattle.x509_findings_parts.specs.Extensions.{allows_signing, forbids_signing, has_any_purpose, has_no_purpose, identifies_authority_key, limits_no_path, limits_path, makes_authority, names_authority_by_half, names_authority_key, names_issuer, names_no_issuer, names_no_subject, names_subject, names_subject_key, says_usage, spells_default}
+use Rattle.x509_findings_parts.specs.AlternativeNames.{name_has_fault}
+use Rattle.x509_findings_parts.specs.declared.alternative_name.NameFault.{NameFault}
 use Rattle.x509_findings_parts.specs.Usages.{allows_nothing, ends_unset}
 
 -- what another view lends makes no authority
@@ -173,3 +175,75 @@ other-ends_unset (view.BasicConstraints x) h = refl
 other-ends_unset (view.ExtendedKeyUsage x) h = refl
 other-ends_unset (view.Generic x) h = refl
 other-ends_unset (view.CrlNumber x) h = refl
+
+-- what another view lends says nothing of usages
+pub other-says_usage : {A : Type 0} (v : ExtensionView A) → ((x : _) → v ≡ view.KeyUsage x → ⊥) → says_usage (viewed v) ≡ false
+other-says_usage (view.AuthorityKeyIdentifier x) h = refl
+other-says_usage (view.SubjectKeyIdentifier x) h = refl
+other-says_usage (view.KeyUsage x) h = absurd (h x refl)
+other-says_usage (view.SubjectAltName x) h = refl
+other-says_usage (view.IssuerAltName x) h = refl
+other-says_usage (view.BasicConstraints x) h = refl
+other-says_usage (view.ExtendedKeyUsage x) h = refl
+other-says_usage (view.Generic x) h = refl
+other-says_usage (view.CrlNumber x) h = refl
+
+-- what another view lends names no issuer
+pub other-names_issuer : {A : Type 0} (v : ExtensionView A) → ((x : _) → v ≡ view.IssuerAltName x → ⊥) → names_issuer (viewed v) ≡ false
+other-names_issuer (view.AuthorityKeyIdentifier x) h = refl
+other-names_issuer (view.SubjectKeyIdentifier x) h = refl
+other-names_issuer (view.KeyUsage x) h = refl
+other-names_issuer (view.SubjectAltName x) h = refl
+other-names_issuer (view.IssuerAltName x) h = absurd (h x refl)
+other-names_issuer (view.BasicConstraints x) h = refl
+other-names_issuer (view.ExtendedKeyUsage x) h = refl
+other-names_issuer (view.Generic x) h = refl
+other-names_issuer (view.CrlNumber x) h = refl
+
+-- what another view lends says not which key signed, by its identifier
+pub other-identifies_authority_key : {A : Type 0} (v : ExtensionView A) → ((x : _) → v ≡ view.AuthorityKeyIdentifier x → ⊥) → identifies_authority_key (viewed v) ≡ false
+other-identifies_authority_key (view.AuthorityKeyIdentifier x) h = absurd (h x refl)
+other-identifies_authority_key (view.SubjectKeyIdentifier x) h = refl
+other-identifies_authority_key (view.KeyUsage x) h = refl
+other-identifies_authority_key (view.SubjectAltName x) h = refl
+other-identifies_authority_key (view.IssuerAltName x) h = refl
+other-identifies_authority_key (view.BasicConstraints x) h = refl
+other-identifies_authority_key (view.ExtendedKeyUsage x) h = refl
+other-identifies_authority_key (view.Generic x) h = refl
+other-identifies_authority_key (view.CrlNumber x) h = refl
+
+-- what another view lends names the certificate of no key that signed
+pub other-names_authority_by_half : {A : Type 0} (v : ExtensionView A) → ((x : _) → v ≡ view.AuthorityKeyIdentifier x → ⊥) → names_authority_by_half (viewed v) ≡ false
+other-names_authority_by_half (view.AuthorityKeyIdentifier x) h = absurd (h x refl)
+other-names_authority_by_half (view.SubjectKeyIdentifier x) h = refl
+other-names_authority_by_half (view.KeyUsage x) h = refl
+other-names_authority_by_half (view.SubjectAltName x) h = refl
+other-names_authority_by_half (view.IssuerAltName x) h = refl
+other-names_authority_by_half (view.BasicConstraints x) h = refl
+other-names_authority_by_half (view.ExtendedKeyUsage x) h = refl
+other-names_authority_by_half (view.Generic x) h = refl
+other-names_authority_by_half (view.CrlNumber x) h = refl
+
+-- what another view lends allows no purpose
+pub other-has_any_purpose : {A : Type 0} (v : ExtensionView A) → ((x : _) → v ≡ view.ExtendedKeyUsage x → ⊥) → has_any_purpose (viewed v) ≡ false
+other-has_any_purpose (view.AuthorityKeyIdentifier x) h = refl
+other-has_any_purpose (view.SubjectKeyIdentifier x) h = refl
+other-has_any_purpose (view.KeyUsage x) h = refl
+other-has_any_purpose (view.SubjectAltName x) h = refl
+other-has_any_purpose (view.IssuerAltName x) h = refl
+other-has_any_purpose (view.BasicConstraints x) h = refl
+other-has_any_purpose (view.ExtendedKeyUsage x) h = absurd (h x refl)
+other-has_any_purpose (view.Generic x) h = refl
+other-has_any_purpose (view.CrlNumber x) h = refl
+
+-- what another view lends has no names
+pub other-name_has_fault : {A : Type 0} (f : NameFault) (v : ExtensionView A) → ((x : _) → v ≡ view.SubjectAltName x → ⊥) → ((x : _) → v ≡ view.IssuerAltName x → ⊥) → name_has_fault f (viewed v) ≡ false
+other-name_has_fault f (view.AuthorityKeyIdentifier x) h k = refl
+other-name_has_fault f (view.SubjectKeyIdentifier x) h k = refl
+other-name_has_fault f (view.KeyUsage x) h k = refl
+other-name_has_fault f (view.SubjectAltName x) h k = absurd (h x refl)
+other-name_has_fault f (view.IssuerAltName x) h k = absurd (k x refl)
+other-name_has_fault f (view.BasicConstraints x) h k = refl
+other-name_has_fault f (view.ExtendedKeyUsage x) h k = refl
+other-name_has_fault f (view.Generic x) h k = refl
+other-name_has_fault f (view.CrlNumber x) h k = refl

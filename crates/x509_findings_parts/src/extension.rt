@@ -1,9 +1,12 @@
 //! Extensions. Each rule looks at all extensions of a list, also at several with one identifier.
 
 ghost use Rattle.std.specs.Prelude.{◌≡◌, ◌&&◌, not};
-ghost use Rattle.x509_findings_parts.specs.Extensions.{allows_signing, forbids_signing, has_no_purpose, limits_no_path, limits_path, makes_authority, names_authority_key, names_no_issuer, names_no_subject, names_subject, names_subject_key, spells_default};
+ghost use Rattle.x509_findings_parts.specs.Extensions.{allows_signing, forbids_signing, has_no_purpose, identifies_authority_key, limits_no_path, limits_path, makes_authority, names_authority_by_half, names_authority_key, names_issuer, names_no_issuer, names_no_subject, names_subject, names_subject_key, says_usage, spells_default};
 ghost use Rattle.x509_findings_parts.specs.Features.{has_feature, some_have};
 
+use crate::alternative_name::{NameFault, name_has_fault};
+use crate::known::{Known, is_known};
+use crate::purpose::has_any_purpose;
 use crate::usage::{allows_nothing, ends_unset};
 use picky_asn1_x509_parts::{Extension, ExtensionView};
 use std::alloc::Allocator;
@@ -43,6 +46,24 @@ pub enum Feature {
     UnsetUsage,
     /// It spells out that the subject is no authority, which is so by default.
     SpelledDefault,
+    /// It says which key signed, by its identifier.
+    AuthorityKey,
+    /// It names the certificate of the key that signed by its issuer without its serial number, or the reverse.
+    PartialAuthorityKey,
+    /// It says what the key may be used for, and isn't critical.
+    UncriticalUsage,
+    /// It is critical, and has further names of the issuer.
+    CriticalIssuerNames,
+    /// It is critical, and allows any purpose of the key.
+    CriticalAnyPurpose,
+    /// It has further names, of which one has a fault.
+    FaultyName(NameFault),
+    /// It has the identifier of a known one.
+    Has(Known),
+    /// It has the identifier of a known one, and is critical.
+    Critical(Known),
+    /// It has the identifier of a known one, and isn't critical.
+    Uncritical(Known),
 }
 
 /// Whether an extension makes the subject an authority.
@@ -99,12 +120,32 @@ fn forbids_signing<A: Allocator>(extension: &Extension<A>) -> bool
     }
 }
 
+/// Whether an extension says what the key may be used for.
+fn says_usage<A: Allocator>(extension: &Extension<A>) -> bool
+    ensures { result ≡ says_usage extension.now.extn_value }
+{
+    match extension.extn_value() {
+        ExtensionView::KeyUsage(_) => true,
+        _ => false,
+    }
+}
+
 /// Whether an extension has further names of the subject.
 fn names_subject<A: Allocator>(extension: &Extension<A>) -> bool
     ensures { result ≡ names_subject extension.now.extn_value }
 {
     match extension.extn_value() {
         ExtensionView::SubjectAltName(_) => true,
+        _ => false,
+    }
+}
+
+/// Whether an extension has further names of the issuer.
+fn names_issuer<A: Allocator>(extension: &Extension<A>) -> bool
+    ensures { result ≡ names_issuer extension.now.extn_value }
+{
+    match extension.extn_value() {
+        ExtensionView::IssuerAltName(_) => true,
         _ => false,
     }
 }
@@ -145,6 +186,31 @@ fn names_authority_key<A: Allocator>(extension: &Extension<A>) -> bool
 {
     match extension.extn_value() {
         ExtensionView::AuthorityKeyIdentifier(_) => true,
+        _ => false,
+    }
+}
+
+/// Whether an extension says which key signed, by its identifier.
+fn identifies_authority_key<A: Allocator>(extension: &Extension<A>) -> bool
+    ensures { result ≡ identifies_authority_key extension.now.extn_value }
+{
+    match extension.extn_value() {
+        ExtensionView::AuthorityKeyIdentifier(key) => key.key_identifier().is_some(),
+        _ => false,
+    }
+}
+
+/// Whether an extension names the certificate of the key that signed by its issuer without its serial number, or the
+/// reverse.
+fn names_authority_by_half<A: Allocator>(extension: &Extension<A>) -> bool
+    ensures { result ≡ names_authority_by_half extension.now.extn_value }
+{
+    match extension.extn_value() {
+        ExtensionView::AuthorityKeyIdentifier(key) => {
+            let issuer = key.authority_cert_issuer().is_some();
+            let serial_number = key.authority_cert_serial_number().is_some();
+            (issuer && !serial_number) || (!issuer && serial_number)
+        }
         _ => false,
     }
 }
@@ -190,6 +256,15 @@ fn has_feature<A: Allocator>(extension: &Extension<A>, feature: Feature) -> bool
         Feature::NoUsages => allows_nothing(extension),
         Feature::UnsetUsage => ends_unset(extension),
         Feature::SpelledDefault => spells_default(extension),
+        Feature::AuthorityKey => identifies_authority_key(extension),
+        Feature::PartialAuthorityKey => names_authority_by_half(extension),
+        Feature::UncriticalUsage => says_usage(extension) && !extension.critical(),
+        Feature::CriticalIssuerNames => names_issuer(extension) && extension.critical(),
+        Feature::CriticalAnyPurpose => has_any_purpose(extension) && extension.critical(),
+        Feature::FaultyName(fault) => name_has_fault(extension, fault),
+        Feature::Has(known) => is_known(extension, known),
+        Feature::Critical(known) => is_known(extension, known) && extension.critical(),
+        Feature::Uncritical(known) => is_known(extension, known) && !extension.critical(),
     }
 }
 

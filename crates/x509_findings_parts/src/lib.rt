@@ -2,17 +2,22 @@
 //! call answers whether a rule is broken, and takes no memory.
 #![tactic(auto)]
 
+pub mod alternative_name;
 pub mod extension;
 pub mod key;
+pub mod known;
 pub mod name;
 pub mod number;
+mod purpose;
 pub mod time;
 mod usage;
 
+pub use crate::alternative_name::NameFault;
 pub use crate::extension::{Feature, have_without, some_have};
 pub use crate::key::{
     has_even_exponent, has_even_modulus, has_low_exponent, has_low_modulus, has_short_modulus,
 };
-pub use crate::name::{differ, is_unnamed};
+pub use crate::known::Known;
+pub use crate::name::{are_other_names, differ, is_unnamed};
 pub use crate::number::{is_below, is_even, is_longer};
 pub use crate::time::{is_before, is_early};

@@ -15,16 +15,23 @@ pub fn is_unnamed<A: Allocator>(name: &Name<A>) -> bool
     name.0.0.is_empty()
 }
 
-/// Whether two algorithms are the same, with the same parameters.
-fn are_same<A: Allocator>(first: &AlgorithmIdentifier<A>, second: &AlgorithmIdentifier<A>) -> bool
+/// Whether two values are the same.
+fn are_same<T: SameEq>(first: &T, second: &T) -> bool
     ensures { IsTrue result ↔ (first.now ≡ second.now) }
 {
-    AlgorithmIdentifier::<A>::decides();
+    T::decides();
     first == second
 }
 
 /// Whether two algorithms differ, or their parameters. Takes no memory.
 pub fn differ<A: Allocator>(first: &AlgorithmIdentifier<A>, second: &AlgorithmIdentifier<A>) -> bool
+    ensures { IsTrue result ↔ (first.now ≡ second.now → ⊥) }
+{
+    !are_same(first, second)
+}
+
+/// Whether two names differ: in an attribute, its type or string type, or in their order. Takes no memory.
+pub fn are_other_names<A: Allocator>(first: &Name<A>, second: &Name<A>) -> bool
     ensures { IsTrue result ↔ (first.now ≡ second.now → ⊥) }
 {
     !are_same(first, second)

@@ -1,12 +1,13 @@
 //! Where the fields of a certificate stand.
 
 ghost use Rattle.std.specs.Prelude.{◌≡◌};
-ghost use Rattle.x509_flat.specs.Fields.{flat_certificate, CertificateTold, no_certificate};
+ghost use Rattle.x509_flat.specs.Fields.{flat_certificate, CertificateTold, no_certificate, CertificateOutlineTold};
 
 use crate::span::FlatSpan;
 use crate::status::Answer;
 use std::alloc::Allocator;
 use x509_fields::CertificateFields;
+use x509_outline_fields::fields_of_certificate;
 
 /// Where the fields of a certificate stand, each with its tag and its length (RFC 5280, 4.1).
 #[repr(C)]
@@ -89,6 +90,19 @@ pub fn certificate_fields<A: Allocator + Copy>(alloc: A, bytes: &[u8]) -> Answer
     ensures { CertificateTold A bytes.now result.status result.fields }
 {
     match CertificateFields::find(alloc, bytes) {
+        Ok(places) => Answer::done(FlatCertificate::of(places)),
+        Err(error) => Answer::refused(error, FlatCertificate::none()),
+    }
+}
+
+/// The same of the outline of a certificate, whose algorithms may be of any kind. It takes no memory.
+pub fn certificate_outline_fields<A: Allocator + Copy>(
+    alloc: A,
+    bytes: &[u8],
+) -> Answer<FlatCertificate>
+    ensures { CertificateOutlineTold A bytes.now result.status result.fields }
+{
+    match fields_of_certificate(alloc, bytes) {
         Ok(places) => Answer::done(FlatCertificate::of(places)),
         Err(error) => Answer::refused(error, FlatCertificate::none()),
     }

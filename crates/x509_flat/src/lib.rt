@@ -8,6 +8,7 @@ pub mod constraints;
 pub mod encode;
 pub mod extensions;
 pub mod kind;
+pub mod list_fields;
 pub mod places;
 pub mod private_key_fields;
 pub mod request_fields;

@@ -1,12 +1,13 @@
 //! Where the fields of a private key stand.
 
 ghost use Rattle.std.specs.Prelude.{◌≡◌};
-ghost use Rattle.x509_flat.specs.Fields.{flat_private_key, PrivateKeyTold, no_private_key};
+ghost use Rattle.x509_flat.specs.Fields.{flat_private_key, PrivateKeyTold, no_private_key, PrivateKeyOutlineTold};
 
 use crate::span::FlatSpan;
 use crate::status::Answer;
 use std::alloc::Allocator;
 use x509_fields::PrivateKeyInfoFields;
+use x509_outline_fields::fields_of_private_key;
 
 /// Where the fields of a private key stand, each with its tag and its length (RFC 5958, 2).
 #[repr(C)]
@@ -57,6 +58,19 @@ pub fn private_key_fields<A: Allocator + Copy>(alloc: A, bytes: &[u8]) -> Answer
     ensures { PrivateKeyTold A bytes.now result.status result.fields }
 {
     match PrivateKeyInfoFields::find(alloc, bytes) {
+        Ok(places) => Answer::done(FlatPrivateKey::of(places)),
+        Err(error) => Answer::refused(error, FlatPrivateKey::none()),
+    }
+}
+
+/// The same of the outline of a private key, whose algorithms may be of any kind. It takes no memory.
+pub fn private_key_outline_fields<A: Allocator + Copy>(
+    alloc: A,
+    bytes: &[u8],
+) -> Answer<FlatPrivateKey>
+    ensures { PrivateKeyOutlineTold A bytes.now result.status result.fields }
+{
+    match fields_of_private_key(alloc, bytes) {
         Ok(places) => Answer::done(FlatPrivateKey::of(places)),
         Err(error) => Answer::refused(error, FlatPrivateKey::none()),
     }

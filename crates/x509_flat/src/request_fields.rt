@@ -1,12 +1,13 @@
 //! Where the fields of a request stand.
 
 ghost use Rattle.std.specs.Prelude.{◌≡◌};
-ghost use Rattle.x509_flat.specs.Fields.{flat_request, RequestTold, no_request};
+ghost use Rattle.x509_flat.specs.Fields.{flat_request, RequestTold, no_request, RequestOutlineTold};
 
 use crate::span::FlatSpan;
 use crate::status::Answer;
 use std::alloc::Allocator;
 use x509_fields::CertificationRequestFields;
+use x509_outline_fields::fields_of_request;
 
 /// Where the fields of a request stand, each with its tag and its length (RFC 2986, 4).
 #[repr(C)]
@@ -65,6 +66,16 @@ pub fn request_fields<A: Allocator + Copy>(alloc: A, bytes: &[u8]) -> Answer<Fla
     ensures { RequestTold A bytes.now result.status result.fields }
 {
     match CertificationRequestFields::find(alloc, bytes) {
+        Ok(places) => Answer::done(FlatRequest::of(places)),
+        Err(error) => Answer::refused(error, FlatRequest::none()),
+    }
+}
+
+/// The same of the outline of a request, whose algorithms may be of any kind. It takes no memory.
+pub fn request_outline_fields<A: Allocator + Copy>(alloc: A, bytes: &[u8]) -> Answer<FlatRequest>
+    ensures { RequestOutlineTold A bytes.now result.status result.fields }
+{
+    match fields_of_request(alloc, bytes) {
         Ok(places) => Answer::done(FlatRequest::of(places)),
         Err(error) => Answer::refused(error, FlatRequest::none()),
     }

@@ -4,9 +4,9 @@ ghost use Rattle.std.specs.Prelude.{◌≡◌, [], ◌∷◌, Option, Some, None
 ghost use Rattle.x509_der.specs.Element.{element};
 ghost use Rattle.x509_der.specs.Optional.{brief_if, optional, optional_strict};
 ghost use Rattle.x509_der.specs.Types.read_error.{BadVersion, OutOfMemory};
-ghost use Rattle.x509_der.specs.View.{if_found, meant};
+ghost use Rattle.x509_der.specs.View.{meant};
 ghost use Rattle.x509_der.specs.laws.Meaning.{sequence_keeps, seen_lawful, seen_element};
-ghost use Rattle.x509_keys.specs.PrivateKeyInfos.{is_version, is_skipped, skipped_kinds, info_public_key, info_inner, info_base, info_meaning, private_key_info, info_bytes, curve_unless, version_with, info_with, rsa_info, ec_info, ed_info};
+ghost use Rattle.x509_keys.specs.PrivateKeyInfos.{is_version, info_public_key, info_inner, info_base, info_meaning, private_key_info, info_bytes, curve_unless, version_with, info_with, rsa_info, ec_info, ed_info};
 ghost use Rattle.x509_keys.specs.EcPrivateKeys.{ec_key_with};
 ghost use Rattle.x509_keys_parts.specs.KeyKinds.{key_kind, rsa_encryption};
 ghost use Rattle.x509_keys_parts.specs.AlgorithmIdentifier.{identified};
@@ -16,23 +16,20 @@ ghost use Rattle.x509_keys.specs.facts.PrivateKeyInfos.{info_is, info_one, info_
 use crate::ec_private_key::ECPrivateKey;
 use crate::private_key_value::PrivateKeyValue;
 use crate::rsa_private_key::RsaPrivateKey;
-use crate::skipping::{PassedOver, Skipping, read_skipping};
+use crate::skipping::{SkippedTags, Skipping, deviation_of, deviation_of_held, read_skipping};
 use std::alloc::{AllocError, Allocator, Global};
 use x509_der::parts::{
     AnyDefinedBy, BorrowedBits, Content, ContextConstructed, DefinedBy, Field, Join, Judge, One,
-    Optional, Output, Reader, Ref, SEQUENCE_TAG, Sequence, Tag, Tagged, View, WholeDeviations,
+    Optional, Output, Reader, Ref, SEQUENCE_TAG, Sequence, Tagged, View, WholeDeviations,
     clone_three, pass_viewed,
 };
 use x509_der::{
     BitString, BitStringAsn1, CloneEq, Deviation, FromDer, IntegerAsn1, ObjectIdentifier,
-    OctetStringAsn1, OctetStringAsn1Container, RawIn, ReadError, SameEq, Tags, ToDer, TooLong,
+    OctetStringAsn1, OctetStringAsn1Container, RawIn, ReadError, SameEq, ToDer, TooLong,
 };
 use x509_keys_parts::algorithm_identifier::new_unchecked;
 use x509_keys_parts::key_kind::KeyKind;
-use x509_keys_parts::{
-    AesParameters, AlgorithmIdentifier, AlgorithmIdentifierParameters, EcParameters, HashAlgorithm,
-    MaskGenAlgorithm, RsassaPssParams,
-};
+use x509_keys_parts::{AlgorithmIdentifier, AlgorithmIdentifierParameters, EcParameters};
 
 /// The version of a private key that stands without its public key, as most keys of RSA and elliptic curves do (RFC
 /// 5958, 2).
@@ -279,18 +276,6 @@ impl<A: Allocator> SameEq for PrivateKeyInfo<A> {
     }
 }
 
-/// Tags of elements that are skipped: all but that of a public key.
-#[derive(Drop)]
-struct SkippedTags;
-
-impl Tags for SkippedTags {
-    ghost keep = { is_skipped };
-
-    fn keeps(tag: u8) -> bool {
-        tag != ContextConstructed::<1>::BYTE
-    }
-}
-
 /// The public key under its tag, where there is one.
 type WrittenPublicKey<'a> = Optional<Tagged<ContextConstructed<1>, One<BorrowedBits<'a>>>>;
 
@@ -334,26 +319,6 @@ fn is_version(version: u8) -> bool
     ensures { result ≡ is_version version }
 {
     version == PRIVATE_KEY_INFO_VERSION_1 || version == PRIVATE_KEY_INFO_VERSION_2
-}
-
-/// The deviation of an element that is skipped.
-fn deviation_of(skipped: &Option<PassedOver<'_>>) -> Option<Deviation>
-    ensures { if_found result ≡ skipped_kinds skipped.now }
-{
-    match skipped {
-        Some(_) => Some(Deviation::SkippedKeyElement),
-        None => None,
-    }
-}
-
-/// The same of one that is held.
-fn deviation_of_held<A: Allocator>(skipped: &Option<RawIn<SkippedTags, A>>) -> Option<Deviation>
-    ensures { if_found result ≡ skipped_kinds skipped.now }
-{
-    match skipped {
-        Some(_) => Some(Deviation::SkippedKeyElement),
-        None => None,
-    }
 }
 
 /// The bits of a public key, where there is one.

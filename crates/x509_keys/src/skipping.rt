@@ -8,13 +8,15 @@ ghost use Rattle.x509_der.specs.Reading.{Ready, Reads};
 ghost use Rattle.x509_der.specs.Tagged.{tagged};
 ghost use Rattle.x509_der.specs.Tally.{Tally};
 ghost use Rattle.x509_der.specs.Types.{Deviation};
-ghost use Rattle.x509_der.specs.View.{seen};
+ghost use Rattle.x509_der.specs.View.{if_found, seen};
+ghost use Rattle.x509_keys.specs.PrivateKeyInfos.{is_skipped, skipped_kinds};
 ghost use Rattle.x509_keys.specs.Skipping.{skip_before, skip_between, skipping, Told};
 
 use std::alloc::Allocator;
 use std::marker::Model;
 use x509_der::parts::{
-    Field, Join, Optional, Reader, SEQUENCE_TAG, View, WholeDeviations, pass_over,
+    ContextConstructed, Field, Join, Optional, Reader, SEQUENCE_TAG, Tag, View, WholeDeviations,
+    pass_over,
 };
 use x509_der::{Deviation, RawIn, ReadError, Tags};
 
@@ -192,5 +194,39 @@ pub fn read_skipping<
             Ok(value)
         }
         WholeDeviations::Two(..) => unreachable!(),
+    }
+}
+
+/// Tags of elements that are skipped: all but that of a public key.
+#[derive(Drop)]
+pub(crate) struct SkippedTags;
+
+impl Tags for SkippedTags {
+    ghost keep = { is_skipped };
+
+    fn keeps(tag: u8) -> bool {
+        tag != ContextConstructed::<1>::BYTE
+    }
+}
+
+/// The deviation of an element that is skipped.
+pub(crate) fn deviation_of(skipped: &Option<PassedOver<'_>>) -> Option<Deviation>
+    ensures { if_found result ≡ skipped_kinds skipped.now }
+{
+    match skipped {
+        Some(_) => Some(Deviation::SkippedKeyElement),
+        None => None,
+    }
+}
+
+/// The same, where the element is held.
+pub(crate) fn deviation_of_held<A: Allocator>(
+    skipped: &Option<RawIn<SkippedTags, A>>,
+) -> Option<Deviation>
+    ensures { if_found result ≡ skipped_kinds skipped.now }
+{
+    match skipped {
+        Some(_) => Some(Deviation::SkippedKeyElement),
+        None => None,
     }
 }

@@ -1,8 +1,8 @@
 -- Where the parts of attributes and names stand, and which attributes are read back.
 use Rattle.std.specs.Prelude.{◌≡◌, ℕ, ◌+◌, length, List, ◌∷◌, ◌++◌}
 use Rattle.x509_names_parts.specs.DirectoryStrings.{directory_string}
-use Rattle.x509_names.specs.declared.attribute_type_and_value.AttributeKind.{AttributeKind}
-use Rattle.x509_names.specs.declared.attribute_type_and_value.AttributeTypeAndValueParameters.{AttributeTypeAndValueParameters}
+use Rattle.x509_names.specs.declared.attribute_value.AttributeKind.{AttributeKind}
+use Rattle.x509_names.specs.declared.attribute_value.AttributeTypeAndValueParameters.{AttributeTypeAndValueParameters}
 use Rattle.x509_names.specs.declared.attribute_type_and_value.AttributeTypeAndValue.{AttributeTypeAndValue}
 use Rattle.x509_der.specs.Types.choice.{First, Second}
 use Rattle.x509_der.specs.Element.{element, header}
@@ -15,8 +15,8 @@ use Rattle.x509_der.specs.Fields.{FieldAt, Stands}
 use Rattle.x509_names.specs.Attributes.{Held, held, email, by_kind, kind_of, attribute}
 use Rattle.x509_names.specs.Names.{Set, Sets, relative_name}
 use Rattle.x509_names.specs.declared.name_attr.NameAttr.TheVariants as attr
-use Rattle.x509_names.specs.declared.attribute_type_and_value.AttributeKind.TheVariants as kind
-use Rattle.x509_names.specs.declared.attribute_type_and_value.AttributeTypeAndValueParameters.TheVariants as value
+use Rattle.x509_names.specs.declared.attribute_value.AttributeKind.TheVariants as kind
+use Rattle.x509_names.specs.declared.attribute_value.AttributeTypeAndValueParameters.TheVariants as value
 
 -- what a value holds stands in the slice: a directory string, an IA5String or any element
 abbrev pub HeldAt : {A : Type 0} → Held A → ℕ → List ℕ → List ℕ → Tally → Type 0

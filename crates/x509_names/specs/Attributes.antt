@@ -3,8 +3,8 @@ use Rattle.std.specs.Prelude.{ℕ, true, false, if◌then◌else◌, List, [], �
 use Rattle.x509_names_parts.specs.declared.directory_string.DirectoryString.{DirectoryString}
 use Rattle.x509_names_parts.specs.DirectoryStrings.{directory_string}
 use Rattle.x509_names.specs.declared.name_attr.NameAttr.{NameAttr}
-use Rattle.x509_names.specs.declared.attribute_type_and_value.AttributeKind.{AttributeKind}
-use Rattle.x509_names.specs.declared.attribute_type_and_value.AttributeTypeAndValueParameters.{AttributeTypeAndValueParameters}
+use Rattle.x509_names.specs.declared.attribute_value.AttributeKind.{AttributeKind}
+use Rattle.x509_names.specs.declared.attribute_value.AttributeTypeAndValueParameters.{AttributeTypeAndValueParameters}
 use Rattle.x509_names.specs.declared.attribute_type_and_value.AttributeTypeAndValue.{AttributeTypeAndValue}
 use Rattle.x509_der.specs.Types.{Choice}
 use Rattle.x509_der.specs.Types.choice.{First, Second}
@@ -21,8 +21,8 @@ use Rattle.x509_der.specs.Structure.{structure}
 use Rattle.x509_prim.specs.Texts.{Passes, texts}
 use Rattle.x509_prim.specs.CharSets.{are_ascii}
 use Rattle.x509_names.specs.declared.name_attr.NameAttr.TheVariants as attr
-use Rattle.x509_names.specs.declared.attribute_type_and_value.AttributeKind.TheVariants as kind
-use Rattle.x509_names.specs.declared.attribute_type_and_value.AttributeTypeAndValueParameters.TheVariants as value
+use Rattle.x509_names.specs.declared.attribute_value.AttributeKind.TheVariants as kind
+use Rattle.x509_names.specs.declared.attribute_value.AttributeTypeAndValueParameters.TheVariants as value
 
 -- the object identifier of an attribute whose value is a directory string (X.520; RFC 5280, appendix A.1)
 abbrev pub arcs_of : NameAttr → List ℕ

@@ -1,9 +1,9 @@
 -- The common name of a name.
 use Rattle.std.specs.Prelude.{List, [], ◌∷◌, Option, Some, None}
 use Rattle.x509_names_parts.specs.declared.directory_string.DirectoryString.{DirectoryString}
-use Rattle.x509_names.specs.declared.attribute_type_and_value.AttributeTypeAndValueParameters.{AttributeTypeAndValueParameters}
+use Rattle.x509_names.specs.declared.attribute_value.AttributeTypeAndValueParameters.{AttributeTypeAndValueParameters}
 use Rattle.x509_names.specs.Names.{Set, Sets}
-use Rattle.x509_names.specs.declared.attribute_type_and_value.AttributeTypeAndValueParameters.TheVariants as value
+use Rattle.x509_names.specs.declared.attribute_value.AttributeTypeAndValueParameters.TheVariants as value
 
 -- the directory string of a common name
 abbrev pub common_name_of : {A : Type 0} → AttributeTypeAndValueParameters A → Option (DirectoryString A)

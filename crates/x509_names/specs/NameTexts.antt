@@ -5,8 +5,8 @@ use Rattle.hex.specs.Hex.{encode_lower}
 use Rattle.x509_der.specs.ObjectIdentifier.{dotted}
 use Rattle.x509_names_parts.specs.DirectoryTexts.{directory_text}
 use Rattle.x509_names.specs.declared.attribute_type_and_value.AttributeTypeAndValue.{AttributeTypeAndValue}
-use Rattle.x509_names.specs.declared.attribute_type_and_value.AttributeTypeAndValueParameters.{AttributeTypeAndValueParameters}
-use Rattle.x509_names.specs.declared.attribute_type_and_value.AttributeTypeAndValueParameters.TheVariants as value
+use Rattle.x509_names.specs.declared.attribute_value.AttributeTypeAndValueParameters.{AttributeTypeAndValueParameters}
+use Rattle.x509_names.specs.declared.attribute_value.AttributeTypeAndValueParameters.TheVariants as value
 use Rattle.x509_names.specs.Names.{Sets}
 
 -- the label of a value's variant, `=` and its text; of a custom one the dotted type, `=#` and the element in lower-case hexadecimal. Nothing is escaped

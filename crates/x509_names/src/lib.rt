@@ -2,6 +2,7 @@
 #![tactic(auto)]
 
 pub mod attribute_type_and_value;
+mod attribute_value;
 pub mod edi_party_name;
 pub mod general_name;
 pub mod laws;

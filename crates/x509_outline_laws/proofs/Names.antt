@@ -13,9 +13,9 @@ use Rattle.x509_names.specs.Types.{DirectoryString}
 use Rattle.x509_names.specs.Types.directory_string.{PrintableString, Utf8String, BmpString}
 use Rattle.x509_names.specs.Attributes.{attribute, by_kind, kind_of}
 use Rattle.x509_names.specs.Names.{name, name_content, relative_name}
-use Rattle.x509_names.specs.declared.attribute_type_and_value.AttributeKind.{AttributeKind}
-use Rattle.x509_names.specs.declared.attribute_type_and_value.AttributeKind.TheVariants as kind
-use Rattle.x509_names.specs.declared.attribute_type_and_value.AttributeTypeAndValueParameters.{AttributeTypeAndValueParameters}
+use Rattle.x509_names.specs.declared.attribute_value.AttributeKind.{AttributeKind}
+use Rattle.x509_names.specs.declared.attribute_value.AttributeKind.TheVariants as kind
+use Rattle.x509_names.specs.declared.attribute_value.AttributeTypeAndValueParameters.{AttributeTypeAndValueParameters}
 use Rattle.x509_outline_parts.specs.Attributes as outlines
 use Rattle.x509_outline_parts.specs.Names as names
 use Rattle.x509_outline_laws.specs.Frames.{Pairs, SameType}

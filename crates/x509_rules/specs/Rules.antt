@@ -24,19 +24,38 @@ rule_name rule.ExponentEven = codes "exponent-even"
 rule_name rule.IssuerUniqueId = codes "issuer-unique-id"
 rule_name rule.SubjectUniqueId = codes "subject-unique-id"
 rule_name rule.AuthorityKeyCritical = codes "authority-key-critical"
+rule_name rule.AuthorityKeyMissing = codes "authority-key-missing"
+rule_name rule.AuthorityKeyPartial = codes "authority-key-partial"
 rule_name rule.SubjectKeyCritical = codes "subject-key-critical"
 rule_name rule.SubjectKeyMissing = codes "subject-key-missing"
 rule_name rule.KeyUsageEmpty = codes "key-usage-empty"
 rule_name rule.KeyUsagePadded = codes "key-usage-padded"
+rule_name rule.KeyUsageNotCritical = codes "key-usage-not-critical"
 rule_name rule.SigningWithoutAuthority = codes "signing-without-authority"
 rule_name rule.AuthorityWithoutSigning = codes "authority-without-signing"
+rule_name rule.PolicyMappingsNotCritical = codes "policy-mappings-not-critical"
 rule_name rule.SubjectNamesEmpty = codes "subject-names-empty"
+rule_name rule.SubjectNamesCritical = codes "subject-names-critical"
+rule_name rule.AlternativeNameEmpty = codes "alternative-name-empty"
+rule_name rule.AddressLength = codes "address-length"
+rule_name rule.MailboxWithoutAt = codes "mailbox-without-at"
 rule_name rule.IssuerNamesEmpty = codes "issuer-names-empty"
+rule_name rule.IssuerNamesCritical = codes "issuer-names-critical"
+rule_name rule.DirectoryAttributesCritical = codes "directory-attributes-critical"
 rule_name rule.AuthorityNotCritical = codes "authority-not-critical"
 rule_name rule.PathLengthIdle = codes "path-length-idle"
 rule_name rule.PathLengthWithoutSigning = codes "path-length-without-signing"
 rule_name rule.AuthorityDefaultSpelled = codes "authority-default-spelled"
+rule_name rule.NameConstraintsNotCritical = codes "name-constraints-not-critical"
+rule_name rule.NameConstraintsWithoutAuthority = codes "name-constraints-without-authority"
+rule_name rule.PolicyConstraintsNotCritical = codes "policy-constraints-not-critical"
 rule_name rule.PurposesEmpty = codes "purposes-empty"
+rule_name rule.AnyPurposeCritical = codes "any-purpose-critical"
+rule_name rule.RevocationPointsCritical = codes "revocation-points-critical"
+rule_name rule.AnyPolicyNotCritical = codes "any-policy-not-critical"
+rule_name rule.FreshestListCritical = codes "freshest-list-critical"
+rule_name rule.AuthorityAccessCritical = codes "authority-access-critical"
+rule_name rule.SubjectAccessCritical = codes "subject-access-critical"
 
 -- where a broken rule is told
 abbrev pub part_of : Rule → Part
@@ -57,28 +76,52 @@ part_of rule.ExponentEven = part.SubjectPublicKeyInfo
 part_of rule.IssuerUniqueId = part.IssuerUniqueId
 part_of rule.SubjectUniqueId = part.SubjectUniqueId
 part_of rule.AuthorityKeyCritical = part.Extensions
+part_of rule.AuthorityKeyMissing = part.Extensions
+part_of rule.AuthorityKeyPartial = part.Extensions
 part_of rule.SubjectKeyCritical = part.Extensions
 part_of rule.SubjectKeyMissing = part.Extensions
 part_of rule.KeyUsageEmpty = part.Extensions
 part_of rule.KeyUsagePadded = part.Extensions
+part_of rule.KeyUsageNotCritical = part.Extensions
 part_of rule.SigningWithoutAuthority = part.Extensions
 part_of rule.AuthorityWithoutSigning = part.Extensions
+part_of rule.PolicyMappingsNotCritical = part.Extensions
 part_of rule.SubjectNamesEmpty = part.Extensions
+part_of rule.SubjectNamesCritical = part.Extensions
+part_of rule.AlternativeNameEmpty = part.Extensions
+part_of rule.AddressLength = part.Extensions
+part_of rule.MailboxWithoutAt = part.Extensions
 part_of rule.IssuerNamesEmpty = part.Extensions
+part_of rule.IssuerNamesCritical = part.Extensions
+part_of rule.DirectoryAttributesCritical = part.Extensions
 part_of rule.AuthorityNotCritical = part.Extensions
 part_of rule.PathLengthIdle = part.Extensions
 part_of rule.PathLengthWithoutSigning = part.Extensions
 part_of rule.AuthorityDefaultSpelled = part.Extensions
+part_of rule.NameConstraintsNotCritical = part.Extensions
+part_of rule.NameConstraintsWithoutAuthority = part.Extensions
+part_of rule.PolicyConstraintsNotCritical = part.Extensions
 part_of rule.PurposesEmpty = part.Extensions
+part_of rule.AnyPurposeCritical = part.Extensions
+part_of rule.RevocationPointsCritical = part.Extensions
+part_of rule.AnyPolicyNotCritical = part.Extensions
+part_of rule.FreshestListCritical = part.Extensions
+part_of rule.AuthorityAccessCritical = part.Extensions
+part_of rule.SubjectAccessCritical = part.Extensions
 
 -- all of them, in the order of the places
 abbrev pub all_rules : List Rule
 all_rules =
-    rule.SerialNotPositive ∷ rule.SerialTooLong ∷ rule.AlgorithmsDiffer ∷ rule.IssuerEmpty
-    ∷ rule.ValidityReversed ∷ rule.NotBeforeForm ∷ rule.NotAfterForm ∷ rule.SubjectEmpty
-    ∷ rule.AuthorityUnnamed ∷ rule.ModulusNotPositive ∷ rule.ModulusEven ∷ rule.ModulusShort
-    ∷ rule.ExponentLow ∷ rule.ExponentEven ∷ rule.IssuerUniqueId ∷ rule.SubjectUniqueId
-    ∷ rule.AuthorityKeyCritical ∷ rule.SubjectKeyCritical ∷ rule.SubjectKeyMissing ∷ rule.KeyUsageEmpty
-    ∷ rule.KeyUsagePadded ∷ rule.SigningWithoutAuthority ∷ rule.AuthorityWithoutSigning
-    ∷ rule.SubjectNamesEmpty ∷ rule.IssuerNamesEmpty ∷ rule.AuthorityNotCritical ∷ rule.PathLengthIdle
-    ∷ rule.PathLengthWithoutSigning ∷ rule.AuthorityDefaultSpelled ∷ rule.PurposesEmpty ∷ []
+    rule.SerialNotPositive ∷ rule.SerialTooLong ∷ rule.AlgorithmsDiffer ∷ rule.IssuerEmpty ∷ rule.ValidityReversed
+    ∷ rule.NotBeforeForm ∷ rule.NotAfterForm ∷ rule.SubjectEmpty ∷ rule.AuthorityUnnamed ∷ rule.ModulusNotPositive
+    ∷ rule.ModulusEven ∷ rule.ModulusShort ∷ rule.ExponentLow ∷ rule.ExponentEven ∷ rule.IssuerUniqueId
+    ∷ rule.SubjectUniqueId ∷ rule.AuthorityKeyCritical ∷ rule.AuthorityKeyMissing ∷ rule.AuthorityKeyPartial
+    ∷ rule.SubjectKeyCritical ∷ rule.SubjectKeyMissing ∷ rule.KeyUsageEmpty ∷ rule.KeyUsagePadded
+    ∷ rule.KeyUsageNotCritical ∷ rule.SigningWithoutAuthority ∷ rule.AuthorityWithoutSigning
+    ∷ rule.PolicyMappingsNotCritical ∷ rule.SubjectNamesEmpty ∷ rule.SubjectNamesCritical
+    ∷ rule.AlternativeNameEmpty ∷ rule.AddressLength ∷ rule.MailboxWithoutAt ∷ rule.IssuerNamesEmpty
+    ∷ rule.IssuerNamesCritical ∷ rule.DirectoryAttributesCritical ∷ rule.AuthorityNotCritical ∷ rule.PathLengthIdle
+    ∷ rule.PathLengthWithoutSigning ∷ rule.AuthorityDefaultSpelled ∷ rule.NameConstraintsNotCritical
+    ∷ rule.NameConstraintsWithoutAuthority ∷ rule.PolicyConstraintsNotCritical ∷ rule.PurposesEmpty
+    ∷ rule.AnyPurposeCritical ∷ rule.RevocationPointsCritical ∷ rule.AnyPolicyNotCritical
+    ∷ rule.FreshestListCritical ∷ rule.AuthorityAccessCritical ∷ rule.SubjectAccessCritical ∷ []

@@ -46,6 +46,11 @@ pub(crate) const SUBJECT_UNIQUE_ID: &str =
 pub(crate) const AUTHORITY_KEY_CRITICAL: &str =
     "Programs that don't know it refuse the certificate, though it only helps to find the issuer's key.";
 
+pub(crate) const AUTHORITY_KEY_MISSING: &str =
+    "Among several keys of the issuer the one that signed is found by it.";
+
+pub(crate) const AUTHORITY_KEY_PARTIAL: &str = "Only both together name the issuer's certificate.";
+
 pub(crate) const SUBJECT_KEY_CRITICAL: &str =
     "Programs that don't know it refuse the certificate, though it only helps to find the key.";
 
@@ -58,17 +63,40 @@ pub(crate) const KEY_USAGE_EMPTY: &str =
 pub(crate) const KEY_USAGE_PADDED: &str =
     "One set of usages has two encodings, so that the certificate isn't in DER.";
 
+pub(crate) const KEY_USAGE_NOT_CRITICAL: &str =
+    "Programs that don't know the extension use the key for anything.";
+
 pub(crate) const SIGNING_WITHOUT_AUTHORITY: &str =
     "Programs that look at one of the two extensions alone trust what the subject signs.";
 
 pub(crate) const AUTHORITY_WITHOUT_SIGNING: &str =
     "Programs refuse the certificates that it signs.";
 
+pub(crate) const POLICY_MAPPINGS_NOT_CRITICAL: &str =
+    "Programs that don't know the extension take the issuer's policies for unrelated ones.";
+
 pub(crate) const SUBJECT_NAMES_EMPTY: &str =
     "A list of names has at least one, and programs refuse an empty one.";
 
+pub(crate) const SUBJECT_NAMES_CRITICAL: &str =
+    "Programs that don't know some form of a name refuse the certificate.";
+
+pub(crate) const ALTERNATIVE_NAME_EMPTY: &str = "Some programs take an empty name for any name.";
+
+pub(crate) const ADDRESS_LENGTH: &str =
+    "It is no address: mostly one with a mask, or written as text, which no host has.";
+
+pub(crate) const MAILBOX_WITHOUT_AT: &str =
+    "It is no address of a mailbox: mostly a host name in the wrong form.";
+
 pub(crate) const ISSUER_NAMES_EMPTY: &str =
     "A list of names has at least one, and programs refuse an empty one.";
+
+pub(crate) const ISSUER_NAMES_CRITICAL: &str =
+    "Programs that don't know it refuse the certificate, though nothing depends on it.";
+
+pub(crate) const DIRECTORY_ATTRIBUTES_CRITICAL: &str =
+    "Programs that don't know it refuse the certificate, though it only describes the subject.";
 
 pub(crate) const AUTHORITY_NOT_CRITICAL: &str =
     "Programs that don't know the extension ignore the limits in it.";
@@ -82,7 +110,34 @@ pub(crate) const PATH_LENGTH_WITHOUT_SIGNING: &str =
 pub(crate) const AUTHORITY_DEFAULT_SPELLED: &str =
     "One value has two encodings, so that the certificate isn't in DER.";
 
+pub(crate) const NAME_CONSTRAINTS_NOT_CRITICAL: &str =
+    "Programs that don't know the extension accept names that the authority may not give.";
+
+pub(crate) const NAME_CONSTRAINTS_WITHOUT_AUTHORITY: &str =
+    "The constraints say nothing, and whoever set them meant an authority.";
+
+pub(crate) const POLICY_CONSTRAINTS_NOT_CRITICAL: &str =
+    "Programs that don't know the extension accept paths that the issuer forbids.";
+
 pub(crate) const PURPOSES_EMPTY: &str =
     "A list of purposes has at least one, and some programs take an empty one for any purpose.";
+
+pub(crate) const ANY_PURPOSE_CRITICAL: &str =
+    "Programs that don't know the extension refuse the certificate, though it allows any purpose.";
+
+pub(crate) const REVOCATION_POINTS_CRITICAL: &str =
+    "Programs that look for revoked certificates elsewhere refuse the certificate.";
+
+pub(crate) const ANY_POLICY_NOT_CRITICAL: &str =
+    "Programs that don't know the extension accept policies that the issuer forbids.";
+
+pub(crate) const FRESHEST_LIST_CRITICAL: &str =
+    "Programs that don't know it refuse the certificate, though it only helps to find newer lists.";
+
+pub(crate) const AUTHORITY_ACCESS_CRITICAL: &str =
+    "Programs that don't know it refuse the certificate, though it only helps to find the issuer's services.";
+
+pub(crate) const SUBJECT_ACCESS_CRITICAL: &str =
+    "Programs that don't know it refuse the certificate, though it only helps to find the subject's services.";
 
 // Until here.

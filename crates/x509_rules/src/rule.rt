@@ -42,6 +42,11 @@ pub enum Rule {
     SubjectUniqueId,
     /// RFC 5280, 4.2.1.1: authority key identifier is critical.
     AuthorityKeyCritical,
+    /// RFC 5280, 4.2.1.1: no authority key identifier has a keyIdentifier, though issuer and subject differ.
+    AuthorityKeyMissing,
+    /// RFC 5280, A.2: authority key identifier has one of authorityCertIssuer and authorityCertSerialNumber without the
+    /// other.
+    AuthorityKeyPartial,
     /// RFC 5280, 4.2.1.2: subject key identifier is critical.
     SubjectKeyCritical,
     /// RFC 5280, 4.2.1.2: authority has no subject key identifier.
@@ -50,14 +55,30 @@ pub enum Rule {
     KeyUsageEmpty,
     /// X.690, 11.2.2: key usage has trailing zero bits.
     KeyUsagePadded,
+    /// RFC 5280, 4.2.1.3: key usage isn't critical.
+    KeyUsageNotCritical,
     /// RFC 5280, 4.2.1.9: key may sign certificates, but the subject isn't an authority.
     SigningWithoutAuthority,
     /// RFC 5280, 4.2.1.3: subject is an authority, but no key usage lets the key sign certificates.
     AuthorityWithoutSigning,
+    /// RFC 5280, 4.2.1.5: policy mappings aren't critical.
+    PolicyMappingsNotCritical,
     /// RFC 5280, 4.2.1.6: subjectAltName has no names.
     SubjectNamesEmpty,
+    /// RFC 5280, 4.2.1.6: subjectAltName is critical, though the subject isn't empty.
+    SubjectNamesCritical,
+    /// RFC 5280, 4.2.1.6: an alternative name is empty.
+    AlternativeNameEmpty,
+    /// RFC 5280, 4.2.1.6: an iPAddress has neither four nor sixteen octets.
+    AddressLength,
+    /// RFC 5280, 4.2.1.6: an rfc822Name has no @.
+    MailboxWithoutAt,
     /// RFC 5280, 4.2.1.7: issuerAltName has no names.
     IssuerNamesEmpty,
+    /// RFC 5280, 4.2.1.7: issuerAltName is critical.
+    IssuerNamesCritical,
+    /// RFC 5280, 4.2.1.8: subjectDirectoryAttributes is critical.
+    DirectoryAttributesCritical,
     /// RFC 5280, 4.2.1.9: basic constraints of an authority that may sign certificates aren't critical.
     AuthorityNotCritical,
     /// RFC 5280, 4.2.1.9: path length is limited, but the subject isn't an authority.
@@ -66,13 +87,31 @@ pub enum Rule {
     PathLengthWithoutSigning,
     /// X.690, 11.5: cA FALSE is encoded, though it is the default.
     AuthorityDefaultSpelled,
+    /// RFC 5280, 4.2.1.10: name constraints aren't critical.
+    NameConstraintsNotCritical,
+    /// RFC 5280, 4.2.1.10: name constraints are there, but the subject isn't an authority.
+    NameConstraintsWithoutAuthority,
+    /// RFC 5280, 4.2.1.11: policy constraints aren't critical.
+    PolicyConstraintsNotCritical,
     /// RFC 5280, 4.2.1.12: extKeyUsage has no purposes.
     PurposesEmpty,
+    /// RFC 5280, 4.2.1.12: extKeyUsage has anyExtendedKeyUsage, and is critical.
+    AnyPurposeCritical,
+    /// RFC 5280, 4.2.1.13: cRLDistributionPoints is critical.
+    RevocationPointsCritical,
+    /// RFC 5280, 4.2.1.14: inhibitAnyPolicy isn't critical.
+    AnyPolicyNotCritical,
+    /// RFC 5280, 4.2.1.15: freshestCRL is critical.
+    FreshestListCritical,
+    /// RFC 5280, 4.2.2.1: authorityInfoAccess is critical.
+    AuthorityAccessCritical,
+    /// RFC 5280, 4.2.2.2: subjectInfoAccess is critical.
+    SubjectAccessCritical,
 }
 
 impl Rule {
     /// All rules, in the order of the places that they name.
-    pub const ALL: [Rule; 30] = [
+    pub const ALL: [Rule; 49] = [
         Rule::SerialNotPositive,
         Rule::SerialTooLong,
         Rule::AlgorithmsDiffer,
@@ -90,19 +129,38 @@ impl Rule {
         Rule::IssuerUniqueId,
         Rule::SubjectUniqueId,
         Rule::AuthorityKeyCritical,
+        Rule::AuthorityKeyMissing,
+        Rule::AuthorityKeyPartial,
         Rule::SubjectKeyCritical,
         Rule::SubjectKeyMissing,
         Rule::KeyUsageEmpty,
         Rule::KeyUsagePadded,
+        Rule::KeyUsageNotCritical,
         Rule::SigningWithoutAuthority,
         Rule::AuthorityWithoutSigning,
+        Rule::PolicyMappingsNotCritical,
         Rule::SubjectNamesEmpty,
+        Rule::SubjectNamesCritical,
+        Rule::AlternativeNameEmpty,
+        Rule::AddressLength,
+        Rule::MailboxWithoutAt,
         Rule::IssuerNamesEmpty,
+        Rule::IssuerNamesCritical,
+        Rule::DirectoryAttributesCritical,
         Rule::AuthorityNotCritical,
         Rule::PathLengthIdle,
         Rule::PathLengthWithoutSigning,
         Rule::AuthorityDefaultSpelled,
+        Rule::NameConstraintsNotCritical,
+        Rule::NameConstraintsWithoutAuthority,
+        Rule::PolicyConstraintsNotCritical,
         Rule::PurposesEmpty,
+        Rule::AnyPurposeCritical,
+        Rule::RevocationPointsCritical,
+        Rule::AnyPolicyNotCritical,
+        Rule::FreshestListCritical,
+        Rule::AuthorityAccessCritical,
+        Rule::SubjectAccessCritical,
     ];
 
     /// The name, as `--rule` takes it.
@@ -127,19 +185,38 @@ impl Rule {
             Rule::IssuerUniqueId => "issuer-unique-id",
             Rule::SubjectUniqueId => "subject-unique-id",
             Rule::AuthorityKeyCritical => "authority-key-critical",
+            Rule::AuthorityKeyMissing => "authority-key-missing",
+            Rule::AuthorityKeyPartial => "authority-key-partial",
             Rule::SubjectKeyCritical => "subject-key-critical",
             Rule::SubjectKeyMissing => "subject-key-missing",
             Rule::KeyUsageEmpty => "key-usage-empty",
             Rule::KeyUsagePadded => "key-usage-padded",
+            Rule::KeyUsageNotCritical => "key-usage-not-critical",
             Rule::SigningWithoutAuthority => "signing-without-authority",
             Rule::AuthorityWithoutSigning => "authority-without-signing",
+            Rule::PolicyMappingsNotCritical => "policy-mappings-not-critical",
             Rule::SubjectNamesEmpty => "subject-names-empty",
+            Rule::SubjectNamesCritical => "subject-names-critical",
+            Rule::AlternativeNameEmpty => "alternative-name-empty",
+            Rule::AddressLength => "address-length",
+            Rule::MailboxWithoutAt => "mailbox-without-at",
             Rule::IssuerNamesEmpty => "issuer-names-empty",
+            Rule::IssuerNamesCritical => "issuer-names-critical",
+            Rule::DirectoryAttributesCritical => "directory-attributes-critical",
             Rule::AuthorityNotCritical => "authority-not-critical",
             Rule::PathLengthIdle => "path-length-idle",
             Rule::PathLengthWithoutSigning => "path-length-without-signing",
             Rule::AuthorityDefaultSpelled => "authority-default-spelled",
+            Rule::NameConstraintsNotCritical => "name-constraints-not-critical",
+            Rule::NameConstraintsWithoutAuthority => "name-constraints-without-authority",
+            Rule::PolicyConstraintsNotCritical => "policy-constraints-not-critical",
             Rule::PurposesEmpty => "purposes-empty",
+            Rule::AnyPurposeCritical => "any-purpose-critical",
+            Rule::RevocationPointsCritical => "revocation-points-critical",
+            Rule::AnyPolicyNotCritical => "any-policy-not-critical",
+            Rule::FreshestListCritical => "freshest-list-critical",
+            Rule::AuthorityAccessCritical => "authority-access-critical",
+            Rule::SubjectAccessCritical => "subject-access-critical",
         }
     }
 
@@ -166,19 +243,38 @@ impl Rule {
             "issuer-unique-id" => Some(Rule::IssuerUniqueId),
             "subject-unique-id" => Some(Rule::SubjectUniqueId),
             "authority-key-critical" => Some(Rule::AuthorityKeyCritical),
+            "authority-key-missing" => Some(Rule::AuthorityKeyMissing),
+            "authority-key-partial" => Some(Rule::AuthorityKeyPartial),
             "subject-key-critical" => Some(Rule::SubjectKeyCritical),
             "subject-key-missing" => Some(Rule::SubjectKeyMissing),
             "key-usage-empty" => Some(Rule::KeyUsageEmpty),
             "key-usage-padded" => Some(Rule::KeyUsagePadded),
+            "key-usage-not-critical" => Some(Rule::KeyUsageNotCritical),
             "signing-without-authority" => Some(Rule::SigningWithoutAuthority),
             "authority-without-signing" => Some(Rule::AuthorityWithoutSigning),
+            "policy-mappings-not-critical" => Some(Rule::PolicyMappingsNotCritical),
             "subject-names-empty" => Some(Rule::SubjectNamesEmpty),
+            "subject-names-critical" => Some(Rule::SubjectNamesCritical),
+            "alternative-name-empty" => Some(Rule::AlternativeNameEmpty),
+            "address-length" => Some(Rule::AddressLength),
+            "mailbox-without-at" => Some(Rule::MailboxWithoutAt),
             "issuer-names-empty" => Some(Rule::IssuerNamesEmpty),
+            "issuer-names-critical" => Some(Rule::IssuerNamesCritical),
+            "directory-attributes-critical" => Some(Rule::DirectoryAttributesCritical),
             "authority-not-critical" => Some(Rule::AuthorityNotCritical),
             "path-length-idle" => Some(Rule::PathLengthIdle),
             "path-length-without-signing" => Some(Rule::PathLengthWithoutSigning),
             "authority-default-spelled" => Some(Rule::AuthorityDefaultSpelled),
+            "name-constraints-not-critical" => Some(Rule::NameConstraintsNotCritical),
+            "name-constraints-without-authority" => Some(Rule::NameConstraintsWithoutAuthority),
+            "policy-constraints-not-critical" => Some(Rule::PolicyConstraintsNotCritical),
             "purposes-empty" => Some(Rule::PurposesEmpty),
+            "any-purpose-critical" => Some(Rule::AnyPurposeCritical),
+            "revocation-points-critical" => Some(Rule::RevocationPointsCritical),
+            "any-policy-not-critical" => Some(Rule::AnyPolicyNotCritical),
+            "freshest-list-critical" => Some(Rule::FreshestListCritical),
+            "authority-access-critical" => Some(Rule::AuthorityAccessCritical),
+            "subject-access-critical" => Some(Rule::SubjectAccessCritical),
             _ => None,
         }
     }
@@ -205,19 +301,38 @@ impl Rule {
             Rule::IssuerUniqueId => Part::IssuerUniqueId,
             Rule::SubjectUniqueId => Part::SubjectUniqueId,
             Rule::AuthorityKeyCritical => Part::Extensions,
+            Rule::AuthorityKeyMissing => Part::Extensions,
+            Rule::AuthorityKeyPartial => Part::Extensions,
             Rule::SubjectKeyCritical => Part::Extensions,
             Rule::SubjectKeyMissing => Part::Extensions,
             Rule::KeyUsageEmpty => Part::Extensions,
             Rule::KeyUsagePadded => Part::Extensions,
+            Rule::KeyUsageNotCritical => Part::Extensions,
             Rule::SigningWithoutAuthority => Part::Extensions,
             Rule::AuthorityWithoutSigning => Part::Extensions,
+            Rule::PolicyMappingsNotCritical => Part::Extensions,
             Rule::SubjectNamesEmpty => Part::Extensions,
+            Rule::SubjectNamesCritical => Part::Extensions,
+            Rule::AlternativeNameEmpty => Part::Extensions,
+            Rule::AddressLength => Part::Extensions,
+            Rule::MailboxWithoutAt => Part::Extensions,
             Rule::IssuerNamesEmpty => Part::Extensions,
+            Rule::IssuerNamesCritical => Part::Extensions,
+            Rule::DirectoryAttributesCritical => Part::Extensions,
             Rule::AuthorityNotCritical => Part::Extensions,
             Rule::PathLengthIdle => Part::Extensions,
             Rule::PathLengthWithoutSigning => Part::Extensions,
             Rule::AuthorityDefaultSpelled => Part::Extensions,
+            Rule::NameConstraintsNotCritical => Part::Extensions,
+            Rule::NameConstraintsWithoutAuthority => Part::Extensions,
+            Rule::PolicyConstraintsNotCritical => Part::Extensions,
             Rule::PurposesEmpty => Part::Extensions,
+            Rule::AnyPurposeCritical => Part::Extensions,
+            Rule::RevocationPointsCritical => Part::Extensions,
+            Rule::AnyPolicyNotCritical => Part::Extensions,
+            Rule::FreshestListCritical => Part::Extensions,
+            Rule::AuthorityAccessCritical => Part::Extensions,
+            Rule::SubjectAccessCritical => Part::Extensions,
         }
     }
 }

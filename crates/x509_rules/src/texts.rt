@@ -36,6 +36,12 @@ pub(crate) const SUBJECT_UNIQUE_ID: &str = "subject has a unique identifier";
 
 pub(crate) const AUTHORITY_KEY_CRITICAL: &str = "authority key identifier is critical";
 
+pub(crate) const AUTHORITY_KEY_MISSING: &str =
+    "no authority key identifier has a keyIdentifier, though issuer and subject differ";
+
+pub(crate) const AUTHORITY_KEY_PARTIAL: &str =
+    "authority key identifier has one of authorityCertIssuer and authorityCertSerialNumber without the other";
+
 pub(crate) const SUBJECT_KEY_CRITICAL: &str = "subject key identifier is critical";
 
 pub(crate) const SUBJECT_KEY_MISSING: &str = "authority has no subject key identifier";
@@ -44,15 +50,32 @@ pub(crate) const KEY_USAGE_EMPTY: &str = "key usage allows nothing";
 
 pub(crate) const KEY_USAGE_PADDED: &str = "key usage has trailing zero bits";
 
+pub(crate) const KEY_USAGE_NOT_CRITICAL: &str = "key usage isn't critical";
+
 pub(crate) const SIGNING_WITHOUT_AUTHORITY: &str =
     "key may sign certificates, but the subject isn't an authority";
 
 pub(crate) const AUTHORITY_WITHOUT_SIGNING: &str =
     "subject is an authority, but no key usage lets the key sign certificates";
 
+pub(crate) const POLICY_MAPPINGS_NOT_CRITICAL: &str = "policy mappings aren't critical";
+
 pub(crate) const SUBJECT_NAMES_EMPTY: &str = "subjectAltName has no names";
 
+pub(crate) const SUBJECT_NAMES_CRITICAL: &str =
+    "subjectAltName is critical, though the subject isn't empty";
+
+pub(crate) const ALTERNATIVE_NAME_EMPTY: &str = "an alternative name is empty";
+
+pub(crate) const ADDRESS_LENGTH: &str = "an iPAddress has neither four nor sixteen octets";
+
+pub(crate) const MAILBOX_WITHOUT_AT: &str = "an rfc822Name has no @";
+
 pub(crate) const ISSUER_NAMES_EMPTY: &str = "issuerAltName has no names";
+
+pub(crate) const ISSUER_NAMES_CRITICAL: &str = "issuerAltName is critical";
+
+pub(crate) const DIRECTORY_ATTRIBUTES_CRITICAL: &str = "subjectDirectoryAttributes is critical";
 
 pub(crate) const AUTHORITY_NOT_CRITICAL: &str =
     "basic constraints of an authority that may sign certificates aren't critical";
@@ -65,6 +88,26 @@ pub(crate) const PATH_LENGTH_WITHOUT_SIGNING: &str =
 
 pub(crate) const AUTHORITY_DEFAULT_SPELLED: &str = "cA FALSE is encoded, though it is the default";
 
+pub(crate) const NAME_CONSTRAINTS_NOT_CRITICAL: &str = "name constraints aren't critical";
+
+pub(crate) const NAME_CONSTRAINTS_WITHOUT_AUTHORITY: &str =
+    "name constraints are there, but the subject isn't an authority";
+
+pub(crate) const POLICY_CONSTRAINTS_NOT_CRITICAL: &str = "policy constraints aren't critical";
+
 pub(crate) const PURPOSES_EMPTY: &str = "extKeyUsage has no purposes";
+
+pub(crate) const ANY_PURPOSE_CRITICAL: &str =
+    "extKeyUsage has anyExtendedKeyUsage, and is critical";
+
+pub(crate) const REVOCATION_POINTS_CRITICAL: &str = "cRLDistributionPoints is critical";
+
+pub(crate) const ANY_POLICY_NOT_CRITICAL: &str = "inhibitAnyPolicy isn't critical";
+
+pub(crate) const FRESHEST_LIST_CRITICAL: &str = "freshestCRL is critical";
+
+pub(crate) const AUTHORITY_ACCESS_CRITICAL: &str = "authorityInfoAccess is critical";
+
+pub(crate) const SUBJECT_ACCESS_CRITICAL: &str = "subjectInfoAccess is critical";
 
 // Until here.

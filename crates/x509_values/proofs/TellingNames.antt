@@ -15,9 +15,9 @@ use Rattle.x509_prim.specs.Texts.{Passes as Allows, texts}
 use Rattle.x509_names.specs.DirectoryStrings.{directory_string}
 use Rattle.x509_names.specs.Attributes.{attribute, attribute_parts, attribute_inner, by_kind, kind_of}
 use Rattle.x509_names.specs.Names.{Set, Sets, name, name_content, relative_name}
-use Rattle.x509_names.specs.declared.attribute_type_and_value.AttributeKind.{AttributeKind}
-use Rattle.x509_names.specs.declared.attribute_type_and_value.AttributeKind.TheVariants as kind
-use Rattle.x509_names.specs.declared.attribute_type_and_value.AttributeTypeAndValueParameters.{AttributeTypeAndValueParameters}
+use Rattle.x509_names.specs.declared.attribute_value.AttributeKind.{AttributeKind}
+use Rattle.x509_names.specs.declared.attribute_value.AttributeKind.TheVariants as kind
+use Rattle.x509_names.specs.declared.attribute_value.AttributeTypeAndValueParameters.{AttributeTypeAndValueParameters}
 use Rattle.x509_names.specs.declared.attribute_type_and_value.AttributeTypeAndValue.{AttributeTypeAndValue}
 use Rattle.x509_fields.specs.Spans.{FieldIn}
 use Rattle.x509_fields.specs.declared.span.Span.{Span}

@@ -50,7 +50,7 @@ pub record TbsWalk (at : TbsCertificateFields) : Type 0 where
   pub t9 : StepsIf 130 w8 w9 at.subject_unique_id
   pub t10 : StepsIf 163 w9 w10 at.extensions
 
-tbs_passes : (at : TbsCertificateFields) (k : TbsWalk at) → Passes k.w k.w10 (tbs_spans at)
+pub tbs_passes : (at : TbsCertificateFields) (k : TbsWalk at) → Passes k.w k.w10 (tbs_spans at)
 tbs_passes at k =
     passes_if 160 k.w k.w1 k.w10 at.version _ k.t1
     (passes_one k.w1 k.w2 k.w10 at.serial_number _ k.t2
@@ -131,7 +131,7 @@ pub record CertificateWalk (at : CertificateFields) (outer : Walk) : Type 0 wher
   pub t2 : Steps w1 w2 at.signature_algorithm
   pub t3 : Steps w2 w3 at.signature_value
 
-certificate_passes : (at : CertificateFields) (outer : Walk) (k : CertificateWalk at outer) → Passes k.w k.w3 (certificate_spans at)
+pub certificate_passes : (at : CertificateFields) (outer : Walk) (k : CertificateWalk at outer) → Passes k.w k.w3 (certificate_spans at)
 certificate_passes at outer k =
     passes_one k.w k.w1 k.w3 at.tbs_certificate _ k.t1
     (passes_one k.w1 k.w2 k.w3 at.signature_algorithm _ k.t2

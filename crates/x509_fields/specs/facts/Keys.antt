@@ -21,7 +21,7 @@ use Rattle.x509_fields.specs.declared.span.Span.{Span}
 use Rattle.x509_fields.specs.facts.Chains.{Passes, passes_none, passes_one, passes_if, passes_unless, to_end, fill_all}
 use Rattle.x509_fields.specs.facts.Fields.{Before, FoundIf, at_front, at_back, empty_behind, field_step, raw_step, optional_step, element_raw}
 
-not_is : (b : Bool) → not b ≡ true → b ≡ false
+pub not_is : (b : Bool) → not b ≡ true → b ≡ false
 not_is true h = cc
 not_is false h = refl
 
@@ -70,7 +70,7 @@ pub record KeyWalk (at : PrivateKeyInfoFields) : Type 0 where
   pub t4 : StepsUnless 161 w3 w4 at.skipped
   pub t5 : StepsIf 161 w4 w5 at.public_key
 
-key_passes : (at : PrivateKeyInfoFields) (k : KeyWalk at) → Passes k.w k.w5 (key_spans at)
+pub key_passes : (at : PrivateKeyInfoFields) (k : KeyWalk at) → Passes k.w k.w5 (key_spans at)
 key_passes at k =
     passes_one k.w k.w1 k.w5 at.version _ k.t1
     (passes_one k.w1 k.w2 k.w5 at.private_key_algorithm _ k.t2

@@ -35,7 +35,7 @@ pub record InfoWalk (at : CertificationRequestInfoFields) : Type 0 where
   pub t3 : Steps w2 w3 at.subject_public_key_info
   pub t4 : Steps w3 w4 at.attributes
 
-info_passes : (at : CertificationRequestInfoFields) (k : InfoWalk at) → Passes k.w k.w4 (info_spans at)
+pub info_passes : (at : CertificationRequestInfoFields) (k : InfoWalk at) → Passes k.w k.w4 (info_spans at)
 info_passes at k =
     passes_one k.w k.w1 k.w4 at.version _ k.t1
     (passes_one k.w1 k.w2 k.w4 at.subject _ k.t2
@@ -70,7 +70,7 @@ pub record RequestWalk (at : CertificationRequestFields) (outer : Walk) : Type 0
   pub t2 : Steps w1 w2 at.signature_algorithm
   pub t3 : Steps w2 w3 at.signature
 
-request_passes : (at : CertificationRequestFields) (outer : Walk) (k : RequestWalk at outer) → Passes k.w k.w3 (request_spans at)
+pub request_passes : (at : CertificationRequestFields) (outer : Walk) (k : RequestWalk at outer) → Passes k.w k.w3 (request_spans at)
 request_passes at outer k =
     passes_one k.w k.w1 k.w3 at.certification_request_info _ k.t1
     (passes_one k.w1 k.w2 k.w3 at.signature_algorithm _ k.t2

@@ -3,8 +3,8 @@ use Rattle.std.proofs.Common.{◌≡◌, ℕ, ◌<◌, ◌++◌, true, false, Li
 use Rattle.x509_names_parts.specs.declared.directory_string.DirectoryString.{DirectoryString}
 use Rattle.x509_names_parts.specs.DirectoryStrings.{directory_string}
 use Rattle.x509_names.specs.declared.name_attr.NameAttr.{NameAttr}
-use Rattle.x509_names.specs.declared.attribute_type_and_value.AttributeKind.{AttributeKind}
-use Rattle.x509_names.specs.declared.attribute_type_and_value.AttributeTypeAndValueParameters.{AttributeTypeAndValueParameters}
+use Rattle.x509_names.specs.declared.attribute_value.AttributeKind.{AttributeKind}
+use Rattle.x509_names.specs.declared.attribute_value.AttributeTypeAndValueParameters.{AttributeTypeAndValueParameters}
 use Rattle.x509_names.specs.declared.attribute_type_and_value.AttributeTypeAndValue.{AttributeTypeAndValue}
 use Rattle.x509_der.specs.Types.choice.{First}
 use Rattle.x509_der.specs.Element.{element}
@@ -21,8 +21,8 @@ use Rattle.x509_prim.specs.Texts.{Passes, texts}
 use Rattle.x509_prim.specs.CharSets.{are_ascii}
 use Rattle.x509_names.specs.Attributes.{arcs_of, email_arcs, kind_of, text_value, held, email, value_bytes, IsValue, by_kind, attribute_inner, attribute, attribute_bytes}
 use Rattle.x509_names.specs.declared.name_attr.NameAttr.TheVariants as attr
-use Rattle.x509_names.specs.declared.attribute_type_and_value.AttributeKind.TheVariants as kind
-use Rattle.x509_names.specs.declared.attribute_type_and_value.AttributeTypeAndValueParameters.TheVariants as value
+use Rattle.x509_names.specs.declared.attribute_value.AttributeKind.TheVariants as kind
+use Rattle.x509_names.specs.declared.attribute_value.AttributeTypeAndValueParameters.TheVariants as value
 
 -- a directory string's value holds it, whichever attribute it is of
 pub text_held : {A : Type 0} (a : NameAttr) (d : DirectoryString A) → held (text_value a d) ≡ First d

@@ -4,16 +4,16 @@ use Rattle.x509_names_parts.specs.declared.directory_string.DirectoryString.{Dir
 use Rattle.x509_names_parts.specs.declared.directory_string.DirectoryString.TheVariants.{PrintableString, Utf8String, BmpString}
 use Rattle.x509_names_parts.specs.DirectoryStrings.{directory_string}
 use Rattle.x509_names.specs.declared.name_attr.NameAttr.{NameAttr}
-use Rattle.x509_names.specs.declared.attribute_type_and_value.AttributeKind.{AttributeKind}
-use Rattle.x509_names.specs.declared.attribute_type_and_value.AttributeTypeAndValueParameters.{AttributeTypeAndValueParameters}
+use Rattle.x509_names.specs.declared.attribute_value.AttributeKind.{AttributeKind}
+use Rattle.x509_names.specs.declared.attribute_value.AttributeTypeAndValueParameters.{AttributeTypeAndValueParameters}
 use Rattle.x509_names.specs.declared.attribute_type_and_value.AttributeTypeAndValue.{AttributeTypeAndValue}
 use Rattle.x509_der.specs.Tally.{Tally}
 use Rattle.x509_names.specs.Attributes.{Held, text_value, held, by_kind, kind_of, attribute, text_attribute, email_attribute}
 use Rattle.x509_names.specs.AttributeFields.{HeldAt, kind_in}
 use Rattle.x509_names.specs.facts.AttributeFacts.{text_held, text_kinds, email_kinds}
 use Rattle.x509_names.specs.declared.name_attr.NameAttr.TheVariants as attr
-use Rattle.x509_names.specs.declared.attribute_type_and_value.AttributeKind.TheVariants as kind
-use Rattle.x509_names.specs.declared.attribute_type_and_value.AttributeTypeAndValueParameters.TheVariants as value
+use Rattle.x509_names.specs.declared.attribute_value.AttributeKind.TheVariants as kind
+use Rattle.x509_names.specs.declared.attribute_value.AttributeTypeAndValueParameters.TheVariants as value
 
 pub held_stands : {A : Type 0} (k : AttributeKind) (v : AttributeTypeAndValueParameters A) (n : ℕ) (slice string : List ℕ) (y : Tally) → (by_kind k).parts v n slice string y → HeldAt (held v) n slice string y
 held_stands {A} (kind.Text a) v n slice string y p =

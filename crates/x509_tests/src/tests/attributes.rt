@@ -2,7 +2,8 @@
 
 use super::fields::{ANY, Field};
 use super::lists::sets_in_list;
-use super::rows::{Heap, Row, Table, all_hold, reads_in_turn, refuses, writes};
+use super::rows::{Heap, Row, Table, all_hold, reads_in_turn, refuses};
+use super::writing::writes;
 use refusing::Refusing;
 use std::alloc::Global;
 use std::process::Abort;

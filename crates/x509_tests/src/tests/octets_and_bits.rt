@@ -1,6 +1,7 @@
 //! Octet strings and bit strings.
 
-use super::rows::{Heap, Table, all_hold, bytes_of, reads_in_turn, refuses, writes};
+use super::rows::{Heap, Table, all_hold, bytes_of, reads_in_turn, refuses};
+use super::writing::writes;
 use refusing::Refusing;
 use std::process::Abort;
 use x509_der::{BitStringAsn1, OctetStringAsn1, encoded_len, to_vec};

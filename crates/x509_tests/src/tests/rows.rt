@@ -2,14 +2,16 @@
 //! byte raised and lowered by one; and an element of each universal tag in the place of each field.
 
 use super::checks::checks_as_read;
+use super::cloning::copies;
 use super::fields::{Field, SAMPLES, replaced};
+use super::writing::writes;
 use refusing::{Refusing, Turn, in_turn};
-use std::alloc::{AllocError, Allocator, Global};
+use std::alloc::{Allocator, Global};
 use std::ops::ControlFlow;
 use std::process::Abort;
 use x509_der::{
-    CloneEq, Deviation, Deviations, FromDer, Place, ReadError, SliceError, ToDer, WriteError,
-    encoded_len, from_bytes, read_counted, read_located, read_metered, to_vec, write_to_slice,
+    CloneEq, Deviation, Deviations, FromDer, Place, ReadError, ToDer, from_bytes, read_counted,
+    read_located, read_metered, to_vec, write_to_slice,
 };
 
 /// The allocator of every row, which refuses what it is told to. This is all that rows and tests name of it: a function
@@ -300,115 +302,6 @@ pub(super) fn reads_in_turn<A: Heap, T: FromDer<A>>(
         located >= alone && (located == alone) == (input == strict),
         "{input:?}"
     );
-}
-
-/// How many requests `to_vec` makes where it gives these bytes, and want of memory where one is refused.
-fn writes_in_turn<A: Heap, T: ToDer>(heap: A, value: &T, strict: &[u8]) -> Option<u64> {
-    in_turn!(
-        heap,
-        match to_vec(heap, value) {
-            Ok(bytes) => Turn::right(bytes.as_slice() == strict),
-            Err(WriteError::OutOfMemory) => Turn::Refused,
-            Err(WriteError::TooLong) => Turn::Wrong,
-        }
-    )
-}
-
-/// Every call that writes gives the DER encoding and leaves what stands behind it; `to_vec` takes memory once, and the
-/// others never.
-pub(super) fn writes<A: Heap, T: FromDer<A>>(
-    rt: &impl Abort,
-    heap: A,
-    input: &[u8],
-    strict: &[u8],
-) {
-    let value = from_bytes::<T, _>(heap, input).expect(rt, "a value");
-    is_written(rt, heap, &value, strict);
-}
-
-/// Every call that writes the value gives these bytes, and takes memory as above.
-pub(super) fn is_written<A: Heap, T: ToDer>(rt: &impl Abort, heap: A, value: &T, strict: &[u8]) {
-    let mut room = Vec::from_elem(heap, 0xEEu8, strict.len() + 6).expect(rt, "memory");
-    makes(rt, heap, value, strict);
-    fills_alone(rt, heap, value, strict, room.as_mut_slice());
-}
-
-/// `to_vec` gives these bytes, and takes memory once.
-fn makes<A: Heap, T: ToDer>(rt: &impl Abort, heap: A, value: &T, strict: &[u8]) {
-    let requests = writes_in_turn(heap, value, strict);
-    assert!(rt; requests == Some(1), "{strict:?}");
-}
-
-/// The length is told and the value written where each request is refused, and none is made.
-fn fills_alone<A: Heap, T: ToDer>(
-    rt: &impl Abort,
-    heap: A,
-    value: &T,
-    strict: &[u8],
-    room: &mut [u8],
-) {
-    heap.refuse_all();
-    assert!(rt; encoded_len(value) == Ok(strict.len()));
-    fills(rt, value, strict, room);
-    assert!(rt; heap.requests() == 0);
-    heap.refuse(0);
-}
-
-/// The value is written in front of six bytes EE; a slice of EE that is too short by one stays as it was.
-fn fills<T: ToDer>(rt: &impl Abort, value: &T, strict: &[u8], room: &mut [u8]) {
-    let short = room.get_mut(1..strict.len()).expect(rt, "room");
-    let refused = write_to_slice(value, short) == Err(SliceError::TooShort);
-    assert!(rt; refused, "{strict:?}");
-    for byte in short.iter() {
-        assert!(rt; *byte == 0xEE, "{strict:?}");
-    }
-    assert!(rt;
-        write_to_slice(value, room) == Ok(strict.len()),
-        "{strict:?}"
-    );
-    assert!(rt; room.starts_with(strict) && room.ends_with(&[0xEE; 6]));
-}
-
-/// What a run showed that should clone the one value, where the other is as it was before.
-pub(super) fn copy_turn<T: CloneEq + PartialEq>(
-    answer: Result<T, AllocError>,
-    value: &T,
-    before: &T,
-) -> Turn {
-    match answer {
-        Ok(copy) => Turn::right(copy == *before),
-        Err(AllocError) => Turn::stands(*value == *before),
-    }
-}
-
-/// How many requests a clone of a value makes where it is equal, and want of memory where one is refused. The other
-/// value is as the first was before.
-fn copies_in_turn<'v, A: Heap, T: CloneEq + PartialEq>(
-    heap: A,
-    value: &'v T,
-    before: &'v T,
-) -> Option<u64> {
-    in_turn!(heap, copy_turn(value.clone_eq(), value, before))
-}
-
-/// The value of the encoding is cloned as itself, also where memory is refused first.
-fn copies<A: Heap, T: FromDer<A> + CloneEq + PartialEq>(rt: &impl Abort, heap: A, text: &str) {
-    let input = bytes_of(rt, heap, text);
-    let value = from_bytes::<T, _>(heap, &input).expect(rt, text);
-    let before = from_bytes::<T, _>(heap, &input).expect(rt, text);
-    copies_agree(rt, heap, &value, &before, text);
-}
-
-/// A value is cloned as itself, also where memory is refused first.
-pub(super) fn copies_agree<'v, A: Heap, T: CloneEq + PartialEq>(
-    rt: &impl Abort,
-    heap: A,
-    value: &'v T,
-    before: &'v T,
-    text: &str,
-) {
-    let requests = copies_in_turn(heap, value, before);
-    assert!(rt; requests.is_some(), "{text}");
 }
 
 /// What a run showed that should be refused for what stands there.

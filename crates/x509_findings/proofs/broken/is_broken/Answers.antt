@@ -32,3 +32,6 @@ returns-in-ExponentLow g c = rw c.in-ExponentLow.is c.has_low_exponent.ensures
 
 pub returns-in-ExponentEven : goal.returns-in-ExponentEven
 returns-in-ExponentEven g c = rw c.in-ExponentEven.is c.has_even_exponent.ensures
+
+pub returns-in-AuthorityKeyMissing : goal.returns-in-AuthorityKeyMissing
+returns-in-AuthorityKeyMissing g c = rw c.in-AuthorityKeyMissing.is c.lacks_authority_key.ensures

@@ -1,7 +1,8 @@
 use Rattle.std.proofs.Common.{◌≡◌, drop}
-use Rattle.x509_findings_parts.specs.Features.{some_have}
+use Rattle.std.specs.List.{list_any}
+use Rattle.x509_findings_parts.specs.Features.{has_feature}
 use Rattle.x509_findings_parts.proofs.extension.some_have.Given as goal
 
--- what is left has the feature where all have it
+-- one of what is left passes where one of all does
 abbrev pub invariant-loop-extension : goal.invariant-loop-extension
-invariant-loop-extension g l = some_have l.feature (drop l.extension-index l.extensions) ≡ some_have l.feature l.extensions
+invariant-loop-extension g l = list_any (has_feature l.feature) (drop l.extension-index l.extensions) ≡ list_any (has_feature l.feature) l.extensions

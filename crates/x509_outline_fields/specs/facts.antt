@@ -1,0 +1,6 @@
+-- Lemmas about the walk over each outline.
+pub mod Certificates
+pub mod Lists
+pub mod PrivateKeys
+pub mod Requests
+pub mod Steps
