@@ -115,7 +115,7 @@ async function goToDeviations(context) {
 }
 
 async function goToFindings(context) {
-  const labels = ["issuer", "issuerUniqueID", "subjectUniqueID", "extensions", "extensions", "extensions"];
+  const labels = ["issuer", "issuerUniqueID", "subjectUniqueID", ...Array(BROKEN.length - 3).fill("extensions")];
   return withPage(context, TALL, async (page) => {
     await page.drop("faulty.der", FAULTY);
     const places = BROKEN.map(([, start, end]) => `${start}..${end}`);
