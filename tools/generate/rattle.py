@@ -4,6 +4,8 @@ Only code is written, in src/: what it must answer stands in specs/, by hand. A 
 refused by the prover.
 """
 
+import re
+
 from . import tables
 from .regions import Region, comment
 
@@ -185,10 +187,31 @@ def rules():
         behind = f"    pub fn {method} {{\n        match self {{"
         lines = [f"            Rule::{it.variant} => {answer(it)}," for it in rows]
         yield Region(said, behind, "        }", lines)
+    lines = [line for it in rows for line in laid_out_arm(f"Rule::{it.variant}", condition(it.condition))]
+    yield Region("crates/x509_findings/src/condition.rt", "    // From tools/tables/rules.tsv.\n    match rule {", "    }", lines)
     path, behind = "crates/x509_flat_findings/src/number.rt", "    match rule {"
     yield Region(path, behind, "    }", [f"        Rule::{it.variant} => {it.number}," for it in rows])
     yield constants("texts", rows, lambda it: it.text)
     yield constants("reasons", rows, lambda it: tables.sentence(it.reason))
+
+
+def condition(text):
+    """What a rule asks, in Rattle: 'Has FaultyName(EmptyName)', say."""
+    kind, *features = text.split()
+    owner = {"Field": "FieldFault", "Issuer": "TextFault", "Subject": "TextFault"}.get(kind, "Feature")
+    written = [re.sub(r"\((\w+)\)", lambda it: f"({inner_type(feature)}::{it[1]})", f"{owner}::{feature}") for feature in features]
+    return f"Condition::{kind}({', '.join(written)})"
+
+
+def inner_type(feature):
+    """The type of what a feature is about."""
+    return "NameFault" if feature.startswith("FaultyName") else "Known"
+
+
+def laid_out_arm(pattern, answer, width=100):
+    """An arm of a match, with its answer in a block where it is too long."""
+    line = f"        {pattern} => {answer},"
+    return [line] if len(line) <= width else [f"        {pattern} => {{", f"            {answer}", "        }"]
 
 
 def constant(rule):

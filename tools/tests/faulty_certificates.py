@@ -45,6 +45,11 @@ def name(*texts):
     return sequence(*(element(0x31, sequence(identifier("2.5.4.3"), element(0x0C, it.encode()))) for it in texts))
 
 
+def attributes(*rows):
+    """A name with an attribute for each row: its type, and the tag and the content of its value."""
+    return sequence(*(element(0x31, sequence(identifier(text), element(tag, content))) for text, tag, content in rows))
+
+
 def utc(year):
     return element(0x17, f"{year % 100:02}0101000000Z".encode())
 
@@ -167,6 +172,50 @@ DEMANDED = sequence(element(0x80, b"\x00"))
 NAMES = ("2.5.29.17", "2.5.29.18")
 MAIL, URI = element(0x81, b"a@example.org"), element(0x86, b"a:b")
 
+# Names, with the rules about texts that they break: emailAddress, countryName and so on, by their types (RFC 5280, A.1).
+EMAIL, COMMON, SERIAL, COUNTRY, LOCALITY, STREET = "1.2.840.113549.1.9.1", "2.5.4.3", "2.5.4.5", "2.5.4.6", "2.5.4.7", "2.5.4.9"
+PRINTABLE, UTF8, IA5, BMP = 0x13, 0x0C, 0x16, 0x1E
+FAULTY_NAMES = {
+    "set-empty": [sequence(element(0x31)), sequence(element(0x31, sequence(identifier(COMMON), element(UTF8, b"a"))), element(0x31))],
+    "text-empty": [attributes((it, tag, b"")) for it, tag in ((COMMON, UTF8), (COMMON, PRINTABLE), (STREET, UTF8), (EMAIL, IA5))],
+    "text-long": [
+        attributes((COMMON, UTF8, b"a" * 65)),
+        attributes((COMMON, UTF8, "\u00e9".encode() * 65)),
+        attributes((COMMON, PRINTABLE, b"a" * 64), (LOCALITY, UTF8, "\U0001f600".encode() * 129)),
+        attributes((SERIAL, PRINTABLE, b"1" * 65)),
+        attributes((EMAIL, IA5, b"a@" + b"b" * 254)),
+    ],
+    "country": [attributes((COUNTRY, tag, it)) for tag, it in ((PRINTABLE, b"DEU"), (PRINTABLE, b"D"), (PRINTABLE, b"D1"), (UTF8, b"DE"))],
+    "string-type": [attributes((COMMON, BMP, b"\0a")), attributes((SERIAL, UTF8, b"1")), attributes((STREET, BMP, b"\0a" * 64))],
+}
+WELL_NAMED = attributes(
+    (COUNTRY, PRINTABLE, b"DE"),
+    (COUNTRY, PRINTABLE, b"de"),
+    (COMMON, UTF8, b"a" * 64),
+    (COMMON, UTF8, "\U0001f600".encode() * 64),
+    (SERIAL, PRINTABLE, b"1" * 64),
+    (LOCALITY, UTF8, b"a" * 128),
+    (STREET, UTF8, b"a" * 1000),
+    ("2.5.4.4", UTF8, b"a" * 32768),
+    ("2.5.4.46", BMP, b""),
+)
+MAILED = attributes((EMAIL, IA5, b"a@" + b"b" * 253))
+
+# Names in subjectAltName that are no hosts, and that are no URIs.
+NO_HOSTS = ["a b", "a..b", ".a", "a.", "-a", "a-", "a.-b", "a_b.example", "*", "a.*", "a.*.b", "**.a", "*.", "192.0.2.7", "a" * 64, "a." * 126 + "bc"]
+HOSTS = ["a", "1.a", "*.a", "a-b.c", "A1", "a" * 63, "a." * 126 + "b", "1-2.3a"]
+NO_URIS = [b"//example.org/", b"example.org", b":a", b"1a:b", b"a:", b"a b:c"]
+URIS = [b"a:b", b"a+1-.:/", b"HTTP://example.org/"]
+
+
+def named(*names, tag=0x86):
+    """A certificate with these alternative names of its subject."""
+    return signed(alternative_names("2.5.29.17", others=[element(tag, it) for it in names]))
+
+
+# A certificate of an authority with a mail address among its subject's names.
+MAIL_NAMED = {"extensions": (*FIELDS["extensions"], alternative_names("2.5.29.17", others=[MAIL]))}
+
 # What breaks each rule, and the field at which that is told.
 BROKEN = {
     "serial-not-positive": [{"serialNumber": integer(0)}, {"serialNumber": integer(-1)}],
@@ -182,6 +231,12 @@ BROKEN = {
     "modulus-short": [{"subjectPublicKeyInfo": rsa_key((1 << 2047) - 1)}],
     "exponent-low": [{"subjectPublicKeyInfo": rsa_key(exponent=1)}, {"subjectPublicKeyInfo": rsa_key(exponent=-3)}],
     "exponent-even": [{"subjectPublicKeyInfo": rsa_key(exponent=65536)}],
+    **{f"issuer-{it}": [{"issuer": changed} for changed in names] for it, names in FAULTY_NAMES.items()},
+    **{f"subject-{it}": [{"subject": changed, **MAIL_NAMED} for changed in names] for it, names in FAULTY_NAMES.items()},
+    "subject-mailbox-unnamed": [{"subject": MAILED}, {"subject": MAILED, **signed(alternative_names("2.5.29.17", "a"))}],
+    "critical-unknown": [signed(extension(it, NULL, critical=True)) for it in ("1.2.3.4", "2.5.29.16", "1.3.6.1.5.5.7.1.24")],
+    "host-name": [signed(alternative_names(text, "a", it)) for text in NAMES for it in NO_HOSTS],
+    "uri-without-scheme": [named(b"a:b", it) for it in NO_URIS],
     "issuer-unique-id": [{"issuerUniqueID": element(0x81, b"\x00\x01")}],
     "subject-unique-id": [{"subjectUniqueID": element(0x82, b"\x00\x01")}],
     "authority-key-critical": [{"extensions": (*LEAF, authority_key(critical=True))}],
@@ -230,6 +285,8 @@ BOTH = {
     ("subject-empty", "authority-unnamed"): {"subject": name()},
     ("subject-empty", "authority-key-missing"): {"subject": name(), "extensions": ()},
     ("alternative-name-empty", "mailbox-without-at"): signed(alternative_names("2.5.29.17", others=[element(0x81)])),
+    ("issuer-text-long", "issuer-string-type"): {"issuer": attributes((COMMON, BMP, b"\0a" * 65))},
+    ("issuer-text-empty", "issuer-country"): {"issuer": attributes((COUNTRY, PRINTABLE, b""))},
     ("key-usage-empty", "key-usage-padded"): signed(usage(b"\x00", 7)),
     ("authority-without-signing", "path-length-without-signing"): signed(constraints(TRUE, integer(0)), usage(b"\x02", 1), key_identifier()),
 }
@@ -242,6 +299,12 @@ KEPT = [
     {"issuer": name("subject"), "extensions": LEAF},
     {"extensions": (*LEAF, authority_key(KEY_IDENTIFIER, CERT_ISSUER, CERT_SERIAL))},
     {"serialNumber": integer((1 << 159) - 1)},
+    {"issuer": WELL_NAMED},
+    {"subject": WELL_NAMED},
+    {"issuer": MAILED, "subject": MAILED, **MAIL_NAMED},
+    signed(extension("1.2.3.4", NULL)),
+    signed(alternative_names("2.5.29.17", *HOSTS), alternative_names("2.5.29.18", *HOSTS)),
+    named(*URIS),
     {"validity": sequence(utc(2049), general(2050))},
     {"validity": sequence(utc(2020), utc(2020))},
     {"subject": name(), **signed(alternative_names("2.5.29.17", "leaf.example.org", critical=True))},

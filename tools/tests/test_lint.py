@@ -147,6 +147,37 @@ def openssl(*words, data):
     return subprocess.run(["openssl", *words], input=data, capture_output=True, check=True).stdout.decode()
 
 
+# How many characters an attribute has at most, by OpenSSL's names (RFC 5280, A.1).
+MOST = {
+    "commonName": 64,
+    "emailAddress": 255,
+    "givenName": 32768,
+    "localityName": 128,
+    "organizationName": 64,
+    "organizationalUnitName": 64,
+    "serialNumber": 64,
+    "stateOrProvinceName": 128,
+    "surname": 32768,
+}
+
+
+def seen_in_name(pem, name):
+    """The rules about texts that the issuer or the subject of a certificate breaks, by OpenSSL's types and texts."""
+    printed = openssl("x509", "-noout", f"-{name}", "-nameopt", "sep_multiline,show_type,lname,utf8,-esc_msb", data=pem)
+    rows = re.findall(r"(?m)^ +(\w+)=(\w+):(.*)$", printed)
+    return {
+        f"{name}-text-empty": any(not text for _, _, text in rows),
+        f"{name}-text-long": any(len(text) > MOST.get(attribute, len(text)) for attribute, _, text in rows),
+        f"{name}-country": any(
+            it == "countryName" and not (kind == "PRINTABLESTRING" and re.fullmatch("[A-Za-z]{2}", text)) for it, kind, text in rows
+        ),
+        f"{name}-string-type": any(
+            kind != "PRINTABLESTRING" if it == "serialNumber" else kind not in ("PRINTABLESTRING", "UTF8STRING", "IA5STRING")
+            for it, kind, _ in rows
+        ),
+    }
+
+
 def seen_by_openssl(pem):
     """The rules that a root certificate breaks, by what OpenSSL prints of it."""
     text = openssl("x509", "-noout", "-text", data=pem)
@@ -174,6 +205,8 @@ def seen_by_openssl(pem):
         "authority-key-partial": parts[0] != parts[1],
         "authority-not-critical": constraints and not constraints.group(1) and (signs or not usage),
     }
+    broken |= seen_in_name(pem, "issuer") | seen_in_name(pem, "subject")
+    broken["subject-mailbox-unnamed"] = "emailAddress" in names[1] and not re.search(r"\bemail:", text)
     for rule, extension, critical in BY_CRITICALITY:
         broken[rule] = re.search(rf"{extension}: *{'critical' if critical else ''} *\n", text)
     if written:

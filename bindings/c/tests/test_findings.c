@@ -118,7 +118,7 @@ static void rules_have_texts(void)
         expect(*cimaroly_rule_clause(rule) != '\0', "a rule without a clause");
         warnings += cimaroly_rule_is_warning(rule) ? 1 : 0;
     }
-    expect(warnings == 8 && cimaroly_rule_is_warning(CIMAROLY_RULE_MODULUS_SHORT), "the warnings");
+    expect(warnings == 11 && cimaroly_rule_is_warning(CIMAROLY_RULE_MODULUS_SHORT), "the warnings");
     expect(strcmp(cimaroly_rule_name(CIMAROLY_RULE_ISSUER_EMPTY), "issuer-empty") == 0, "a name");
     expect(strcmp(cimaroly_rule_clause(CIMAROLY_RULE_ISSUER_EMPTY), "RFC 5280, 4.1.2.4") == 0, "a clause");
     expect(strcmp(cimaroly_rule_text(CIMAROLY_RULE_ISSUER_EMPTY), "issuer is empty") == 0, "a text");

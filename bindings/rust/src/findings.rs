@@ -16,111 +16,150 @@ pub enum Rule {
     AlgorithmsDiffer = 3,
     /// Issuer is empty.
     IssuerEmpty = 4,
+    /// Issuer has a set without attributes.
+    IssuerSetEmpty = 5,
+    /// Issuer has a text without characters.
+    IssuerTextEmpty = 6,
+    /// Issuer has a text that is longer than its attribute may be.
+    IssuerTextLong = 7,
+    /// `countryName` in issuer isn't a `PrintableString` of two letters.
+    IssuerCountry = 8,
+    /// Issuer has a string type that isn't for new names.
+    IssuerStringType = 9,
     /// `notAfter` is before `notBefore`.
-    ValidityReversed = 5,
+    ValidityReversed = 10,
     /// `notBefore` is a `GeneralizedTime` before 2050.
-    NotBeforeForm = 6,
+    NotBeforeForm = 11,
     /// `notAfter` is a `GeneralizedTime` before 2050.
-    NotAfterForm = 7,
+    NotAfterForm = 12,
     /// Subject is empty, and no critical `subjectAltName` names it.
-    SubjectEmpty = 8,
+    SubjectEmpty = 13,
     /// Subject of an authority is empty.
-    AuthorityUnnamed = 9,
+    AuthorityUnnamed = 14,
+    /// Subject has a set without attributes.
+    SubjectSetEmpty = 15,
+    /// Subject has a text without characters.
+    SubjectTextEmpty = 16,
+    /// Subject has a text that is longer than its attribute may be.
+    SubjectTextLong = 17,
+    /// `countryName` in subject isn't a `PrintableString` of two letters.
+    SubjectCountry = 18,
+    /// Subject has a string type that isn't for new names.
+    SubjectStringType = 19,
+    /// Subject has an `emailAddress`, but no `rfc822Name` is among the alternative names.
+    SubjectMailboxUnnamed = 20,
     /// RSA modulus isn't positive.
-    ModulusNotPositive = 10,
+    ModulusNotPositive = 21,
     /// RSA modulus is even.
-    ModulusEven = 11,
+    ModulusEven = 22,
     /// RSA modulus has fewer than 2048 bits.
-    ModulusShort = 12,
+    ModulusShort = 23,
     /// RSA exponent is below 3.
-    ExponentLow = 13,
+    ExponentLow = 24,
     /// RSA exponent is even.
-    ExponentEven = 14,
+    ExponentEven = 25,
     /// Issuer has a unique identifier.
-    IssuerUniqueId = 15,
+    IssuerUniqueId = 26,
     /// Subject has a unique identifier.
-    SubjectUniqueId = 16,
+    SubjectUniqueId = 27,
+    /// An extension is critical that RFC 5280 doesn't define.
+    CriticalUnknown = 28,
     /// Authority key identifier is critical.
-    AuthorityKeyCritical = 17,
+    AuthorityKeyCritical = 29,
     /// No authority key identifier has a `keyIdentifier`, though issuer and subject differ.
-    AuthorityKeyMissing = 18,
+    AuthorityKeyMissing = 30,
     /// Authority key identifier has one of `authorityCertIssuer` and `authorityCertSerialNumber`
     /// without the other.
-    AuthorityKeyPartial = 19,
+    AuthorityKeyPartial = 31,
     /// Subject key identifier is critical.
-    SubjectKeyCritical = 20,
+    SubjectKeyCritical = 32,
     /// Authority has no subject key identifier.
-    SubjectKeyMissing = 21,
+    SubjectKeyMissing = 33,
     /// Key usage allows nothing.
-    KeyUsageEmpty = 22,
+    KeyUsageEmpty = 34,
     /// Key usage has trailing zero bits.
-    KeyUsagePadded = 23,
+    KeyUsagePadded = 35,
     /// Key usage isn't critical.
-    KeyUsageNotCritical = 24,
+    KeyUsageNotCritical = 36,
     /// Key may sign certificates, but the subject isn't an authority.
-    SigningWithoutAuthority = 25,
+    SigningWithoutAuthority = 37,
     /// Subject is an authority, but no key usage lets the key sign certificates.
-    AuthorityWithoutSigning = 26,
+    AuthorityWithoutSigning = 38,
     /// Policy mappings aren't critical.
-    PolicyMappingsNotCritical = 27,
+    PolicyMappingsNotCritical = 39,
     /// `subjectAltName` has no names.
-    SubjectNamesEmpty = 28,
+    SubjectNamesEmpty = 40,
     /// `subjectAltName` is critical, though the subject isn't empty.
-    SubjectNamesCritical = 29,
+    SubjectNamesCritical = 41,
     /// An alternative name is empty.
-    AlternativeNameEmpty = 30,
+    AlternativeNameEmpty = 42,
     /// An `iPAddress` has neither four nor sixteen octets.
-    AddressLength = 31,
+    AddressLength = 43,
     /// An `rfc822Name` has no @.
-    MailboxWithoutAt = 32,
+    MailboxWithoutAt = 44,
+    /// A `dNSName` isn't the name of a host.
+    HostName = 45,
+    /// A `uniformResourceIdentifier` has no scheme.
+    UriWithoutScheme = 46,
     /// `issuerAltName` has no names.
-    IssuerNamesEmpty = 33,
+    IssuerNamesEmpty = 47,
     /// `issuerAltName` is critical.
-    IssuerNamesCritical = 34,
+    IssuerNamesCritical = 48,
     /// `subjectDirectoryAttributes` is critical.
-    DirectoryAttributesCritical = 35,
+    DirectoryAttributesCritical = 49,
     /// Basic constraints of an authority that may sign certificates aren't critical.
-    AuthorityNotCritical = 36,
+    AuthorityNotCritical = 50,
     /// Path length is limited, but the subject isn't an authority.
-    PathLengthIdle = 37,
+    PathLengthIdle = 51,
     /// Path length is limited, but no key usage lets the key sign certificates.
-    PathLengthWithoutSigning = 38,
+    PathLengthWithoutSigning = 52,
     /// `cA` FALSE is encoded, though it is the default.
-    AuthorityDefaultSpelled = 39,
+    AuthorityDefaultSpelled = 53,
     /// Name constraints aren't critical.
-    NameConstraintsNotCritical = 40,
+    NameConstraintsNotCritical = 54,
     /// Name constraints are there, but the subject isn't an authority.
-    NameConstraintsWithoutAuthority = 41,
+    NameConstraintsWithoutAuthority = 55,
     /// Policy constraints aren't critical.
-    PolicyConstraintsNotCritical = 42,
+    PolicyConstraintsNotCritical = 56,
     /// `extKeyUsage` has no purposes.
-    PurposesEmpty = 43,
+    PurposesEmpty = 57,
     /// `extKeyUsage` has `anyExtendedKeyUsage`, and is critical.
-    AnyPurposeCritical = 44,
+    AnyPurposeCritical = 58,
     /// `cRLDistributionPoints` is critical.
-    RevocationPointsCritical = 45,
+    RevocationPointsCritical = 59,
     /// `inhibitAnyPolicy` isn't critical.
-    AnyPolicyNotCritical = 46,
+    AnyPolicyNotCritical = 60,
     /// `freshestCRL` is critical.
-    FreshestListCritical = 47,
+    FreshestListCritical = 61,
     /// `authorityInfoAccess` is critical.
-    AuthorityAccessCritical = 48,
+    AuthorityAccessCritical = 62,
     /// `subjectInfoAccess` is critical.
-    SubjectAccessCritical = 49,
+    SubjectAccessCritical = 63,
 }
 
 impl Rule {
     /// Every rule, in the order of their numbers.
-    pub const ALL: [Rule; 49] = [
+    pub const ALL: [Rule; 63] = [
         Rule::SerialNotPositive,
         Rule::SerialTooLong,
         Rule::AlgorithmsDiffer,
         Rule::IssuerEmpty,
+        Rule::IssuerSetEmpty,
+        Rule::IssuerTextEmpty,
+        Rule::IssuerTextLong,
+        Rule::IssuerCountry,
+        Rule::IssuerStringType,
         Rule::ValidityReversed,
         Rule::NotBeforeForm,
         Rule::NotAfterForm,
         Rule::SubjectEmpty,
         Rule::AuthorityUnnamed,
+        Rule::SubjectSetEmpty,
+        Rule::SubjectTextEmpty,
+        Rule::SubjectTextLong,
+        Rule::SubjectCountry,
+        Rule::SubjectStringType,
+        Rule::SubjectMailboxUnnamed,
         Rule::ModulusNotPositive,
         Rule::ModulusEven,
         Rule::ModulusShort,
@@ -128,6 +167,7 @@ impl Rule {
         Rule::ExponentEven,
         Rule::IssuerUniqueId,
         Rule::SubjectUniqueId,
+        Rule::CriticalUnknown,
         Rule::AuthorityKeyCritical,
         Rule::AuthorityKeyMissing,
         Rule::AuthorityKeyPartial,
@@ -144,6 +184,8 @@ impl Rule {
         Rule::AlternativeNameEmpty,
         Rule::AddressLength,
         Rule::MailboxWithoutAt,
+        Rule::HostName,
+        Rule::UriWithoutScheme,
         Rule::IssuerNamesEmpty,
         Rule::IssuerNamesCritical,
         Rule::DirectoryAttributesCritical,
@@ -183,11 +225,22 @@ impl Rule {
             Rule::SerialTooLong => "serial-too-long",
             Rule::AlgorithmsDiffer => "algorithms-differ",
             Rule::IssuerEmpty => "issuer-empty",
+            Rule::IssuerSetEmpty => "issuer-set-empty",
+            Rule::IssuerTextEmpty => "issuer-text-empty",
+            Rule::IssuerTextLong => "issuer-text-long",
+            Rule::IssuerCountry => "issuer-country",
+            Rule::IssuerStringType => "issuer-string-type",
             Rule::ValidityReversed => "validity-reversed",
             Rule::NotBeforeForm => "not-before-form",
             Rule::NotAfterForm => "not-after-form",
             Rule::SubjectEmpty => "subject-empty",
             Rule::AuthorityUnnamed => "authority-unnamed",
+            Rule::SubjectSetEmpty => "subject-set-empty",
+            Rule::SubjectTextEmpty => "subject-text-empty",
+            Rule::SubjectTextLong => "subject-text-long",
+            Rule::SubjectCountry => "subject-country",
+            Rule::SubjectStringType => "subject-string-type",
+            Rule::SubjectMailboxUnnamed => "subject-mailbox-unnamed",
             Rule::ModulusNotPositive => "modulus-not-positive",
             Rule::ModulusEven => "modulus-even",
             Rule::ModulusShort => "modulus-short",
@@ -195,6 +248,7 @@ impl Rule {
             Rule::ExponentEven => "exponent-even",
             Rule::IssuerUniqueId => "issuer-unique-id",
             Rule::SubjectUniqueId => "subject-unique-id",
+            Rule::CriticalUnknown => "critical-unknown",
             Rule::AuthorityKeyCritical => "authority-key-critical",
             Rule::AuthorityKeyMissing => "authority-key-missing",
             Rule::AuthorityKeyPartial => "authority-key-partial",
@@ -211,6 +265,8 @@ impl Rule {
             Rule::AlternativeNameEmpty => "alternative-name-empty",
             Rule::AddressLength => "address-length",
             Rule::MailboxWithoutAt => "mailbox-without-at",
+            Rule::HostName => "host-name",
+            Rule::UriWithoutScheme => "uri-without-scheme",
             Rule::IssuerNamesEmpty => "issuer-names-empty",
             Rule::IssuerNamesCritical => "issuer-names-critical",
             Rule::DirectoryAttributesCritical => "directory-attributes-critical",
@@ -241,11 +297,24 @@ impl Rule {
                 "the algorithm in the signed part isn't the one beside the signature"
             }
             Rule::IssuerEmpty => "issuer is empty",
+            Rule::IssuerSetEmpty => "issuer has a set without attributes",
+            Rule::IssuerTextEmpty => "issuer has a text without characters",
+            Rule::IssuerTextLong => "issuer has a text that is longer than its attribute may be",
+            Rule::IssuerCountry => "countryName in issuer isn't a PrintableString of two letters",
+            Rule::IssuerStringType => "issuer has a string type that isn't for new names",
             Rule::ValidityReversed => "notAfter is before notBefore",
             Rule::NotBeforeForm => "notBefore is a GeneralizedTime before 2050",
             Rule::NotAfterForm => "notAfter is a GeneralizedTime before 2050",
             Rule::SubjectEmpty => "subject is empty, and no critical subjectAltName names it",
             Rule::AuthorityUnnamed => "subject of an authority is empty",
+            Rule::SubjectSetEmpty => "subject has a set without attributes",
+            Rule::SubjectTextEmpty => "subject has a text without characters",
+            Rule::SubjectTextLong => "subject has a text that is longer than its attribute may be",
+            Rule::SubjectCountry => "countryName in subject isn't a PrintableString of two letters",
+            Rule::SubjectStringType => "subject has a string type that isn't for new names",
+            Rule::SubjectMailboxUnnamed => {
+                "subject has an emailAddress, but no rfc822Name is among the alternative names"
+            }
             Rule::ModulusNotPositive => "RSA modulus isn't positive",
             Rule::ModulusEven => "RSA modulus is even",
             Rule::ModulusShort => "RSA modulus has fewer than 2048 bits",
@@ -253,6 +322,7 @@ impl Rule {
             Rule::ExponentEven => "RSA exponent is even",
             Rule::IssuerUniqueId => "issuer has a unique identifier",
             Rule::SubjectUniqueId => "subject has a unique identifier",
+            Rule::CriticalUnknown => "an extension is critical that RFC 5280 doesn't define",
             Rule::AuthorityKeyCritical => "authority key identifier is critical",
             Rule::AuthorityKeyMissing => {
                 "no authority key identifier has a keyIdentifier, though issuer and subject differ"
@@ -279,6 +349,8 @@ impl Rule {
             Rule::AlternativeNameEmpty => "an alternative name is empty",
             Rule::AddressLength => "an iPAddress has neither four nor sixteen octets",
             Rule::MailboxWithoutAt => "an rfc822Name has no @",
+            Rule::HostName => "a dNSName isn't the name of a host",
+            Rule::UriWithoutScheme => "a uniformResourceIdentifier has no scheme",
             Rule::IssuerNamesEmpty => "issuerAltName has no names",
             Rule::IssuerNamesCritical => "issuerAltName is critical",
             Rule::DirectoryAttributesCritical => "subjectDirectoryAttributes is critical",
@@ -314,11 +386,22 @@ impl Rule {
             Rule::SerialTooLong => "RFC 5280, 4.1.2.2",
             Rule::AlgorithmsDiffer => "RFC 5280, 4.1.1.2",
             Rule::IssuerEmpty => "RFC 5280, 4.1.2.4",
+            Rule::IssuerSetEmpty => "RFC 5280, 4.1.2.4",
+            Rule::IssuerTextEmpty => "RFC 5280, A.1",
+            Rule::IssuerTextLong => "RFC 5280, A.1",
+            Rule::IssuerCountry => "RFC 5280, A.1",
+            Rule::IssuerStringType => "RFC 5280, 4.1.2.4",
             Rule::ValidityReversed => "RFC 5280, 4.1.2.5",
             Rule::NotBeforeForm => "RFC 5280, 4.1.2.5",
             Rule::NotAfterForm => "RFC 5280, 4.1.2.5",
             Rule::SubjectEmpty => "RFC 5280, 4.1.2.6",
             Rule::AuthorityUnnamed => "RFC 5280, 4.1.2.6",
+            Rule::SubjectSetEmpty => "RFC 5280, 4.1.2.4",
+            Rule::SubjectTextEmpty => "RFC 5280, A.1",
+            Rule::SubjectTextLong => "RFC 5280, A.1",
+            Rule::SubjectCountry => "RFC 5280, A.1",
+            Rule::SubjectStringType => "RFC 5280, 4.1.2.4",
+            Rule::SubjectMailboxUnnamed => "RFC 5280, 4.1.2.6",
             Rule::ModulusNotPositive => "RFC 8017, 3.1",
             Rule::ModulusEven => "RFC 8017, 3.1",
             Rule::ModulusShort => "NIST SP 800-131A, 3",
@@ -326,6 +409,7 @@ impl Rule {
             Rule::ExponentEven => "RFC 8017, 3.1",
             Rule::IssuerUniqueId => "RFC 5280, 4.1.2.8",
             Rule::SubjectUniqueId => "RFC 5280, 4.1.2.8",
+            Rule::CriticalUnknown => "RFC 5280, 4.2",
             Rule::AuthorityKeyCritical => "RFC 5280, 4.2.1.1",
             Rule::AuthorityKeyMissing => "RFC 5280, 4.2.1.1",
             Rule::AuthorityKeyPartial => "RFC 5280, A.2",
@@ -342,6 +426,8 @@ impl Rule {
             Rule::AlternativeNameEmpty => "RFC 5280, 4.2.1.6",
             Rule::AddressLength => "RFC 5280, 4.2.1.6",
             Rule::MailboxWithoutAt => "RFC 5280, 4.2.1.6",
+            Rule::HostName => "RFC 5280, 4.2.1.6",
+            Rule::UriWithoutScheme => "RFC 5280, 4.2.1.6",
             Rule::IssuerNamesEmpty => "RFC 5280, 4.2.1.7",
             Rule::IssuerNamesCritical => "RFC 5280, 4.2.1.7",
             Rule::DirectoryAttributesCritical => "RFC 5280, 4.2.1.8",
@@ -367,7 +453,10 @@ impl Rule {
     pub const fn is_warning(self) -> bool {
         matches!(
             self,
-            Rule::ModulusShort
+            Rule::IssuerStringType
+                | Rule::SubjectStringType
+                | Rule::ModulusShort
+                | Rule::CriticalUnknown
                 | Rule::KeyUsageNotCritical
                 | Rule::AuthorityWithoutSigning
                 | Rule::PolicyMappingsNotCritical

@@ -39,10 +39,10 @@ fn rules_that_are_broken() {
     let found = reader.findings(CERTIFICATE, &mut out).unwrap();
     assert_eq!(told(found), STATED);
     let warnings: Vec<Rule> = Rule::ALL.into_iter().filter(|it| it.is_warning()).collect();
-    assert_eq!(warnings.len(), 8);
+    assert_eq!(warnings.len(), 11);
     assert_eq!(
         warnings[..3],
-        [Rule::ModulusShort, Rule::KeyUsageNotCritical, Rule::AuthorityWithoutSigning]
+        [Rule::IssuerStringType, Rule::SubjectStringType, Rule::ModulusShort]
     );
     #[cfg(feature = "alloc")]
     assert_eq!(told(&cimaroly::findings(CERTIFICATE).unwrap()), STATED);

@@ -1,103 +1,107 @@
 -- When a certificate breaks a rule: each rule by what its clause asks of the value.
-use Rattle.std.specs.Prelude.{◌≡◌, ◌<◌, ℕ, Bool, false, not, ◌&&◌, is_some, List, length, take, slice_index_or, Option, Some, None, All, IsTrue}
-use Rattle.x509_der.specs.Items.{no_items}
+use Rattle.std.specs.Prelude.{◌<◌, ℕ, List, length, take, slice_index_or, Option, Some, None, All}
 use Rattle.picky_asn1_x509.specs.declared.certificate.Certificate.{Certificate}
-use Rattle.x509_findings_parts.specs.Features.{some_have}
-use Rattle.x509_findings_parts.specs.Keys.{HasEvenExponent, HasEvenModulus, HasLowExponent, HasLowModulus, HasShortModulus}
-use Rattle.x509_findings_parts.specs.Numbers.{IsBelow, IsLonger}
-use Rattle.x509_findings_parts.specs.Times.{IsBefore, IsEarly, moment_in}
-use Rattle.x509_findings_parts.specs.declared.extension.Feature.{Feature}
-use Rattle.x509_findings_parts.specs.declared.extension.Feature.TheVariants as feature
 use Rattle.x509_findings_parts.specs.declared.alternative_name.NameFault.TheVariants as fault
+use Rattle.x509_findings_parts.specs.declared.extension.Feature.TheVariants as feature
 use Rattle.x509_findings_parts.specs.declared.known.Known.TheVariants as known
+use Rattle.x509_findings_parts.specs.declared.text.TextFault.TheVariants as text
 use Rattle.x509_rules.specs.declared.rule.Rule.{Rule}
 use Rattle.x509_rules.specs.declared.rule.Rule.TheVariants as rule
+use Rattle.x509_findings.specs.Conditions.{Holds}
+use Rattle.x509_findings.specs.declared.condition.Condition.{Condition}
+use Rattle.x509_findings.specs.declared.condition.Condition.TheVariants as condition
+use Rattle.x509_findings.specs.declared.condition.FieldFault.TheVariants as field
 
--- one of its extensions has a feature
-abbrev pub has : {A : Type 0} → Certificate A → Feature → Bool
-has c f = some_have f c.tbs_certificate.extensions
-
--- neither the issuer nor the subject has a name that is encoded as an empty list
-abbrev pub is_issuer_empty : {A : Type 0} → Certificate A → Bool
-is_issuer_empty c = no_items c.tbs_certificate.issuer
-
-abbrev pub is_subject_empty : {A : Type 0} → Certificate A → Bool
-is_subject_empty c = no_items c.tbs_certificate.subject
-
--- no extension has the identifier of the key that signed, though issuer and subject are two names
-abbrev pub LacksAuthorityKey : {A : Type 0} → Certificate A → Type 0
-LacksAuthorityKey c = (has c feature.AuthorityKey ≡ false) × (c.tbs_certificate.issuer ≡ c.tbs_certificate.subject → ⊥)
-
-abbrev pub Broken : {A : Type 0} → Rule → Certificate A → Type 0
+-- what breaks each rule
+abbrev pub condition_of : Rule → Condition
 -- a positive integer of at most 20 octets (RFC 5280, 4.1.2.2)
-Broken rule.SerialNotPositive c = IsBelow c.tbs_certificate.serial_number 1
-Broken rule.SerialTooLong c = IsLonger c.tbs_certificate.serial_number 20
+condition_of rule.SerialNotPositive = condition.Field field.LowSerial
+condition_of rule.SerialTooLong = condition.Field field.LongSerial
 -- the same algorithm as in signatureAlgorithm (4.1.1.2, 4.1.2.3)
-Broken rule.AlgorithmsDiffer c = c.tbs_certificate.signature ≡ c.signature_algorithm → ⊥
--- a non-empty distinguished name (4.1.2.4)
-Broken rule.IssuerEmpty c = IsTrue (is_issuer_empty c)
+condition_of rule.AlgorithmsDiffer = condition.Field field.OtherAlgorithm
+-- a non-empty distinguished name, of sets of one attribute at least, with texts of one character at least and as many as A.1 allows, in
+-- PrintableString or UTF8String (4.1.2.4)
+condition_of rule.IssuerEmpty = condition.Field field.NoIssuer
+condition_of rule.IssuerSetEmpty = condition.Field field.EmptyIssuerSet
+condition_of rule.IssuerTextEmpty = condition.Issuer text.Empty
+condition_of rule.IssuerTextLong = condition.Issuer text.Long
+condition_of rule.IssuerCountry = condition.Issuer text.NoCountry
+condition_of rule.IssuerStringType = condition.Issuer text.StringType
 -- the period from notBefore through notAfter; dates through the year 2049 as UTCTime (4.1.2.5)
-Broken rule.ValidityReversed c = IsBefore (moment_in c.tbs_certificate.validity.not_after) (moment_in c.tbs_certificate.validity.not_before)
-Broken rule.NotBeforeForm c = IsEarly c.tbs_certificate.validity.not_before
-Broken rule.NotAfterForm c = IsEarly c.tbs_certificate.validity.not_after
--- an empty subject has a critical subjectAltName, and isn't that of an authority (4.1.2.6)
-Broken rule.SubjectEmpty c = IsTrue (is_subject_empty c && not (has c feature.CriticalNames))
-Broken rule.AuthorityUnnamed c = IsTrue (is_subject_empty c && has c feature.Authority)
+condition_of rule.ValidityReversed = condition.Field field.NoPeriod
+condition_of rule.NotBeforeForm = condition.Field field.EarlyStart
+condition_of rule.NotAfterForm = condition.Field field.EarlyEnd
+-- an empty subject has a critical subjectAltName, and isn't that of an authority; an emailAddress is an rfc822Name too (4.1.2.6)
+condition_of rule.SubjectEmpty = condition.Field field.NoSubject
+condition_of rule.AuthorityUnnamed = condition.Field field.NoAuthority
+condition_of rule.SubjectSetEmpty = condition.Field field.EmptySubjectSet
+condition_of rule.SubjectTextEmpty = condition.Subject text.Empty
+condition_of rule.SubjectTextLong = condition.Subject text.Long
+condition_of rule.SubjectCountry = condition.Subject text.NoCountry
+condition_of rule.SubjectStringType = condition.Subject text.StringType
+condition_of rule.SubjectMailboxUnnamed = condition.Field field.HiddenMailbox
 -- RSA keys (RFC 8017, 3.1)
-Broken rule.ModulusNotPositive c = HasLowModulus c.tbs_certificate.subject_public_key_info.subject_public_key
-Broken rule.ModulusEven c = HasEvenModulus c.tbs_certificate.subject_public_key_info.subject_public_key
-Broken rule.ModulusShort c = HasShortModulus c.tbs_certificate.subject_public_key_info.subject_public_key
-Broken rule.ExponentLow c = HasLowExponent c.tbs_certificate.subject_public_key_info.subject_public_key
-Broken rule.ExponentEven c = HasEvenExponent c.tbs_certificate.subject_public_key_info.subject_public_key
+condition_of rule.ModulusNotPositive = condition.Field field.LowModulus
+condition_of rule.ModulusEven = condition.Field field.EvenModulus
+condition_of rule.ModulusShort = condition.Field field.ShortModulus
+condition_of rule.ExponentLow = condition.Field field.LowExponent
+condition_of rule.ExponentEven = condition.Field field.EvenExponent
 -- no unique identifiers (RFC 5280, 4.1.2.8)
-Broken rule.IssuerUniqueId c = IsTrue (is_some c.tbs_certificate.issuer_unique_id)
-Broken rule.SubjectUniqueId c = IsTrue (is_some c.tbs_certificate.subject_unique_id)
+condition_of rule.IssuerUniqueId = condition.Field field.IssuerId
+condition_of rule.SubjectUniqueId = condition.Field field.SubjectId
+-- an extension that isn't known isn't critical (4.2)
+condition_of rule.CriticalUnknown = condition.Has feature.CriticalUnknown
 -- key identifiers aren't critical; a certificate that isn't self-issued has the identifier of the key that signed, and an
 -- authority's that of its own; both parts of the name of the issuer's certificate, or none (4.2.1.1, 4.2.1.2, A.2)
-Broken rule.AuthorityKeyCritical c = IsTrue (has c feature.CriticalAuthorityKey)
-Broken rule.AuthorityKeyMissing c = LacksAuthorityKey c
-Broken rule.AuthorityKeyPartial c = IsTrue (has c feature.PartialAuthorityKey)
-Broken rule.SubjectKeyCritical c = IsTrue (has c feature.CriticalSubjectKey)
-Broken rule.SubjectKeyMissing c = IsTrue (has c feature.Authority && not (has c feature.SubjectKey))
+condition_of rule.AuthorityKeyCritical = condition.Has feature.CriticalAuthorityKey
+condition_of rule.AuthorityKeyMissing = condition.Field field.NoAuthorityKey
+condition_of rule.AuthorityKeyPartial = condition.Has feature.PartialAuthorityKey
+condition_of rule.SubjectKeyCritical = condition.Has feature.CriticalSubjectKey
+condition_of rule.SubjectKeyMissing = condition.HasWithout feature.Authority feature.SubjectKey
 -- at least one bit; trailing zero bits are removed; critical (4.2.1.3; X.690, 11.2.2)
-Broken rule.KeyUsageEmpty c = IsTrue (has c feature.NoUsages)
-Broken rule.KeyUsagePadded c = IsTrue (has c feature.UnsetUsage)
-Broken rule.KeyUsageNotCritical c = IsTrue (has c feature.UncriticalUsage)
+condition_of rule.KeyUsageEmpty = condition.Has feature.NoUsages
+condition_of rule.KeyUsagePadded = condition.Has feature.UnsetUsage
+condition_of rule.KeyUsageNotCritical = condition.Has feature.UncriticalUsage
 -- keyCertSign and cA go together (RFC 5280, 4.2.1.3, 4.2.1.9)
-Broken rule.SigningWithoutAuthority c = IsTrue (has c feature.Signing && not (has c feature.Authority))
-Broken rule.AuthorityWithoutSigning c = IsTrue (has c feature.Authority && not (has c feature.Signing))
+condition_of rule.SigningWithoutAuthority = condition.HasWithout feature.Signing feature.Authority
+condition_of rule.AuthorityWithoutSigning = condition.HasWithout feature.Authority feature.Signing
 -- critical (RFC 5280, 4.2.1.5)
-Broken rule.PolicyMappingsNotCritical c = IsTrue (has c (feature.Uncritical known.PolicyMappings))
--- lists of one name at least, none of them empty, with addresses of four octets or sixteen and mailboxes with an @; not
--- critical, the subject's only where subject is empty (4.2.1.6, 4.2.1.7)
-Broken rule.SubjectNamesEmpty c = IsTrue (has c feature.NoSubjectNames)
-Broken rule.SubjectNamesCritical c = IsTrue (not (is_subject_empty c) && has c feature.CriticalNames)
-Broken rule.AlternativeNameEmpty c = IsTrue (has c (feature.FaultyName fault.EmptyName))
-Broken rule.AddressLength c = IsTrue (has c (feature.FaultyName fault.OddAddress))
-Broken rule.MailboxWithoutAt c = IsTrue (has c (feature.FaultyName fault.NoMailbox))
-Broken rule.IssuerNamesEmpty c = IsTrue (has c feature.NoIssuerNames)
-Broken rule.IssuerNamesCritical c = IsTrue (has c feature.CriticalIssuerNames)
+condition_of rule.PolicyMappingsNotCritical = condition.Has (feature.Uncritical known.PolicyMappings)
+-- lists of one name at least, none of them empty, with addresses of four octets or sixteen, mailboxes with an @, names of hosts and
+-- absolute URIs; not critical, the subject's only where subject is empty (4.2.1.6, 4.2.1.7)
+condition_of rule.SubjectNamesEmpty = condition.Has feature.NoSubjectNames
+condition_of rule.SubjectNamesCritical = condition.Field field.NeedlessNames
+condition_of rule.AlternativeNameEmpty = condition.Has (feature.FaultyName fault.EmptyName)
+condition_of rule.AddressLength = condition.Has (feature.FaultyName fault.OddAddress)
+condition_of rule.MailboxWithoutAt = condition.Has (feature.FaultyName fault.NoMailbox)
+condition_of rule.HostName = condition.Has (feature.FaultyName fault.NoHost)
+condition_of rule.UriWithoutScheme = condition.Has (feature.FaultyName fault.NoScheme)
+condition_of rule.IssuerNamesEmpty = condition.Has feature.NoIssuerNames
+condition_of rule.IssuerNamesCritical = condition.Has feature.CriticalIssuerNames
 -- not critical (4.2.1.8)
-Broken rule.DirectoryAttributesCritical c = IsTrue (has c (feature.Critical known.SubjectDirectoryAttributes))
+condition_of rule.DirectoryAttributesCritical = condition.Has (feature.Critical known.SubjectDirectoryAttributes)
 -- basic constraints of an authority are critical, unless its key is for other purposes than certificates; a path is limited only
 -- where cA and keyCertSign are (4.2.1.9); a default is left out (X.690, 11.5)
-Broken rule.AuthorityNotCritical c = IsTrue (has c feature.UncriticalAuthority && not (has c feature.OtherUsage))
-Broken rule.PathLengthIdle c = IsTrue (has c feature.IdlePathLength)
-Broken rule.PathLengthWithoutSigning c = IsTrue (has c feature.PathLength && not (has c feature.Signing))
-Broken rule.AuthorityDefaultSpelled c = IsTrue (has c feature.SpelledDefault)
+condition_of rule.AuthorityNotCritical = condition.HasWithout feature.UncriticalAuthority feature.OtherUsage
+condition_of rule.PathLengthIdle = condition.Has feature.IdlePathLength
+condition_of rule.PathLengthWithoutSigning = condition.HasWithout feature.PathLength feature.Signing
+condition_of rule.AuthorityDefaultSpelled = condition.Has feature.SpelledDefault
 -- critical, and for authorities alone (RFC 5280, 4.2.1.10); critical (4.2.1.11)
-Broken rule.NameConstraintsNotCritical c = IsTrue (has c (feature.Uncritical known.NameConstraints))
-Broken rule.NameConstraintsWithoutAuthority c = IsTrue (has c (feature.Has known.NameConstraints) && not (has c feature.Authority))
-Broken rule.PolicyConstraintsNotCritical c = IsTrue (has c (feature.Uncritical known.PolicyConstraints))
+condition_of rule.NameConstraintsNotCritical = condition.Has (feature.Uncritical known.NameConstraints)
+condition_of rule.NameConstraintsWithoutAuthority = condition.HasWithout (feature.Has known.NameConstraints) feature.Authority
+condition_of rule.PolicyConstraintsNotCritical = condition.Has (feature.Uncritical known.PolicyConstraints)
 -- a list of one purpose at least, and not critical where it allows any (4.2.1.12)
-Broken rule.PurposesEmpty c = IsTrue (has c feature.NoPurposes)
-Broken rule.AnyPurposeCritical c = IsTrue (has c feature.CriticalAnyPurpose)
+condition_of rule.PurposesEmpty = condition.Has feature.NoPurposes
+condition_of rule.AnyPurposeCritical = condition.Has feature.CriticalAnyPurpose
 -- not critical (4.2.1.13); critical (4.2.1.14); not critical (4.2.1.15, 4.2.2.1, 4.2.2.2)
-Broken rule.RevocationPointsCritical c = IsTrue (has c (feature.Critical known.CrlDistributionPoints))
-Broken rule.AnyPolicyNotCritical c = IsTrue (has c (feature.Uncritical known.InhibitAnyPolicy))
-Broken rule.FreshestListCritical c = IsTrue (has c (feature.Critical known.FreshestCrl))
-Broken rule.AuthorityAccessCritical c = IsTrue (has c (feature.Critical known.AuthorityInfoAccess))
-Broken rule.SubjectAccessCritical c = IsTrue (has c (feature.Critical known.SubjectInfoAccess))
+condition_of rule.RevocationPointsCritical = condition.Has (feature.Critical known.CrlDistributionPoints)
+condition_of rule.AnyPolicyNotCritical = condition.Has (feature.Uncritical known.InhibitAnyPolicy)
+condition_of rule.FreshestListCritical = condition.Has (feature.Critical known.FreshestCrl)
+condition_of rule.AuthorityAccessCritical = condition.Has (feature.Critical known.AuthorityInfoAccess)
+condition_of rule.SubjectAccessCritical = condition.Has (feature.Critical known.SubjectInfoAccess)
+
+abbrev pub Broken : {A : Type 0} → Rule → Certificate A → Type 0
+Broken r c = Holds (condition_of r) c
 
 -- none of some rules is broken
 abbrev pub NoneBroken : {A : Type 0} → Certificate A → List Rule → Type 0

@@ -1,4 +1,5 @@
 -- What is wrong with certificates, and where.
+pub mod Conditions
 pub mod Broken
 pub mod Places
 pub mod Findings

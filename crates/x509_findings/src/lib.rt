@@ -3,6 +3,7 @@
 #![tactic(auto)]
 
 pub mod broken;
+pub mod condition;
 pub mod findings;
 pub mod place;
 

@@ -3,3 +3,4 @@ pub mod NumberFacts
 pub mod OtherViews
 pub mod FirstFeature
 pub mod UsageFacts
+pub mod LabelSteps

@@ -4,7 +4,7 @@ use Rattle.picky_asn1_x509_parts.specs.Extensions.{viewed}
 use Rattle.picky_asn1_x509_parts.specs.declared.extension_view.ExtensionView.{ExtensionView}
 use Rattle.picky_asn1_x509_parts.specs.declared.extension_view.ExtensionView.TheVariants as view
 use Rattle.x509_findings_parts.specs.Extensions.{allows_signing, forbids_signing, has_any_purpose, has_no_purpose, identifies_authority_key, limits_no_path, limits_path, makes_authority, names_authority_by_half, names_authority_key, names_issuer, names_no_issuer, names_no_subject, names_subject, names_subject_key, says_usage, spells_default}
-use Rattle.x509_findings_parts.specs.AlternativeNames.{name_has_fault}
+use Rattle.x509_findings_parts.specs.AlternativeNames.{name_has_fault, names_mailbox}
 use Rattle.x509_findings_parts.specs.declared.alternative_name.NameFault.{NameFault}
 use Rattle.x509_findings_parts.specs.Usages.{allows_nothing, ends_unset}
 
@@ -247,3 +247,15 @@ other-name_has_fault f (view.BasicConstraints x) h k = refl
 other-name_has_fault f (view.ExtendedKeyUsage x) h k = refl
 other-name_has_fault f (view.Generic x) h k = refl
 other-name_has_fault f (view.CrlNumber x) h k = refl
+
+-- what another view lends names no mailbox
+pub other-names_mailbox : {A : Type 0} (v : ExtensionView A) → ((x : _) → v ≡ view.SubjectAltName x → ⊥) → names_mailbox (viewed v) ≡ false
+other-names_mailbox (view.AuthorityKeyIdentifier x) h = refl
+other-names_mailbox (view.SubjectKeyIdentifier x) h = refl
+other-names_mailbox (view.KeyUsage x) h = refl
+other-names_mailbox (view.SubjectAltName x) h = absurd (h x refl)
+other-names_mailbox (view.IssuerAltName x) h = refl
+other-names_mailbox (view.BasicConstraints x) h = refl
+other-names_mailbox (view.ExtendedKeyUsage x) h = refl
+other-names_mailbox (view.Generic x) h = refl
+other-names_mailbox (view.CrlNumber x) h = refl

@@ -1,7 +1,8 @@
 -- What is asked of the names in subjectAltName and issuerAltName (RFC 5280, 4.2.1.6, 4.2.1.7).
-use Rattle.std.specs.Prelude.{ℕ, Bool, false, not, ◌||◌, ◌==◌, length}
+use Rattle.std.specs.Prelude.{ℕ, Bool, true, false, not, ◌&&◌, ◌||◌, ◌==◌, length}
 use Rattle.std.specs.List.{list_any}
 use Rattle.x509_der.specs.Items.{no_items}
+use Rattle.x509_findings_parts.specs.Hosts.{has_scheme, is_host}
 use Rattle.x509_names.specs.declared.general_name.GeneralName.{GeneralName}
 use Rattle.x509_names.specs.declared.general_name.GeneralName.TheVariants as name
 use Rattle.picky_asn1_x509_parts.specs.declared.extension_value.ExtensionValue.{ExtensionValue}
@@ -31,13 +32,34 @@ abbrev pub is_no_mailbox : {A : Type 0} → GeneralName A → Bool
 is_no_mailbox (name.Rfc822Name text) = not (list_any is_at text)
 is_no_mailbox n = false
 
+-- a dNSName that isn't in the preferred name syntax
+abbrev pub is_no_host : {A : Type 0} → GeneralName A → Bool
+is_no_host (name.DnsName text) = not (no_items text) && not (is_host text)
+is_no_host n = false
+
+-- a uniformResourceIdentifier without a scheme: it must not be a relative one
+abbrev pub is_no_uri : {A : Type 0} → GeneralName A → Bool
+is_no_uri (name.Uri text) = not (no_items text) && not (has_scheme text)
+is_no_uri n = false
+
+abbrev pub is_mailbox : {A : Type 0} → GeneralName A → Bool
+is_mailbox (name.Rfc822Name text) = true
+is_mailbox n = false
+
 abbrev pub has_fault : {A : Type 0} → NameFault → GeneralName A → Bool
 has_fault fault.OddAddress n = is_odd_address n
 has_fault fault.EmptyName n = is_empty_name n
 has_fault fault.NoMailbox n = is_no_mailbox n
+has_fault fault.NoHost n = is_no_host n
+has_fault fault.NoScheme n = is_no_uri n
 
 -- one of the names of subject or issuer has the fault
 abbrev pub name_has_fault : {A : Type 0} → NameFault → ExtensionValue A → Bool
 name_has_fault f (value.SubjectAltName names) = list_any (has_fault f) names
 name_has_fault f (value.IssuerAltName names) = list_any (has_fault f) names
 name_has_fault f v = false
+
+-- one of the subject's names is an rfc822Name
+abbrev pub names_mailbox : {A : Type 0} → ExtensionValue A → Bool
+names_mailbox (value.SubjectAltName names) = list_any is_mailbox names
+names_mailbox v = false

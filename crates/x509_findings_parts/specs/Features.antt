@@ -6,8 +6,8 @@ use Rattle.picky_asn1_x509_parts.specs.Extensions.{ExtensionFields}
 use Rattle.x509_findings_parts.specs.declared.extension.Feature.{Feature}
 use Rattle.x509_findings_parts.specs.declared.extension.Feature.TheVariants as features
 use Rattle.x509_findings_parts.specs.Extensions.{allows_signing, forbids_signing, has_any_purpose, has_no_purpose, identifies_authority_key, limits_no_path, limits_path, makes_authority, names_authority_by_half, names_authority_key, names_issuer, names_no_issuer, names_no_subject, names_subject, names_subject_key, says_usage, spells_default}
-use Rattle.x509_findings_parts.specs.AlternativeNames.{name_has_fault}
-use Rattle.x509_findings_parts.specs.Known.{arcs_of_known}
+use Rattle.x509_findings_parts.specs.AlternativeNames.{name_has_fault, names_mailbox}
+use Rattle.x509_findings_parts.specs.Known.{arcs_of_known, is_of_standard}
 use Rattle.x509_findings_parts.specs.Usages.{allows_nothing, ends_unset}
 
 -- the extension has the feature
@@ -33,6 +33,8 @@ has_feature features.PartialAuthorityKey e = names_authority_by_half e.extn_valu
 has_feature features.UncriticalUsage e = says_usage e.extn_value && not e.critical
 has_feature features.CriticalIssuerNames e = names_issuer e.extn_value && e.critical
 has_feature features.CriticalAnyPurpose e = has_any_purpose e.extn_value && e.critical
+has_feature features.Mailbox e = names_mailbox e.extn_value
+has_feature features.CriticalUnknown e = not (is_of_standard e.extn_id) && e.critical
 has_feature (features.FaultyName fault) e = name_has_fault fault e.extn_value
 has_feature (features.Has known) e = is_arcs e.extn_id (arcs_of_known known)
 has_feature (features.Critical known) e = is_arcs e.extn_id (arcs_of_known known) && e.critical

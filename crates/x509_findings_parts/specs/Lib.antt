@@ -6,4 +6,6 @@ pub mod Keys
 pub mod Known
 pub mod Extensions
 pub mod AlternativeNames
+pub mod Texts
+pub mod Hosts
 pub mod Features

@@ -2,8 +2,9 @@
 
 ghost use Rattle.std.specs.Prelude.{◌≡◌};
 ghost use Rattle.std.specs.List.{list_any};
-ghost use Rattle.x509_findings_parts.specs.AlternativeNames.{has_fault, is_at, is_empty_name, is_no_mailbox, is_odd_address, name_has_fault};
+ghost use Rattle.x509_findings_parts.specs.AlternativeNames.{has_fault, is_at, is_empty_name, is_mailbox, is_no_host, is_no_mailbox, is_no_uri, is_odd_address, name_has_fault, names_mailbox};
 
+use crate::host::{has_scheme, is_host};
 use picky_asn1_x509_parts::{Extension, ExtensionView};
 use std::alloc::Allocator;
 use x509_names::GeneralName;
@@ -17,6 +18,10 @@ pub enum NameFault {
     EmptyName,
     /// It is a mail address without an `@`.
     NoMailbox,
+    /// It is a DNS name, and no name of a host.
+    NoHost,
+    /// It is a URI without a scheme.
+    NoScheme,
 }
 
 /// Whether a name is an IP address of neither four bytes nor sixteen.
@@ -82,6 +87,60 @@ fn is_no_mailbox<A: Allocator>(name: &GeneralName<A>) -> bool
     }
 }
 
+/// Whether a name is a DNS name with characters, and no name of a host.
+fn is_no_host<A: Allocator>(name: &GeneralName<A>) -> bool
+    ensures { result ≡ is_no_host name.now }
+{
+    match name {
+        GeneralName::DnsName(text) => {
+            let octets = text.as_bytes();
+            !octets.is_empty() && !is_host(octets)
+        }
+        GeneralName::OtherName(_)
+        | GeneralName::Rfc822Name(_)
+        | GeneralName::DirectoryName(_)
+        | GeneralName::EdiPartyName(_)
+        | GeneralName::Uri(_)
+        | GeneralName::IpAddress(_)
+        | GeneralName::RegisteredId(_) => false,
+    }
+}
+
+/// Whether a name is a URI with characters, and without a scheme.
+fn is_no_uri<A: Allocator>(name: &GeneralName<A>) -> bool
+    ensures { result ≡ is_no_uri name.now }
+{
+    match name {
+        GeneralName::Uri(text) => {
+            let octets = text.as_bytes();
+            !octets.is_empty() && !has_scheme(octets)
+        }
+        GeneralName::OtherName(_)
+        | GeneralName::Rfc822Name(_)
+        | GeneralName::DnsName(_)
+        | GeneralName::DirectoryName(_)
+        | GeneralName::EdiPartyName(_)
+        | GeneralName::IpAddress(_)
+        | GeneralName::RegisteredId(_) => false,
+    }
+}
+
+/// Whether a name is a mail address.
+fn is_mailbox<A: Allocator>(name: &GeneralName<A>) -> bool
+    ensures { result ≡ is_mailbox name.now }
+{
+    match name {
+        GeneralName::Rfc822Name(_) => true,
+        GeneralName::OtherName(_)
+        | GeneralName::DnsName(_)
+        | GeneralName::DirectoryName(_)
+        | GeneralName::EdiPartyName(_)
+        | GeneralName::Uri(_)
+        | GeneralName::IpAddress(_)
+        | GeneralName::RegisteredId(_) => false,
+    }
+}
+
 /// Whether a name has a fault.
 fn has_fault<A: Allocator>(name: &GeneralName<A>, fault: NameFault) -> bool
     ensures { result ≡ has_fault fault name.now }
@@ -90,6 +149,8 @@ fn has_fault<A: Allocator>(name: &GeneralName<A>, fault: NameFault) -> bool
         NameFault::OddAddress => is_odd_address(name),
         NameFault::EmptyName => is_empty_name(name),
         NameFault::NoMailbox => is_no_mailbox(name),
+        NameFault::NoHost => is_no_host(name),
+        NameFault::NoScheme => is_no_uri(name),
     }
 }
 
@@ -112,6 +173,23 @@ pub(crate) fn name_has_fault<A: Allocator>(extension: &Extension<A>, fault: Name
     match extension.extn_value() {
         ExtensionView::SubjectAltName(names) => some_have_fault(names.0.as_slice(), fault),
         ExtensionView::IssuerAltName(names) => some_have_fault(names.0.as_slice(), fault),
+        _ => false,
+    }
+}
+
+/// Whether one of some names is a mail address.
+fn some_are_mailboxes<A: Allocator>(names: &[GeneralName<A>]) -> bool
+    ensures { result ≡ list_any is_mailbox names.now }
+{
+    names.iter().any(|name| is_mailbox(name))
+}
+
+/// Whether an extension has further names of the subject, and one is a mail address.
+pub(crate) fn names_mailbox<A: Allocator>(extension: &Extension<A>) -> bool
+    ensures { result ≡ names_mailbox extension.now.extn_value }
+{
+    match extension.extn_value() {
+        ExtensionView::SubjectAltName(names) => some_are_mailboxes(names.0.as_slice()),
         _ => false,
     }
 }

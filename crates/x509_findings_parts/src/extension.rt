@@ -4,8 +4,8 @@ ghost use Rattle.std.specs.Prelude.{◌≡◌, ◌&&◌, not};
 ghost use Rattle.x509_findings_parts.specs.Extensions.{allows_signing, forbids_signing, has_no_purpose, identifies_authority_key, limits_no_path, limits_path, makes_authority, names_authority_by_half, names_authority_key, names_issuer, names_no_issuer, names_no_subject, names_subject, names_subject_key, says_usage, spells_default};
 ghost use Rattle.x509_findings_parts.specs.Features.{has_feature, some_have};
 
-use crate::alternative_name::{NameFault, name_has_fault};
-use crate::known::{Known, is_known};
+use crate::alternative_name::{NameFault, name_has_fault, names_mailbox};
+use crate::known::{Known, is_known, is_of_standard};
 use crate::purpose::has_any_purpose;
 use crate::usage::{allows_nothing, ends_unset};
 use picky_asn1_x509_parts::{Extension, ExtensionView};
@@ -56,6 +56,10 @@ pub enum Feature {
     CriticalIssuerNames,
     /// It is critical, and allows any purpose of the key.
     CriticalAnyPurpose,
+    /// It has further names of the subject, of which one is a mail address.
+    Mailbox,
+    /// It is critical, and none of RFC 5280.
+    CriticalUnknown,
     /// It has further names, of which one has a fault.
     FaultyName(NameFault),
     /// It has the identifier of a known one.
@@ -261,6 +265,8 @@ fn has_feature<A: Allocator>(extension: &Extension<A>, feature: Feature) -> bool
         Feature::UncriticalUsage => says_usage(extension) && !extension.critical(),
         Feature::CriticalIssuerNames => names_issuer(extension) && extension.critical(),
         Feature::CriticalAnyPurpose => has_any_purpose(extension) && extension.critical(),
+        Feature::Mailbox => names_mailbox(extension),
+        Feature::CriticalUnknown => !is_of_standard(extension) && extension.critical(),
         Feature::FaultyName(fault) => name_has_fault(extension, fault),
         Feature::Has(known) => is_known(extension, known),
         Feature::Critical(known) => is_known(extension, known) && extension.critical(),

@@ -4,11 +4,13 @@
 
 pub mod alternative_name;
 pub mod extension;
+mod host;
 pub mod key;
 pub mod known;
 pub mod name;
 pub mod number;
 mod purpose;
+pub mod text;
 pub mod time;
 mod usage;
 
@@ -20,4 +22,5 @@ pub use crate::key::{
 pub use crate::known::Known;
 pub use crate::name::{are_other_names, differ, is_unnamed};
 pub use crate::number::{is_below, is_even, is_longer};
+pub use crate::text::{TextFault, has_email, has_empty_set, name_has_text_fault};
 pub use crate::time::{is_before, is_early};

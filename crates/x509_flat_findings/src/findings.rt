@@ -95,7 +95,7 @@ fn put_findings<A: Allocator>(
 ) -> Sized
     ensures { PutsFindings certificate.now places.now out.old out.new result.status result.size }
 {
-    let mut row = [FlatFinding::none(); 49];
+    let mut row = [FlatFinding::none(); 63];
     let count = found(&Rule::ALL, certificate, places, &mut row);
     put(&row[..count], out)
 }

@@ -12,6 +12,20 @@ pub(crate) const ALGORITHMS_DIFFER: &str =
 
 pub(crate) const ISSUER_EMPTY: &str = "The issuer's own certificate is looked for by this name.";
 
+pub(crate) const ISSUER_SET_EMPTY: &str =
+    "A set has at least one, and some programs refuse an empty one.";
+
+pub(crate) const ISSUER_TEXT_EMPTY: &str =
+    "A text has at least one, and programs compare such names in different ways.";
+
+pub(crate) const ISSUER_TEXT_LONG: &str = "Programs may cut such a text or refuse it.";
+
+pub(crate) const ISSUER_COUNTRY: &str =
+    "It is no code of a country (ISO 3166), which is what policies look for.";
+
+pub(crate) const ISSUER_STRING_TYPE: &str =
+    "Programs compare texts of other string types in different ways, or not at all.";
+
 pub(crate) const VALIDITY_REVERSED: &str = "The certificate is never valid.";
 
 pub(crate) const NOT_BEFORE_FORM: &str =
@@ -24,6 +38,23 @@ pub(crate) const SUBJECT_EMPTY: &str =
     "A program that doesn't know subjectAltName doesn't know whose key it is.";
 
 pub(crate) const AUTHORITY_UNNAMED: &str = "Certificates that it issues name it as their issuer.";
+
+pub(crate) const SUBJECT_SET_EMPTY: &str =
+    "A set has at least one, and some programs refuse an empty one.";
+
+pub(crate) const SUBJECT_TEXT_EMPTY: &str =
+    "A text has at least one, and programs compare such names in different ways.";
+
+pub(crate) const SUBJECT_TEXT_LONG: &str = "Programs may cut such a text or refuse it.";
+
+pub(crate) const SUBJECT_COUNTRY: &str =
+    "It is no code of a country (ISO 3166), which is what policies look for.";
+
+pub(crate) const SUBJECT_STRING_TYPE: &str =
+    "Programs compare texts of other string types in different ways, or not at all.";
+
+pub(crate) const SUBJECT_MAILBOX_UNNAMED: &str =
+    "Programs look for mail addresses among the alternative names, and name constraints are about those.";
 
 pub(crate) const MODULUS_NOT_POSITIVE: &str =
     "No key has such a modulus: it is mostly one whose sign octet was left out.";
@@ -42,6 +73,8 @@ pub(crate) const ISSUER_UNIQUE_ID: &str =
 
 pub(crate) const SUBJECT_UNIQUE_ID: &str =
     "Authorities must not issue such certificates: names are not used again.";
+
+pub(crate) const CRITICAL_UNKNOWN: &str = "Programs that don't know it refuse the certificate.";
 
 pub(crate) const AUTHORITY_KEY_CRITICAL: &str =
     "Programs that don't know it refuse the certificate, though it only helps to find the issuer's key.";
@@ -88,6 +121,11 @@ pub(crate) const ADDRESS_LENGTH: &str =
 
 pub(crate) const MAILBOX_WITHOUT_AT: &str =
     "It is no address of a mailbox: mostly a host name in the wrong form.";
+
+pub(crate) const HOST_NAME: &str =
+    "No host is found by it: mostly an address, or a name with an underscore or a blank.";
+
+pub(crate) const URI_WITHOUT_SCHEME: &str = "It is relative, but to nothing.";
 
 pub(crate) const ISSUER_NAMES_EMPTY: &str =
     "A list of names has at least one, and programs refuse an empty one.";

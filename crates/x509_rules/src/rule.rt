@@ -16,6 +16,16 @@ pub enum Rule {
     AlgorithmsDiffer,
     /// RFC 5280, 4.1.2.4: issuer is empty.
     IssuerEmpty,
+    /// RFC 5280, 4.1.2.4: issuer has a set without attributes.
+    IssuerSetEmpty,
+    /// RFC 5280, A.1: issuer has a text without characters.
+    IssuerTextEmpty,
+    /// RFC 5280, A.1: issuer has a text that is longer than its attribute may be.
+    IssuerTextLong,
+    /// RFC 5280, A.1: countryName in issuer isn't a PrintableString of two letters.
+    IssuerCountry,
+    /// RFC 5280, 4.1.2.4: issuer has a string type that isn't for new names.
+    IssuerStringType,
     /// RFC 5280, 4.1.2.5: notAfter is before notBefore.
     ValidityReversed,
     /// RFC 5280, 4.1.2.5: notBefore is a GeneralizedTime before 2050.
@@ -26,6 +36,18 @@ pub enum Rule {
     SubjectEmpty,
     /// RFC 5280, 4.1.2.6: subject of an authority is empty.
     AuthorityUnnamed,
+    /// RFC 5280, 4.1.2.4: subject has a set without attributes.
+    SubjectSetEmpty,
+    /// RFC 5280, A.1: subject has a text without characters.
+    SubjectTextEmpty,
+    /// RFC 5280, A.1: subject has a text that is longer than its attribute may be.
+    SubjectTextLong,
+    /// RFC 5280, A.1: countryName in subject isn't a PrintableString of two letters.
+    SubjectCountry,
+    /// RFC 5280, 4.1.2.4: subject has a string type that isn't for new names.
+    SubjectStringType,
+    /// RFC 5280, 4.1.2.6: subject has an emailAddress, but no rfc822Name is among the alternative names.
+    SubjectMailboxUnnamed,
     /// RFC 8017, 3.1: RSA modulus isn't positive.
     ModulusNotPositive,
     /// RFC 8017, 3.1: RSA modulus is even.
@@ -40,6 +62,8 @@ pub enum Rule {
     IssuerUniqueId,
     /// RFC 5280, 4.1.2.8: subject has a unique identifier.
     SubjectUniqueId,
+    /// RFC 5280, 4.2: an extension is critical that RFC 5280 doesn't define.
+    CriticalUnknown,
     /// RFC 5280, 4.2.1.1: authority key identifier is critical.
     AuthorityKeyCritical,
     /// RFC 5280, 4.2.1.1: no authority key identifier has a keyIdentifier, though issuer and subject differ.
@@ -73,6 +97,10 @@ pub enum Rule {
     AddressLength,
     /// RFC 5280, 4.2.1.6: an rfc822Name has no @.
     MailboxWithoutAt,
+    /// RFC 5280, 4.2.1.6: a dNSName isn't the name of a host.
+    HostName,
+    /// RFC 5280, 4.2.1.6: a uniformResourceIdentifier has no scheme.
+    UriWithoutScheme,
     /// RFC 5280, 4.2.1.7: issuerAltName has no names.
     IssuerNamesEmpty,
     /// RFC 5280, 4.2.1.7: issuerAltName is critical.
@@ -111,16 +139,27 @@ pub enum Rule {
 
 impl Rule {
     /// All rules, in the order of the places that they name.
-    pub const ALL: [Rule; 49] = [
+    pub const ALL: [Rule; 63] = [
         Rule::SerialNotPositive,
         Rule::SerialTooLong,
         Rule::AlgorithmsDiffer,
         Rule::IssuerEmpty,
+        Rule::IssuerSetEmpty,
+        Rule::IssuerTextEmpty,
+        Rule::IssuerTextLong,
+        Rule::IssuerCountry,
+        Rule::IssuerStringType,
         Rule::ValidityReversed,
         Rule::NotBeforeForm,
         Rule::NotAfterForm,
         Rule::SubjectEmpty,
         Rule::AuthorityUnnamed,
+        Rule::SubjectSetEmpty,
+        Rule::SubjectTextEmpty,
+        Rule::SubjectTextLong,
+        Rule::SubjectCountry,
+        Rule::SubjectStringType,
+        Rule::SubjectMailboxUnnamed,
         Rule::ModulusNotPositive,
         Rule::ModulusEven,
         Rule::ModulusShort,
@@ -128,6 +167,7 @@ impl Rule {
         Rule::ExponentEven,
         Rule::IssuerUniqueId,
         Rule::SubjectUniqueId,
+        Rule::CriticalUnknown,
         Rule::AuthorityKeyCritical,
         Rule::AuthorityKeyMissing,
         Rule::AuthorityKeyPartial,
@@ -144,6 +184,8 @@ impl Rule {
         Rule::AlternativeNameEmpty,
         Rule::AddressLength,
         Rule::MailboxWithoutAt,
+        Rule::HostName,
+        Rule::UriWithoutScheme,
         Rule::IssuerNamesEmpty,
         Rule::IssuerNamesCritical,
         Rule::DirectoryAttributesCritical,
@@ -172,11 +214,22 @@ impl Rule {
             Rule::SerialTooLong => "serial-too-long",
             Rule::AlgorithmsDiffer => "algorithms-differ",
             Rule::IssuerEmpty => "issuer-empty",
+            Rule::IssuerSetEmpty => "issuer-set-empty",
+            Rule::IssuerTextEmpty => "issuer-text-empty",
+            Rule::IssuerTextLong => "issuer-text-long",
+            Rule::IssuerCountry => "issuer-country",
+            Rule::IssuerStringType => "issuer-string-type",
             Rule::ValidityReversed => "validity-reversed",
             Rule::NotBeforeForm => "not-before-form",
             Rule::NotAfterForm => "not-after-form",
             Rule::SubjectEmpty => "subject-empty",
             Rule::AuthorityUnnamed => "authority-unnamed",
+            Rule::SubjectSetEmpty => "subject-set-empty",
+            Rule::SubjectTextEmpty => "subject-text-empty",
+            Rule::SubjectTextLong => "subject-text-long",
+            Rule::SubjectCountry => "subject-country",
+            Rule::SubjectStringType => "subject-string-type",
+            Rule::SubjectMailboxUnnamed => "subject-mailbox-unnamed",
             Rule::ModulusNotPositive => "modulus-not-positive",
             Rule::ModulusEven => "modulus-even",
             Rule::ModulusShort => "modulus-short",
@@ -184,6 +237,7 @@ impl Rule {
             Rule::ExponentEven => "exponent-even",
             Rule::IssuerUniqueId => "issuer-unique-id",
             Rule::SubjectUniqueId => "subject-unique-id",
+            Rule::CriticalUnknown => "critical-unknown",
             Rule::AuthorityKeyCritical => "authority-key-critical",
             Rule::AuthorityKeyMissing => "authority-key-missing",
             Rule::AuthorityKeyPartial => "authority-key-partial",
@@ -200,6 +254,8 @@ impl Rule {
             Rule::AlternativeNameEmpty => "alternative-name-empty",
             Rule::AddressLength => "address-length",
             Rule::MailboxWithoutAt => "mailbox-without-at",
+            Rule::HostName => "host-name",
+            Rule::UriWithoutScheme => "uri-without-scheme",
             Rule::IssuerNamesEmpty => "issuer-names-empty",
             Rule::IssuerNamesCritical => "issuer-names-critical",
             Rule::DirectoryAttributesCritical => "directory-attributes-critical",
@@ -230,11 +286,22 @@ impl Rule {
             "serial-too-long" => Some(Rule::SerialTooLong),
             "algorithms-differ" => Some(Rule::AlgorithmsDiffer),
             "issuer-empty" => Some(Rule::IssuerEmpty),
+            "issuer-set-empty" => Some(Rule::IssuerSetEmpty),
+            "issuer-text-empty" => Some(Rule::IssuerTextEmpty),
+            "issuer-text-long" => Some(Rule::IssuerTextLong),
+            "issuer-country" => Some(Rule::IssuerCountry),
+            "issuer-string-type" => Some(Rule::IssuerStringType),
             "validity-reversed" => Some(Rule::ValidityReversed),
             "not-before-form" => Some(Rule::NotBeforeForm),
             "not-after-form" => Some(Rule::NotAfterForm),
             "subject-empty" => Some(Rule::SubjectEmpty),
             "authority-unnamed" => Some(Rule::AuthorityUnnamed),
+            "subject-set-empty" => Some(Rule::SubjectSetEmpty),
+            "subject-text-empty" => Some(Rule::SubjectTextEmpty),
+            "subject-text-long" => Some(Rule::SubjectTextLong),
+            "subject-country" => Some(Rule::SubjectCountry),
+            "subject-string-type" => Some(Rule::SubjectStringType),
+            "subject-mailbox-unnamed" => Some(Rule::SubjectMailboxUnnamed),
             "modulus-not-positive" => Some(Rule::ModulusNotPositive),
             "modulus-even" => Some(Rule::ModulusEven),
             "modulus-short" => Some(Rule::ModulusShort),
@@ -242,6 +309,7 @@ impl Rule {
             "exponent-even" => Some(Rule::ExponentEven),
             "issuer-unique-id" => Some(Rule::IssuerUniqueId),
             "subject-unique-id" => Some(Rule::SubjectUniqueId),
+            "critical-unknown" => Some(Rule::CriticalUnknown),
             "authority-key-critical" => Some(Rule::AuthorityKeyCritical),
             "authority-key-missing" => Some(Rule::AuthorityKeyMissing),
             "authority-key-partial" => Some(Rule::AuthorityKeyPartial),
@@ -258,6 +326,8 @@ impl Rule {
             "alternative-name-empty" => Some(Rule::AlternativeNameEmpty),
             "address-length" => Some(Rule::AddressLength),
             "mailbox-without-at" => Some(Rule::MailboxWithoutAt),
+            "host-name" => Some(Rule::HostName),
+            "uri-without-scheme" => Some(Rule::UriWithoutScheme),
             "issuer-names-empty" => Some(Rule::IssuerNamesEmpty),
             "issuer-names-critical" => Some(Rule::IssuerNamesCritical),
             "directory-attributes-critical" => Some(Rule::DirectoryAttributesCritical),
@@ -288,11 +358,22 @@ impl Rule {
             Rule::SerialTooLong => Part::SerialNumber,
             Rule::AlgorithmsDiffer => Part::Signature,
             Rule::IssuerEmpty => Part::Issuer,
+            Rule::IssuerSetEmpty => Part::Issuer,
+            Rule::IssuerTextEmpty => Part::Issuer,
+            Rule::IssuerTextLong => Part::Issuer,
+            Rule::IssuerCountry => Part::Issuer,
+            Rule::IssuerStringType => Part::Issuer,
             Rule::ValidityReversed => Part::Validity,
             Rule::NotBeforeForm => Part::Validity,
             Rule::NotAfterForm => Part::Validity,
             Rule::SubjectEmpty => Part::Subject,
             Rule::AuthorityUnnamed => Part::Subject,
+            Rule::SubjectSetEmpty => Part::Subject,
+            Rule::SubjectTextEmpty => Part::Subject,
+            Rule::SubjectTextLong => Part::Subject,
+            Rule::SubjectCountry => Part::Subject,
+            Rule::SubjectStringType => Part::Subject,
+            Rule::SubjectMailboxUnnamed => Part::Subject,
             Rule::ModulusNotPositive => Part::SubjectPublicKeyInfo,
             Rule::ModulusEven => Part::SubjectPublicKeyInfo,
             Rule::ModulusShort => Part::SubjectPublicKeyInfo,
@@ -300,6 +381,7 @@ impl Rule {
             Rule::ExponentEven => Part::SubjectPublicKeyInfo,
             Rule::IssuerUniqueId => Part::IssuerUniqueId,
             Rule::SubjectUniqueId => Part::SubjectUniqueId,
+            Rule::CriticalUnknown => Part::Extensions,
             Rule::AuthorityKeyCritical => Part::Extensions,
             Rule::AuthorityKeyMissing => Part::Extensions,
             Rule::AuthorityKeyPartial => Part::Extensions,
@@ -316,6 +398,8 @@ impl Rule {
             Rule::AlternativeNameEmpty => Part::Extensions,
             Rule::AddressLength => Part::Extensions,
             Rule::MailboxWithoutAt => Part::Extensions,
+            Rule::HostName => Part::Extensions,
+            Rule::UriWithoutScheme => Part::Extensions,
             Rule::IssuerNamesEmpty => Part::Extensions,
             Rule::IssuerNamesCritical => Part::Extensions,
             Rule::DirectoryAttributesCritical => Part::Extensions,

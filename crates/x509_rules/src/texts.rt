@@ -10,6 +10,18 @@ pub(crate) const ALGORITHMS_DIFFER: &str =
 
 pub(crate) const ISSUER_EMPTY: &str = "issuer is empty";
 
+pub(crate) const ISSUER_SET_EMPTY: &str = "issuer has a set without attributes";
+
+pub(crate) const ISSUER_TEXT_EMPTY: &str = "issuer has a text without characters";
+
+pub(crate) const ISSUER_TEXT_LONG: &str =
+    "issuer has a text that is longer than its attribute may be";
+
+pub(crate) const ISSUER_COUNTRY: &str =
+    "countryName in issuer isn't a PrintableString of two letters";
+
+pub(crate) const ISSUER_STRING_TYPE: &str = "issuer has a string type that isn't for new names";
+
 pub(crate) const VALIDITY_REVERSED: &str = "notAfter is before notBefore";
 
 pub(crate) const NOT_BEFORE_FORM: &str = "notBefore is a GeneralizedTime before 2050";
@@ -19,6 +31,21 @@ pub(crate) const NOT_AFTER_FORM: &str = "notAfter is a GeneralizedTime before 20
 pub(crate) const SUBJECT_EMPTY: &str = "subject is empty, and no critical subjectAltName names it";
 
 pub(crate) const AUTHORITY_UNNAMED: &str = "subject of an authority is empty";
+
+pub(crate) const SUBJECT_SET_EMPTY: &str = "subject has a set without attributes";
+
+pub(crate) const SUBJECT_TEXT_EMPTY: &str = "subject has a text without characters";
+
+pub(crate) const SUBJECT_TEXT_LONG: &str =
+    "subject has a text that is longer than its attribute may be";
+
+pub(crate) const SUBJECT_COUNTRY: &str =
+    "countryName in subject isn't a PrintableString of two letters";
+
+pub(crate) const SUBJECT_STRING_TYPE: &str = "subject has a string type that isn't for new names";
+
+pub(crate) const SUBJECT_MAILBOX_UNNAMED: &str =
+    "subject has an emailAddress, but no rfc822Name is among the alternative names";
 
 pub(crate) const MODULUS_NOT_POSITIVE: &str = "RSA modulus isn't positive";
 
@@ -33,6 +60,8 @@ pub(crate) const EXPONENT_EVEN: &str = "RSA exponent is even";
 pub(crate) const ISSUER_UNIQUE_ID: &str = "issuer has a unique identifier";
 
 pub(crate) const SUBJECT_UNIQUE_ID: &str = "subject has a unique identifier";
+
+pub(crate) const CRITICAL_UNKNOWN: &str = "an extension is critical that RFC 5280 doesn't define";
 
 pub(crate) const AUTHORITY_KEY_CRITICAL: &str = "authority key identifier is critical";
 
@@ -70,6 +99,10 @@ pub(crate) const ALTERNATIVE_NAME_EMPTY: &str = "an alternative name is empty";
 pub(crate) const ADDRESS_LENGTH: &str = "an iPAddress has neither four nor sixteen octets";
 
 pub(crate) const MAILBOX_WITHOUT_AT: &str = "an rfc822Name has no @";
+
+pub(crate) const HOST_NAME: &str = "a dNSName isn't the name of a host";
+
+pub(crate) const URI_WITHOUT_SCHEME: &str = "a uniformResourceIdentifier has no scheme";
 
 pub(crate) const ISSUER_NAMES_EMPTY: &str = "issuerAltName has no names";
 

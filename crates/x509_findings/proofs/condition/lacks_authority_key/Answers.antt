@@ -1,7 +1,7 @@
 use Rattle.std.proofs.Common.{ap, sym, ◌∙◌}
 use Rattle.x509_findings_parts.specs.Features.{some_have}
 use Rattle.x509_findings_parts.specs.declared.extension.Feature.TheVariants as feature
-use Rattle.x509_findings.proofs.broken.lacks_authority_key.Goals as goal
+use Rattle.x509_findings.proofs.condition.lacks_authority_key.Goals as goal
 
 pub returns : goal.returns
 returns g c =
