@@ -18,7 +18,6 @@ import resource
 import subprocess
 import sys
 import unittest
-import warnings
 from collections.abc import Callable
 from typing import Any
 
@@ -29,6 +28,7 @@ except ImportError:
 
 import cimaroly
 from cimaroly import Deviation, Reason
+from tests.quiet import Quiet
 
 HERE = os.path.dirname(os.path.abspath(__file__))
 ROOT = os.path.abspath(f"{HERE}/../../..")
@@ -213,15 +213,8 @@ class Table(unittest.TestCase):
 
 @unittest.skipIf(x509 is None, "there is no package cryptography")
 @unittest.skipUnless(os.path.isdir(STORE), f"there is no {STORE}")
-class OfThisMachine(unittest.TestCase):
+class OfThisMachine(Quiet):
     """The certificates that this machine trusts, as the package cryptography reads them."""
-
-    def setUp(self) -> None:
-        # (cryptography warns of serial numbers that aren't positive)
-        quiet = warnings.catch_warnings()
-        quiet.__enter__()
-        self.addCleanup(quiet.__exit__, None, None, None)
-        warnings.simplefilter("ignore")
 
     def test_certificates(self) -> None:
         seen = 0

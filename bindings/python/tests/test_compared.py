@@ -10,7 +10,6 @@ import os
 import random
 import subprocess
 import unittest
-import warnings
 from collections.abc import Callable, Iterator
 from typing import Any, Union
 
@@ -22,6 +21,7 @@ except ImportError:
     x509 = None  # type: ignore[assignment]
 
 import cimaroly
+from tests.quiet import Quiet
 from tests.test_cimaroly import DATA, STORE
 
 # How many certificates are made, or as many as the variable says.
@@ -152,17 +152,10 @@ def certificate(key: Any, chance: random.Random) -> Any:
 
 
 @unittest.skipIf(x509 is None, "there is no package cryptography")
-class Compared(unittest.TestCase):
+class Compared(Quiet):
     """With the package cryptography, over the files of the tests and the certificates that this machine trusts."""
 
     maxDiff = None
-
-    def setUp(self) -> None:
-        # (cryptography warns of serial numbers that aren't positive)
-        quiet = warnings.catch_warnings()
-        quiet.__enter__()
-        self.addCleanup(quiet.__exit__, None, None, None)
-        warnings.simplefilter("ignore")
 
     def test_certificates(self) -> None:
         seen = 0

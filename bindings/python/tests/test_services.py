@@ -6,7 +6,6 @@ from __future__ import annotations
 import datetime
 import random
 import unittest
-import warnings
 from typing import Any, Optional, Union
 
 try:
@@ -20,6 +19,7 @@ except ImportError:
 import cimaroly
 from cimaroly._names import element
 from tests import made
+from tests.quiet import Quiet
 from tests.test_compared import contents
 
 UTC = datetime.timezone.utc
@@ -100,14 +100,7 @@ def certificate(key: Any, chance: random.Random) -> bytes:
 
 
 @unittest.skipIf(x509 is None, "there is no package cryptography")
-class Compared(unittest.TestCase):
-    def setUp(self) -> None:
-        # (cryptography warns of serial numbers that aren't positive)
-        quiet = warnings.catch_warnings()
-        quiet.__enter__()
-        self.addCleanup(quiet.__exit__, None, None, None)
-        warnings.simplefilter("ignore")
-
+class Compared(Quiet):
     def test_certificates(self) -> None:
         """Those of the tests, and those that this machine trusts."""
         seen = 0
