@@ -20,7 +20,7 @@ BINDINGS = f"{ROOT}/bindings"
 DATA = f"{ROOT}/tools/tests/data"
 LIBRARY = os.path.abspath(os.environ.get("CIMAROLY_LIB_DIR") or f"{ROOT}/dist/{platform.machine()}-linux")
 ARCHIVE, SHARED = f"{LIBRARY}/libcimaroly.a", f"{LIBRARY}/libcimaroly.so"
-SECONDS = 900
+SECONDS = 2400
 
 NEEDS_LIBRARY = unittest.skipUnless(os.path.isfile(ARCHIVE), f"there is no {ARCHIVE}")
 
