@@ -33,6 +33,7 @@ BUDGETS = [
     (10, ["x509_findings_parts"]),
     (2, ["x509_rules"]),
     (6, ["x509_findings"]),
+    (5, ["x509_findings_memory"]),
     (2, ["x509_oids_algorithms", "x509_oids_objects"]),
     (4, ["x509_outline_parts"]),
     (2, ["x509_outline"]),

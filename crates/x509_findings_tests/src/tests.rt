@@ -1,5 +1,7 @@
 //! Certificates that were encoded by hand, each with one fault, and whose fields stand where OpenSSL's `asn1parse` says.
 
+mod memory;
+
 use picky_asn1_x509::{Certificate, from_bytes};
 use std::alloc::Global;
 use std::process::Abort;
