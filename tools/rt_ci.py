@@ -1,0 +1,150 @@
+#!/usr/bin/env python3
+"""Runs rt ci, with the processors given to its checks in another order.
+
+usage: tools/rt_ci.py
+
+rt ci gives each check one processor while others wait for one, so the longest chain of crates, one above the other, takes longer
+than all other work. Here the check that has most of that chain behind it gets as many jobs as there are processors, and the checks
+beside it, at most one a processor, or as RT_JOBS says, run at a lower priority. What is checked, and how, is rt's own: its
+command is run in this process, with one function of it, the one that orders the checks, in another form. Where a toolchain's rt
+has no such function, it is run as it is.
+"""
+
+import importlib.machinery
+import importlib.util
+import inspect
+import os
+import queue
+import shutil
+import sys
+import threading
+
+# By how much the checks beside the longest chain are nicer than it.
+NICER = 6
+# A check is on the longest chain if at least this part of it lies behind.
+NEARLY = 0.9
+# The part of the free memory that checks may take: the rest is for what the gate runs beside them.
+SHARE = 0.7
+# What a further job of a check takes of the memory of the first (as rt has it).
+FURTHER_JOB = 0.6
+
+
+class Plan:
+    """Tasks of rt: which of them may begin, and with how many jobs. A task is what it waits for, its size in lines, the memory that it
+    needs, and a call."""
+
+    def __init__(self, tasks, lanes, memory):
+        self.tasks, self.lanes, self.memory = tasks, lanes, memory
+        self.behind = chains(tasks)
+        self.left = sorted(tasks, key=lambda it: -self.behind[it])
+        # The memory that each running task takes, and the one of the longest chain that runs.
+        self.running, self.first = {}, None
+
+    def longest(self):
+        return max(self.behind[it] for it in [*self.left, *self.running])
+
+    def next(self, given):
+        """A task that may begin now, and its jobs; or None."""
+        longest = self.longest() if self.left else 0
+        room = self.memory - sum(self.running.values())
+        for key in [it for it in self.left if all(below in given for below in self.tasks[it][0])]:
+            is_first = self.first is None and self.behind[key] >= NEARLY * longest > 0
+            if not is_first and len(self.running) - (self.first is not None) >= max(1, self.lanes - 1):
+                return None
+            needs = self.tasks[key][2]
+            jobs = 1 + int(min(self.lanes - 1, max(0, room / needs - 1) / FURTHER_JOB)) if is_first else 1
+            if not self.running or needs <= room:
+                self.left.remove(key)
+                self.running[key] = needs * (1 + FURTHER_JOB * (jobs - 1))
+                self.first = key if is_first else self.first
+                return key, jobs
+            if is_first:
+                # (what ends next leaves its memory to this one)
+                return None
+        return None
+
+    def end(self, key):
+        del self.running[key]
+        self.first = None if self.first == key else self.first
+
+
+def chains(tasks):
+    """Of each task the lines of the longest chain that begins with it. (A task stands behind those that it waits for.)"""
+    behind = dict.fromkeys(tasks, 0)
+    for key in reversed([*tasks]):
+        behind[key] += tasks[key][1]
+        for it in tasks[key][0]:
+            behind[it] = max(behind[it], behind[key])
+    return behind
+
+
+def in_lanes(plan):
+    """Runs the tasks of a plan, and returns what each gave."""
+    given, ended = {}, queue.Queue()
+
+    def run(key, jobs, nicer):
+        if nicer:
+            # (of this thread, and of what it starts)
+            os.setpriority(os.PRIO_PROCESS, threading.get_native_id(), os.getpriority(os.PRIO_PROCESS, 0) + nicer)
+        try:
+            ended.put((key, plan.tasks[key][3](given, jobs)))
+        except BaseException as error:  # (raised again where it is waited for)
+            ended.put((key, error))
+
+    while plan.left or plan.running:
+        while found := plan.next(given):
+            key, jobs = found
+            threading.Thread(target=run, args=(key, jobs, 0 if key == plan.first else NICER), daemon=True).start()
+        key, result = ended.get()
+        plan.end(key)
+        if isinstance(result, BaseException):
+            raise result
+        given[key] = result
+    return given
+
+
+def is_known(rt):
+    """Whether rt orders its checks by the function that is meant here."""
+    wanted = {"in_lanes": ["tasks"], "processors": [], "free": [], "main": ["words"]}
+    return all(callable(getattr(rt, it, None)) and [*inspect.signature(getattr(rt, it)).parameters] == wanted[it] for it in wanted)
+
+
+def load(path):
+    """The toolchain's command rt, as a module."""
+    loader = importlib.machinery.SourceFileLoader("rt", path)
+    made = importlib.util.module_from_spec(importlib.util.spec_from_loader("rt", loader))
+    sys.modules["rt"] = made
+    loader.exec_module(made)
+    return made
+
+
+def order(rt):
+    """Has rt order its checks as here, where they are of the form that is meant."""
+    by_rt = rt.in_lanes
+
+    def by_chain(tasks):
+        if not all(isinstance(it, tuple) and len(it) == 4 for it in tasks.values()):
+            return by_rt(tasks)
+        number = os.environ.get("RT_JOBS", "")
+        lanes = int(number) if number.isdigit() and int(number) else rt.processors()
+        return in_lanes(Plan(tasks, lanes, SHARE * rt.free()))
+
+    rt.in_lanes = by_chain
+
+
+def main():
+    path = shutil.which("rt")
+    if not path:
+        sys.exit("the toolchain's command rt isn't on the PATH: README says what is needed")
+    try:
+        rt = load(os.path.realpath(path))
+        if not is_known(rt):
+            raise ValueError
+    except (Exception, SystemExit):  # (whatever another rt may be)
+        os.execv(path, [path, "ci"])
+    order(rt)
+    return rt.main(["ci"])
+
+
+if __name__ == "__main__":
+    sys.exit(main())
