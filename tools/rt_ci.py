@@ -4,10 +4,10 @@
 usage: tools/rt_ci.py
 
 rt ci gives each check one processor while others wait for one, so the longest chain of crates, one above the other, takes longer
-than all other work. Here the check that has most of that chain behind it gets as many jobs as there are processors, and the checks
-beside it, at most one a processor, or as RT_JOBS says, run at a lower priority. What is checked, and how, is rt's own: its
-command is run in this process, with one function of it, the one that orders the checks, in another form. Where a toolchain's rt
-has no such function, it is run as it is.
+than all other work. Here the check that has most of that chain behind it gets as many jobs as there are processors, and one of a
+chain that is nearly as long half as many. The others are nicer. Beside the first run one fewer than there are processors, or than
+RT_JOBS says. What is checked, and how, is rt's own: its command is run in this process, with one function of it, the one that
+orders the checks, in another form. Where a toolchain's rt has no such function, it is run as it is.
 """
 
 import importlib.machinery
@@ -19,10 +19,10 @@ import shutil
 import sys
 import threading
 
-# By how much the checks beside the longest chain are nicer than it.
+# By how much the checks beside the longest chains are nicer than theirs.
 NICER = 6
-# A check is on the longest chain if at least this part of it lies behind.
-NEARLY = 0.9
+# Of the longest chain, what lies at least behind a check that is on it, and behind one on a chain that is nearly as long.
+LONGEST, LONG = 0.9, 0.75
 # The part of the free memory that checks may take: the rest is for what the gate runs beside them.
 SHARE = 0.7
 # What a further job of a check takes of the memory of the first (as rt has it).
@@ -44,20 +44,22 @@ class Plan:
         return max(self.behind[it] for it in [*self.left, *self.running])
 
     def next(self, given):
-        """A task that may begin now, and its jobs; or None."""
+        """A task that may begin now, its jobs, and by how much it is nicer; or None."""
         longest = self.longest() if self.left else 0
         room = self.memory - sum(self.running.values())
         for key in [it for it in self.left if all(below in given for below in self.tasks[it][0])]:
-            is_first = self.first is None and self.behind[key] >= NEARLY * longest > 0
+            is_first = self.first is None and self.behind[key] >= LONGEST * longest > 0
             if not is_first and len(self.running) - (self.first is not None) >= max(1, self.lanes - 1):
                 return None
+            is_long = self.behind[key] >= LONG * longest > 0
+            most = self.lanes if is_first else max(1, self.lanes // 2) if is_long else 1
             needs = self.tasks[key][2]
-            jobs = 1 + int(min(self.lanes - 1, max(0, room / needs - 1) / FURTHER_JOB)) if is_first else 1
             if not self.running or needs <= room:
+                jobs = 1 + int(min(most - 1, max(0, room / needs - 1) / FURTHER_JOB))
                 self.left.remove(key)
                 self.running[key] = needs * (1 + FURTHER_JOB * (jobs - 1))
                 self.first = key if is_first else self.first
-                return key, jobs
+                return key, jobs, 0 if is_long else NICER
             if is_first:
                 # (what ends next leaves its memory to this one)
                 return None
@@ -93,8 +95,7 @@ def in_lanes(plan):
 
     while plan.left or plan.running:
         while found := plan.next(given):
-            key, jobs = found
-            threading.Thread(target=run, args=(key, jobs, 0 if key == plan.first else NICER), daemon=True).start()
+            threading.Thread(target=run, args=found, daemon=True).start()
         key, result = ended.get()
         plan.end(key)
         if isinstance(result, BaseException):

@@ -89,11 +89,20 @@ class OrderTest(unittest.TestCase):
         for key in "abcde":
             tasks.add(key, lines=5 if key == "a" else 1)
         plan = rt_ci.Plan(tasks.tasks, 3, 100)
-        self.assertEqual([plan.next({}), plan.next({}), plan.next({}), plan.next({})], [("a", 3), ("b", 1), ("c", 1), None])
+        nicer = rt_ci.NICER
+        begun = [("a", 3, 0), ("b", 1, nicer), ("c", 1, nicer), None]
+        self.assertEqual([plan.next({}), plan.next({}), plan.next({}), plan.next({})], begun)
         plan.end("b")
-        self.assertEqual(plan.next({}), ("d", 1))
+        self.assertEqual(plan.next({}), ("d", 1, nicer))
         plan.end("a")
-        self.assertEqual(plan.next({}), ("e", 3))
+        self.assertEqual(plan.next({}), ("e", 3, 0))
+
+    def test_a_chain_that_is_nearly_as_long(self):
+        tasks = Tasks()
+        for key, lines in (("a", 100), ("b", 80), ("c", 10)):
+            tasks.add(key, lines=lines)
+        plan = rt_ci.Plan(tasks.tasks, 4, 100)
+        self.assertEqual([plan.next({}), plan.next({}), plan.next({})], [("a", 4, 0), ("b", 2, 0), ("c", 1, rt_ci.NICER)])
 
     def test_memory(self):
         tasks = Tasks()
@@ -102,12 +111,12 @@ class OrderTest(unittest.TestCase):
         tasks.add("small", lines=1, needs=10)
         plan = rt_ci.Plan(tasks.tasks, 4, 100)
         # One more job is 36 more.
-        self.assertEqual(plan.next({}), ("first", 2))
+        self.assertEqual(plan.next({}), ("first", 2, 0))
         self.assertIsNone(plan.next({}))
         plan.end("first")
-        self.assertEqual(plan.next({}), ("second", 2))
+        self.assertEqual(plan.next({}), ("second", 2, 0))
         plan.end("second")
-        self.assertEqual(plan.next({}), ("small", 4))
+        self.assertEqual(plan.next({}), ("small", 4, 0))
 
     def test_the_chain_is_not_passed_by(self):
         tasks = Tasks()
@@ -116,14 +125,14 @@ class OrderTest(unittest.TestCase):
         tasks.add("aside", lines=1, needs=50)
         tasks.add("small", lines=1, needs=1)
         plan = rt_ci.Plan(tasks.tasks, 2, 100)
-        self.assertEqual(plan.next({}), ("low", 2))
+        self.assertEqual(plan.next({}), ("low", 2, 0))
         plan.end("low")
         plan.running["aside"] = 50
         plan.left.remove("aside")
         # What is higher has no room, and what is small waits behind it.
         self.assertIsNone(plan.next({"low": True}))
         plan.end("aside")
-        self.assertEqual(plan.next({"low": True, "aside": True}), ("high", 1))
+        self.assertEqual(plan.next({"low": True, "aside": True}), ("high", 1, 0))
 
     def test_what_needs_more_than_there_is_runs_alone(self):
         tasks = Tasks()
