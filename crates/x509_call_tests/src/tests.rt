@@ -2,14 +2,11 @@
 
 mod algorithm_makers;
 mod algorithms;
-mod bit_strings;
 mod certificates;
 mod character_strings;
 mod checks;
 mod deviations;
 mod directory_strings;
-mod elements;
-mod equality;
 mod extension_lists;
 mod extensions;
 mod first_fields;
@@ -21,8 +18,6 @@ mod lists;
 mod memory;
 mod names;
 mod no_memory;
-mod numbers;
-mod raw_algorithms;
 mod signed_parts;
 mod tables;
 mod times;

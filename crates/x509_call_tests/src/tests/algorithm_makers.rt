@@ -1,35 +1,14 @@
 //! Makers of algorithm identifiers: by name, by a hash function, and of AES.
 
 use super::Heap;
-use super::checks::{bytes_of, same, same_bytes};
+use super::checks::{bytes_of, is_written, made_turn, same};
 use refusing::{Refusing, Turn, in_turn};
 use std::alloc::{AllocError, Allocator, Global};
 use std::process::Abort;
-use x509_der::{OctetStringAsn1, ToDer, write_to_slice};
 use x509_keys::{AesMode, AesParameters, AlgorithmError, AlgorithmIdentifier, ShaVariant};
 
-/// The most bytes that an algorithm identifier of these tests has.
-const MOST: usize = 80;
-
-/// Whether the value is written as these bytes, with no memory.
-fn is_written<T: ToDer>(value: &T, bytes: &[u8]) -> bool {
-    let mut slice = [0u8; MOST];
-    match write_to_slice(value, slice.as_mut_slice()) {
-        Ok(len) => &slice[..len] == bytes,
-        Err(_refused) => false,
-    }
-}
-
-/// What a run of a maker showed that should make what is written as these bytes.
-pub(super) fn made_turn<T: ToDer + Drop>(answer: Result<T, AllocError>, bytes: &[u8]) -> Turn {
-    match answer {
-        Ok(value) => Turn::right(is_written(&value, bytes)),
-        Err(AllocError) => Turn::Refused,
-    }
-}
-
-/// What the makers with NULL give, in the order of `with_null`.
-const WITH_NULL: &[&str] = &[
+/// What the makers without choices give, in the order of `simple`.
+const SIMPLE: &[&str] = &[
     "300d06092a864886f70d0101040500",
     "300d06092a864886f70d0101050500",
     "300d06092a864886f70d01010e0500",
@@ -43,46 +22,6 @@ const WITH_NULL: &[&str] = &[
     "300d06092a864886f70d0101010500",
     "300b06072a8648ce3804030500",
     "300906052b0e03021a0500",
-];
-
-/// The makers with NULL.
-fn with_null<A: Allocator>(alloc: A, maker: usize) -> Result<AlgorithmIdentifier<A>, AllocError> {
-    match maker {
-        0 => AlgorithmIdentifier::new_md5_with_rsa_encryption(alloc),
-        1 => AlgorithmIdentifier::new_sha1_with_rsa_encryption(alloc),
-        2 => AlgorithmIdentifier::new_sha224_with_rsa_encryption(alloc),
-        3 => AlgorithmIdentifier::new_sha256_with_rsa_encryption(alloc),
-        4 => AlgorithmIdentifier::new_sha384_with_rsa_encryption(alloc),
-        5 => AlgorithmIdentifier::new_sha512_with_rsa_encryption(alloc),
-        6 => AlgorithmIdentifier::new_sha3_224_with_rsa_encryption(alloc),
-        7 => AlgorithmIdentifier::new_sha3_256_with_rsa_encryption(alloc),
-        8 => AlgorithmIdentifier::new_sha3_384_with_rsa_encryption(alloc),
-        9 => AlgorithmIdentifier::new_sha3_512_with_rsa_encryption(alloc),
-        10 => AlgorithmIdentifier::new_rsa_encryption(alloc),
-        11 => AlgorithmIdentifier::new_dsa_with_sha1(alloc),
-        _ => AlgorithmIdentifier::new_sha1(alloc),
-    }
-}
-
-/// None takes memory.
-fn algorithms_with_null_over<A: Heap>(rt: &impl Abort, heap: A, alloc: Global) {
-    let mut maker = 0usize;
-    for text in WITH_NULL {
-        let bytes = bytes_of(rt, alloc, *text);
-        let requests = in_turn!(heap, made_turn(with_null(heap, maker), &bytes));
-        same(rt, &requests, &Some(0), *text);
-        maker = maker.saturating_add(1);
-    }
-}
-
-#[test]
-fn algorithms_with_null(rt: HostRuntime) {
-    let heap = Refusing::new(rt.alloc());
-    algorithms_with_null_over(&rt, &heap, rt.alloc());
-}
-
-/// What the makers without parameters give, in the order of `bare`.
-const BARE: &[&str] = &[
     "300a06082a8648ce3d040302",
     "300a06082a8648ce3d040303",
     "300a06082a8648ce3d040304",
@@ -97,43 +36,58 @@ const BARE: &[&str] = &[
     "300b0609608648016503040311",
     "300b0609608648016503040312",
     "300b0609608648016503040313",
+    "300c06082a864886f70d02050500",
 ];
 
-/// The makers without parameters.
-fn bare<A: Allocator>(alloc: A, maker: usize) -> Result<AlgorithmIdentifier<A>, AllocError> {
+/// The makers without choices, and that of hash functions with MD5.
+fn simple<A: Allocator>(alloc: A, maker: usize) -> Result<AlgorithmIdentifier<A>, AllocError> {
     match maker {
-        0 => AlgorithmIdentifier::new_ecdsa_with_sha256(alloc),
-        1 => AlgorithmIdentifier::new_ecdsa_with_sha384(alloc),
-        2 => AlgorithmIdentifier::new_ecdsa_with_sha512(alloc),
-        3 => AlgorithmIdentifier::new_ecdsa_with_sha3_224(alloc),
-        4 => AlgorithmIdentifier::new_ecdsa_with_sha3_256(alloc),
-        5 => AlgorithmIdentifier::new_ecdsa_with_sha3_384(alloc),
-        6 => AlgorithmIdentifier::new_ecdsa_with_sha3_512(alloc),
-        7 => AlgorithmIdentifier::new_ed25519(alloc),
-        8 => AlgorithmIdentifier::new_x25519(alloc),
-        9 => AlgorithmIdentifier::new_ed448(alloc),
-        10 => AlgorithmIdentifier::new_x448(alloc),
-        11 => AlgorithmIdentifier::new_mldsa_44(alloc),
-        12 => AlgorithmIdentifier::new_mldsa_65(alloc),
-        _ => AlgorithmIdentifier::new_mldsa_87(alloc),
+        0 => AlgorithmIdentifier::new_md5_with_rsa_encryption(alloc),
+        1 => AlgorithmIdentifier::new_sha1_with_rsa_encryption(alloc),
+        2 => AlgorithmIdentifier::new_sha224_with_rsa_encryption(alloc),
+        3 => AlgorithmIdentifier::new_sha256_with_rsa_encryption(alloc),
+        4 => AlgorithmIdentifier::new_sha384_with_rsa_encryption(alloc),
+        5 => AlgorithmIdentifier::new_sha512_with_rsa_encryption(alloc),
+        6 => AlgorithmIdentifier::new_sha3_224_with_rsa_encryption(alloc),
+        7 => AlgorithmIdentifier::new_sha3_256_with_rsa_encryption(alloc),
+        8 => AlgorithmIdentifier::new_sha3_384_with_rsa_encryption(alloc),
+        9 => AlgorithmIdentifier::new_sha3_512_with_rsa_encryption(alloc),
+        10 => AlgorithmIdentifier::new_rsa_encryption(alloc),
+        11 => AlgorithmIdentifier::new_dsa_with_sha1(alloc),
+        12 => AlgorithmIdentifier::new_sha1(alloc),
+        13 => AlgorithmIdentifier::new_ecdsa_with_sha256(alloc),
+        14 => AlgorithmIdentifier::new_ecdsa_with_sha384(alloc),
+        15 => AlgorithmIdentifier::new_ecdsa_with_sha512(alloc),
+        16 => AlgorithmIdentifier::new_ecdsa_with_sha3_224(alloc),
+        17 => AlgorithmIdentifier::new_ecdsa_with_sha3_256(alloc),
+        18 => AlgorithmIdentifier::new_ecdsa_with_sha3_384(alloc),
+        19 => AlgorithmIdentifier::new_ecdsa_with_sha3_512(alloc),
+        20 => AlgorithmIdentifier::new_ed25519(alloc),
+        21 => AlgorithmIdentifier::new_x25519(alloc),
+        22 => AlgorithmIdentifier::new_ed448(alloc),
+        23 => AlgorithmIdentifier::new_x448(alloc),
+        24 => AlgorithmIdentifier::new_mldsa_44(alloc),
+        25 => AlgorithmIdentifier::new_mldsa_65(alloc),
+        26 => AlgorithmIdentifier::new_mldsa_87(alloc),
+        _ => AlgorithmIdentifier::new_sha(alloc, ShaVariant::MD5),
     }
 }
 
 /// None takes memory.
-fn algorithms_without_parameters_over<A: Heap>(rt: &impl Abort, heap: A, alloc: Global) {
+fn simple_algorithms_over<A: Heap>(rt: &impl Abort, heap: A, alloc: Global) {
     let mut maker = 0usize;
-    for text in BARE {
+    for text in SIMPLE {
         let bytes = bytes_of(rt, alloc, *text);
-        let requests = in_turn!(heap, made_turn(bare(heap, maker), &bytes));
+        let requests = in_turn!(heap, made_turn(simple(heap, maker), &bytes));
         same(rt, &requests, &Some(0), *text);
         maker = maker.saturating_add(1);
     }
 }
 
 #[test]
-fn algorithms_without_parameters(rt: HostRuntime) {
+fn simple_algorithms(rt: HostRuntime) {
     let heap = Refusing::new(rt.alloc());
-    algorithms_without_parameters_over(&rt, &heap, rt.alloc());
+    simple_algorithms_over(&rt, &heap, rt.alloc());
 }
 
 /// The modes of AES: with NULL under a key of 128, 192 and 256 bits, and with none under 256.
@@ -212,7 +166,7 @@ fn aes_requests<A: Heap>(heap: A, size: usize, mode: AesMode, bytes: &[u8]) -> O
     )
 }
 
-/// Each takes memory once.
+/// None takes memory.
 fn aes_algorithms_over<A: Heap>(rt: &impl Abort, heap: A, alloc: Global) {
     for (mode, small, middle, large, empty) in AES {
         for (size, text) in [(128, *small), (192, *middle), (256, *large), (0, *empty)] {
@@ -226,63 +180,6 @@ fn aes_algorithms_over<A: Heap>(rt: &impl Abort, heap: A, alloc: Global) {
 fn aes_algorithms(rt: HostRuntime) {
     let heap = Refusing::new(rt.alloc());
     aes_algorithms_over(&rt, &heap, rt.alloc());
-}
-
-/// AES-128 in electronic code book mode, with an initialization vector of twelve octets A5.
-fn initialized<A: Heap>(heap: A) -> Result<AlgorithmIdentifier<A>, AllocError> {
-    let octets = Vec::from_elem(heap, 0xA5u8, 12)?;
-    let vector = AesParameters::InitializationVector(OctetStringAsn1(octets));
-    AlgorithmIdentifier::new_aes128(heap, AesMode::Ecb, vector)
-}
-
-/// It takes memory for the vector, which the maker is given.
-fn a_vector_is_kept_over<A: Heap>(rt: &impl Abort, heap: A, alloc: Global) {
-    let text = "30190609608648016503040101040ca5a5a5a5a5a5a5a5a5a5a5a5";
-    let bytes = bytes_of(rt, alloc, text);
-    let requests = in_turn!(heap, made_turn(initialized(heap), &bytes));
-    same(rt, &requests, &Some(1), text);
-}
-
-#[test]
-fn a_vector_is_kept(rt: HostRuntime) {
-    let heap = Refusing::new(rt.alloc());
-    a_vector_is_kept_over(&rt, &heap, rt.alloc());
-}
-
-/// Hash functions with NULL, by name.
-const HASHES: &[(ShaVariant, &str)] = &[
-    (ShaVariant::MD5, "300c06082a864886f70d02050500"),
-    (ShaVariant::SHA1, "300906052b0e03021a0500"),
-    (ShaVariant::SHA2_224, "300d06096086480165030402040500"),
-    (ShaVariant::SHA2_256, "300d06096086480165030402010500"),
-    (ShaVariant::SHA2_384, "300d06096086480165030402020500"),
-    (ShaVariant::SHA2_512, "300d06096086480165030402030500"),
-    (ShaVariant::SHA2_512_224, "300d06096086480165030402050500"),
-    (ShaVariant::SHA2_512_256, "300d06096086480165030402060500"),
-    (ShaVariant::SHA3_224, "300d06096086480165030402070500"),
-    (ShaVariant::SHA3_256, "300d06096086480165030402080500"),
-    (ShaVariant::SHA3_384, "300d06096086480165030402090500"),
-    (ShaVariant::SHA3_512, "300d060960864801650304020a0500"),
-    (ShaVariant::SHAKE128, "300d060960864801650304020b0500"),
-    (ShaVariant::SHAKE256, "300d060960864801650304020c0500"),
-];
-
-/// None takes memory.
-fn hash_algorithms_over<A: Heap>(rt: &impl Abort, heap: A, alloc: Global) {
-    for (variant, text) in HASHES {
-        let bytes = bytes_of(rt, alloc, *text);
-        let requests = in_turn!(
-            heap,
-            made_turn(AlgorithmIdentifier::new_sha(heap, *variant), &bytes)
-        );
-        same(rt, &requests, &Some(0), *text);
-    }
-}
-
-#[test]
-fn hash_algorithms(rt: HostRuntime) {
-    let heap = Refusing::new(rt.alloc());
-    hash_algorithms_over(&rt, &heap, rt.alloc());
 }
 
 /// The hash functions with which RSA signatures are known by name, and what is made of them.
@@ -307,55 +204,42 @@ const OTHER_HASHES: &[(ShaVariant, &str)] = &[
     (ShaVariant::SHAKE256, "SHAKE256"),
 ];
 
-/// What a run showed that should make what is written as these bytes.
-fn known_turn<A: Allocator>(
+/// What a run showed that should make what is written as these bytes, or refuse a hash function by this name.
+fn sha_turn<A: Allocator>(
     answer: Result<AlgorithmIdentifier<A>, AlgorithmError<A>>,
-    bytes: &[u8],
+    stated: &[u8],
 ) -> Turn {
     match answer {
-        Ok(value) => Turn::right(is_written(&value, bytes)),
+        Ok(value) => Turn::right(is_written(&value, stated)),
         Err(AlgorithmError::OutOfMemory) => Turn::Refused,
-        Err(AlgorithmError::Unsupported(_other)) => Turn::Wrong,
+        Err(AlgorithmError::Unsupported(error)) => {
+            Turn::right(error.algorithm.as_str().as_bytes() == stated)
+        }
     }
 }
 
-/// What a run showed that should refuse a hash function by this name.
-fn other_turn<A: Allocator>(
-    answer: Result<AlgorithmIdentifier<A>, AlgorithmError<A>>,
-    name: &str,
-) -> Turn {
-    match answer {
-        Ok(_made) => Turn::Wrong,
-        Err(AlgorithmError::OutOfMemory) => Turn::Refused,
-        Err(AlgorithmError::Unsupported(error)) => Turn::right(error.algorithm.as_str() == name),
-    }
+/// How many requests the maker of an RSA algorithm makes.
+fn sha_requests<A: Heap>(heap: A, variant: ShaVariant, stated: &[u8]) -> Option<u64> {
+    in_turn!(
+        heap,
+        {
+            sha_turn(
+                AlgorithmIdentifier::new_rsa_encryption_with_sha(heap, variant),
+                stated,
+            )
+        }
+    )
 }
 
-/// Each takes memory once, for the identifier or for the name.
+/// An identifier takes no memory, and a name takes it once.
 fn rsa_with_hashes_over<A: Heap>(rt: &impl Abort, heap: A, alloc: Global) {
     for (variant, text) in RSA_HASHES {
         let bytes = bytes_of(rt, alloc, *text);
-        let requests = in_turn!(
-            heap,
-            {
-                known_turn(
-                    AlgorithmIdentifier::new_rsa_encryption_with_sha(heap, *variant),
-                    &bytes,
-                )
-            }
-        );
+        let requests = sha_requests(heap, *variant, &bytes);
         same(rt, &requests, &Some(0), *text);
     }
     for (variant, name) in OTHER_HASHES {
-        let requests = in_turn!(
-            heap,
-            {
-                other_turn(
-                    AlgorithmIdentifier::new_rsa_encryption_with_sha(heap, *variant),
-                    *name,
-                )
-            }
-        );
+        let requests = sha_requests(heap, *variant, name.as_bytes());
         same(rt, &requests, &Some(1), *name);
     }
 }
@@ -364,24 +248,4 @@ fn rsa_with_hashes_over<A: Heap>(rt: &impl Abort, heap: A, alloc: Global) {
 fn rsa_with_hashes(rt: HostRuntime) {
     let heap = Refusing::new(rt.alloc());
     rsa_with_hashes_over(&rt, &heap, rt.alloc());
-}
-
-/// The error of RSA with SHA-1, which isn't known by name.
-fn sha1_error(rt: &impl Abort, alloc: Global) -> AlgorithmError {
-    AlgorithmIdentifier::new_rsa_encryption_with_sha(alloc, ShaVariant::SHA1)
-        .err()
-        .expect(rt, "another")
-}
-
-#[test]
-fn other_hashes_are_printed(rt: HostRuntime) {
-    let alloc = rt.alloc();
-    let error = sha1_error(&rt, alloc);
-    let text = format!(in alloc; "{error}").expect(&rt, "memory");
-    same_bytes(
-        &rt,
-        text.as_bytes(),
-        b"unsupported algorithm:  SHA1",
-        "SHA-1",
-    );
 }

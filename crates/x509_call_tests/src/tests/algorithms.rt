@@ -1,9 +1,8 @@
 //! Algorithm identifiers with parameters: their makers and clones, and what they and their parameters answer.
 
 use super::Heap;
-use super::algorithm_makers::made_turn;
-use super::checks::{bytes_of, is_so, same};
-use refusing::{Refusing, Turn, in_turn};
+use super::checks::{bytes_of, clone_turn, is_so, made_turn, same};
+use refusing::{Refusing, in_turn};
 use std::alloc::{AllocError, Allocator, Global};
 use std::process::Abort;
 use x509_der::{ObjectIdentifier, ObjectIdentifierAsn1};
@@ -21,8 +20,8 @@ fn pss<A: Allocator + Copy>(alloc: A) -> Result<AlgorithmIdentifier<A>, AllocErr
 
 /// An elliptic curve key. That its curve is the identifier of another algorithm isn't looked at.
 fn curve<A: Allocator + Copy>(alloc: A) -> Result<AlgorithmIdentifier<A>, AllocError> {
-    let parameters = EcParameters::from(oids::ecdsa_with_sha256(alloc)?);
-    AlgorithmIdentifier::new_elliptic_curve(alloc, parameters)
+    let named = ObjectIdentifierAsn1::from(oids::ecdsa_with_sha256(alloc)?);
+    AlgorithmIdentifier::new_elliptic_curve(alloc, EcParameters::from(named))
 }
 
 /// AES with a nonce of twelve bytes.
@@ -63,43 +62,66 @@ fn algorithms_with_parameters(rt: HostRuntime) {
     algorithms_with_parameters_over(&rt, &heap, rt.alloc());
 }
 
-/// The nonce AA with lengths of the integrity check value, and what is written.
-const ICV_LENS: &[(usize, &str)] = &[
-    (0, "30060401aa020100"),
-    (127, "30060401aa02017f"),
-    (128, "30070401aa02020080"),
-    (256, "30070401aa02020100"),
-];
-
-/// Authenticated encryption with the nonce AA.
-fn nonce_aa<A: Allocator + Copy>(
-    alloc: A,
-    icv_len: usize,
-) -> Result<AesAuthEncParams<A>, AllocError> {
-    AesAuthEncParams::new(alloc, Vec::from_slice(alloc, &[0xAA])?, icv_len)
+/// Whether an identifier of an elliptic curve key answers as stated to those of a curve and of the key.
+fn answers<A: Allocator>(value: &AlgorithmIdentifier<A>, others: &[ObjectIdentifier<A>]) -> bool {
+    match (others.get(1), others.get(..1)) {
+        (Some(key), Some(curve)) => {
+            let is_key = value.oid() == key && value.oid_asn1().0 == *key && value.is_a(key);
+            is_key && value.is_one_of(others) && !value.is_one_of(curve)
+        }
+        _ => false,
+    }
 }
 
-/// The length takes memory once, and the nonce was made before.
-fn integrity_check_values_over<A: Heap>(rt: &impl Abort, heap: A, alloc: Global) {
-    for (icv_len, text) in ICV_LENS {
-        let bytes = bytes_of(rt, alloc, *text);
-        let requests = in_turn!(heap, made_turn(nonce_aa(heap, *icv_len), &bytes));
-        same(rt, &requests, &Some(2), *text);
+/// Whether parameters are the curve of these algorithms, or have the nonce and the length of the check value.
+fn are_stated<A: Allocator>(parameters: &AlgorithmIdentifierParameters<A>) -> bool {
+    match parameters {
+        AlgorithmIdentifierParameters::Ec(parameters) => {
+            parameters.curve_oid().is_arcs(&[1, 2, 840, 10045, 4, 3, 2])
+        }
+        AlgorithmIdentifierParameters::Aes(
+            AesParameters::AuthenticatedEncryptionParameters(parameters),
+        ) => {
+            let is_nonce = parameters.nonce() == [0xFF; 12].as_slice();
+            is_nonce && parameters.icv_len() == b"\x0C".as_slice()
+        }
+        _ => false,
     }
+}
+
+/// Adds the identifier of these arcs to a list.
+fn add<A: Heap>(rt: &impl Abort, heap: A, list: &mut Vec<ObjectIdentifier<A>, A>, arcs: &[u64]) {
+    let identifier = ObjectIdentifier::from_arcs(heap, arcs).expect(rt, "lawful arcs");
+    is_so(rt, list.push(identifier).is_ok(), "memory");
+}
+
+/// An algorithm identifier and its parameters are looked at without memory.
+fn algorithms_are_looked_at_over<A: Heap>(rt: &impl Abort, heap: A) {
+    let value = curve(heap).expect(rt, CURVE);
+    let aes = authenticated(heap).expect(rt, AUTHENTICATED);
+    let named = EcParameters::from(oids::ecdsa_with_sha256(heap).expect(rt, "memory"));
+    let mut others = Vec::new(heap);
+    add(rt, heap, &mut others, &[1, 2, 840, 10045, 4, 3, 2]);
+    add(rt, heap, &mut others, &[1, 2, 840, 10045, 2, 1]);
+    heap.refuse_all();
+    is_so(rt, answers(&value, &others), "an algorithm");
+    is_so(rt, are_stated(value.parameters()), "a curve");
+    is_so(
+        rt,
+        others.first() == Some(named.curve_oid()),
+        "another curve",
+    );
+    is_so(rt, are_stated(aes.parameters()), "AES");
+    same(rt, &heap.requests(), &0, "requests");
+    heap.refuse(0);
+    drop(value);
+    drop(aes);
 }
 
 #[test]
-fn integrity_check_values(rt: HostRuntime) {
+fn algorithms_are_looked_at(rt: HostRuntime) {
     let heap = Refusing::new(rt.alloc());
-    integrity_check_values_over(&rt, &heap, rt.alloc());
-}
-
-/// What a run showed that should clone parameters.
-fn clone_turn<A: Allocator + Copy>(value: &AlgorithmIdentifierParameters<A>) -> Turn {
-    match value.clone() {
-        Ok(copy) => Turn::right(copy == *value),
-        Err(AllocError) => Turn::Refused,
-    }
+    algorithms_are_looked_at_over(&rt, &heap);
 }
 
 /// The parameters are cloned with so many requests.
@@ -111,151 +133,16 @@ fn is_cloned<A: Heap>(
     what: &str,
 ) {
     let value = made.expect(rt, what);
-    let counted = in_turn!(heap, clone_turn(value.parameters()));
+    let parameters = value.parameters();
+    let counted = in_turn!(heap, clone_turn(parameters.clone(), parameters));
     same(rt, &counted, &Some(requests), what);
     heap.refuse(0);
     drop(value);
 }
 
-/// The test of this name, over any such allocator.
-fn parameters_are_cloned_over<A: Heap>(rt: &impl Abort, heap: A) {
-    is_cloned(rt, heap, pss(heap), 0, PSS);
-    is_cloned(rt, heap, curve(heap), 0, CURVE);
-    is_cloned(rt, heap, authenticated(heap), 2, AUTHENTICATED);
-}
-
 #[test]
 fn parameters_are_cloned(rt: HostRuntime) {
     let heap = Refusing::new(rt.alloc());
-    parameters_are_cloned_over(&rt, &heap);
-}
-
-/// Whether an identifier of an elliptic curve key answers as stated.
-fn curve_answers<A: Allocator>(
-    value: &AlgorithmIdentifier<A>,
-    key: &ObjectIdentifier<A>,
-    others: &[ObjectIdentifier<A>],
-) -> bool {
-    let is_key = value.oid() == key && value.oid_asn1().0 == *key && value.is_a(key);
-    match others.get(..0) {
-        Some(none) => is_key && !value.is_one_of(others) && !value.is_one_of(none),
-        None => false,
-    }
-}
-
-/// Whether parameters are the curve of this identifier.
-fn has_curve<A: Allocator>(
-    parameters: &AlgorithmIdentifierParameters<A>,
-    curve: &ObjectIdentifier<A>,
-) -> bool {
-    match parameters {
-        AlgorithmIdentifierParameters::Ec(parameters) => parameters.curve_oid() == curve,
-        _ => false,
-    }
-}
-
-/// An identifier, by arcs.
-fn identifier<A: Heap>(rt: &impl Abort, heap: A, arcs: &[u64]) -> ObjectIdentifier<A> {
-    ObjectIdentifier::from_arcs(heap, arcs).expect(rt, "lawful arcs")
-}
-
-/// Two identifiers, by arcs.
-fn two<A: Heap>(
-    rt: &impl Abort,
-    heap: A,
-    first: &[u64],
-    second: &[u64],
-) -> Vec<ObjectIdentifier<A>, A> {
-    let mut both = Vec::with_capacity(heap, 2).expect(rt, "memory");
-    is_so(rt, both.push(identifier(rt, heap, first)).is_ok(), "memory");
-    is_so(
-        rt,
-        both.push(identifier(rt, heap, second)).is_ok(),
-        "memory",
-    );
-    both
-}
-
-/// An algorithm identifier and its parameters are looked at without memory.
-fn algorithms_are_looked_at_over<A: Heap>(rt: &impl Abort, heap: A) {
-    let value = curve(heap).expect(rt, CURVE);
-    let key = identifier(rt, heap, &[1, 2, 840, 10045, 2, 1]);
-    let named = identifier(rt, heap, &[1, 2, 840, 10045, 4, 3, 2]);
-    let others = two(
-        rt,
-        heap,
-        &[1, 2, 840, 10045, 2],
-        &[1, 2, 840, 10045, 4, 3, 2],
-    );
-    heap.refuse_all();
-    is_so(rt, curve_answers(&value, &key, &others), "an algorithm");
-    is_so(rt, has_curve(value.parameters(), &named), "a curve");
-    same(rt, &heap.requests(), &0, "requests");
-    heap.refuse(0);
-    drop(value);
-}
-
-#[test]
-fn algorithms_are_looked_at(rt: HostRuntime) {
-    let heap = Refusing::new(rt.alloc());
-    algorithms_are_looked_at_over(&rt, &heap);
-}
-
-/// Whether the algorithm is one of these, and not of the first alone.
-fn is_behind_the_first<A: Allocator>(
-    value: &AlgorithmIdentifier<A>,
-    others: &[ObjectIdentifier<A>],
-) -> bool {
-    match others.get(..1) {
-        Some(first) => value.is_one_of(others) && !value.is_one_of(first),
-        None => false,
-    }
-}
-
-/// An algorithm is one of several where it stands behind others too.
-fn algorithms_are_found_over<A: Heap>(rt: &impl Abort, heap: A) {
-    let value = curve(heap).expect(rt, CURVE);
-    let others = two(
-        rt,
-        heap,
-        &[1, 2, 840, 10045, 4, 3, 2],
-        &[1, 2, 840, 10045, 2, 1],
-    );
-    heap.refuse_all();
-    is_so(rt, is_behind_the_first(&value, &others), "the second");
-    same(rt, &heap.requests(), &0, "requests");
-    heap.refuse(0);
-    drop(value);
-}
-
-#[test]
-fn algorithms_are_found(rt: HostRuntime) {
-    let heap = Refusing::new(rt.alloc());
-    algorithms_are_found_over(&rt, &heap);
-}
-
-/// Whether the curve is 1.3.132.0.34.
-fn is_p384<A: Allocator>(parameters: EcParameters<A>) -> bool {
-    parameters.curve_oid().is_arcs(&[1, 3, 132, 0, 34])
-}
-
-/// Curves are moved into parameters, and parameters of AES looked at, without memory.
-fn parameters_are_looked_at_over<A: Heap>(rt: &impl Abort, heap: A) {
-    let curve = identifier(rt, heap, &[1, 3, 132, 0, 34]);
-    let again = identifier(rt, heap, &[1, 3, 132, 0, 34]);
-    let aes = nonce_aa(heap, 128).expect(rt, "memory");
-    heap.refuse_all();
-    let moved = EcParameters::from(ObjectIdentifierAsn1::from(curve));
-    is_so(rt, is_p384(moved), "a curve as an element");
-    is_so(rt, is_p384(EcParameters::from(again)), "a curve");
-    let is_aes = aes.nonce() == b"\xAA".as_slice() && aes.icv_len() == b"\x00\x80".as_slice();
-    is_so(rt, is_aes, "AES");
-    same(rt, &heap.requests(), &0, "requests");
-    heap.refuse(0);
-}
-
-#[test]
-fn parameters_are_looked_at(rt: HostRuntime) {
-    let heap = Refusing::new(rt.alloc());
-    parameters_are_looked_at_over(&rt, &heap);
+    is_cloned(&rt, &heap, curve(&heap), 0, CURVE);
+    is_cloned(&rt, &heap, authenticated(&heap), 2, AUTHENTICATED);
 }

@@ -1,249 +1,20 @@
-//! What is signed of certificates and requests, look-ups of extensions, and adding attributes.
+//! Look-ups of extensions in certificates, and attributes that requests are given.
 
 use super::Heap;
-use super::checks::{is_so, same, same_bytes};
-use picky_asn1_x509::certificate::{Certificate, TbsCertificate};
-use picky_asn1_x509::certification_request::{
-    CertificationRequest, CertificationRequestInfo, OpenSslAttributes,
-};
-use picky_asn1_x509::{Attribute, SignedRead};
+use super::checks::{granted, is_so, is_written, same};
+use picky_asn1_x509::Attribute;
+use picky_asn1_x509::certificate::Certificate;
+use picky_asn1_x509::certification_request::{CertificationRequestInfo, OpenSslAttributes};
 use refusing::{Refusing, Turn, in_turn};
 use std::alloc::{AllocError, Allocator};
 use std::process::Abort;
-use x509_der::{
-    Asn1SequenceOf, BitString, Deviation, Deviations, FromDer, ObjectIdentifier, ReadError, ToDer,
-    from_bytes, to_vec, write_to_slice,
-};
+use x509_der::{Asn1SequenceOf, BitString, ObjectIdentifier, ToDer, from_bytes};
 use x509_keys::SubjectPublicKeyInfo;
-use x509_names::{Name, Version};
-
-/// A certificate, where its signed part ends, the deviations inside of that, and what is written of it.
-struct SignedRow<'a> {
-    input: &'a str,
-    end: usize,
-    inside: &'a [Deviation],
-    part: &'a str,
-}
-
-/// Outside of each signed part one deviation stands: an RSA algorithm without NULL.
-const SIGNED: &[SignedRow<'static>] = &[
-    // neither version nor extensions
-    SignedRow {
-        input: "304c303a020101300506032b65703000301e170d3139313031373137343132385a170d3232313031363137343132385a3000300a300506032b6570030100300b06092a864886f70d01010b030100",
-        end: 62,
-        inside: &[],
-        part: "303a020101300506032b65703000301e170d3139313031373137343132385a170d3232313031363137343132385a3000300a300506032b6570030100",
-    },
-    // version 1, spelled
-    SignedRow {
-        input: "3051303fa003020100020101300506032b65703000301e170d3139313031373137343132385a170d3232313031363137343132385a3000300a300506032b6570030100300b06092a864886f70d01010b030100",
-        end: 67,
-        inside: &[Deviation::VersionZeroSpelled],
-        part: "303a020101300506032b65703000301e170d3139313031373137343132385a170d3232313031363137343132385a3000300a300506032b6570030100",
-    },
-    // an empty list, spelled
-    SignedRow {
-        input: "3050303e020101300506032b65703000301e170d3139313031373137343132385a170d3232313031363137343132385a3000300a300506032b6570030100a3023000300b06092a864886f70d01010b030100",
-        end: 66,
-        inside: &[Deviation::EmptyExtensionsSpelled],
-        part: "303a020101300506032b65703000301e170d3139313031373137343132385a170d3232313031363137343132385a3000300a300506032b6570030100",
-    },
-    // both
-    SignedRow {
-        input: "30553043a003020100020101300506032b65703000301e170d3139313031373137343132385a170d3232313031363137343132385a3000300a300506032b6570030100a3023000300b06092a864886f70d01010b030100",
-        end: 71,
-        inside: &[
-            Deviation::VersionZeroSpelled,
-            Deviation::EmptyExtensionsSpelled,
-        ],
-        part: "303a020101300506032b65703000301e170d3139313031373137343132385a170d3232313031363137343132385a3000300a300506032b6570030100",
-    },
-    // version 3 with two extensions
-    SignedRow {
-        input: "306d305ba003020102020101300506032b65703000301e170d3139313031373137343132385a170d3232313031363137343132385a3000300a300506032b6570030100a31a3018300a0603551d0e04030401aa300a0603551d0e04030401bb300b06092a864886f70d01010b030100",
-        end: 95,
-        inside: &[],
-        part: "305ba003020102020101300506032b65703000301e170d3139313031373137343132385a170d3232313031363137343132385a3000300a300506032b6570030100a31a3018300a0603551d0e04030401aa300a0603551d0e04030401bb",
-    },
-    // version 2 with the issuer's identifier
-    SignedRow {
-        input: "30553043a003020101020101300506032b65703000301e170d3139313031373137343132385a170d3232313031363137343132385a3000300a300506032b6570030100810200aa300b06092a864886f70d01010b030100",
-        end: 71,
-        inside: &[],
-        part: "3043a003020101020101300506032b65703000301e170d3139313031373137343132385a170d3232313031363137343132385a3000300a300506032b6570030100810200aa",
-    },
-];
-
-/// The bytes that the text has in hexadecimal.
-fn decoded<A: Heap>(rt: &impl Abort, heap: A, text: &str) -> Vec<u8, A> {
-    hex::decode(heap, text).expect(rt, text)
-}
-
-/// These are the counts of the kinds, each of which was met once.
-fn counts_are(rt: &impl Abort, counts: &Deviations, kinds: &[Deviation], what: &str) {
-    same(rt, &counts.total(), &kinds.len(), what);
-    for kind in kinds {
-        same(rt, &counts.count(*kind), &1, what);
-    }
-}
-
-/// The slice and the counts are the row's.
-fn slice_is<T>(rt: &impl Abort, read: &SignedRead<'_, T>, input: &[u8], row: &SignedRow<'_>) {
-    let slice = input.get(2..row.end).expect(rt, "a signed part");
-    same_bytes(rt, read.signed, slice, row.input);
-    counts_are(rt, &read.inside, row.inside, row.input);
-    counts_are(
-        rt,
-        &read.outside,
-        &[Deviation::RsaParametersAbsent],
-        row.input,
-    );
-}
-
-/// What is written of the signed part is the row's.
-fn part_is<A: Heap>(rt: &impl Abort, heap: A, part: &TbsCertificate<A>, row: &SignedRow<'_>) {
-    let stated = decoded(rt, heap, row.part);
-    let written = to_vec(heap, part).expect(rt, "memory");
-    same_bytes(rt, written.as_slice(), stated.as_slice(), row.input);
-}
-
-/// The certificate is read with the row's signed part.
-fn signed_part_is<A: Heap>(rt: &impl Abort, heap: A, row: &SignedRow<'_>) {
-    let input = decoded(rt, heap, row.input);
-    match Certificate::read_with_signed_part(heap, input.as_slice()) {
-        Ok(read) => {
-            slice_is(rt, &read, input.as_slice(), row);
-            part_is(rt, heap, &read.value.tbs_certificate, row);
-            drop(read);
-        }
-        Err(_refused) => is_so(rt, false, row.input),
-    }
-}
-
-/// The test of this name, over any such allocator.
-fn signed_parts_are_sliced_over<A: Heap>(rt: &impl Abort, heap: A) {
-    for row in SIGNED {
-        signed_part_is(rt, heap, row);
-    }
-}
-
-#[test]
-fn signed_parts_are_sliced(rt: HostRuntime) {
-    let heap = Refusing::new(rt.alloc());
-    signed_parts_are_sliced_over(&rt, &heap);
-}
+use x509_names::Name;
 
 /// A certificate of version 2 with both unique identifiers, of which the subject's has no bits.
 const IDENTIFIED: &str =
     "30583046a003020101020101300506032b65703000301e170d3139313031373137343132385a170d3232313031363137343132385a3000300a300506032b6570030100810200aa820100300b06092a864886f70d01010b030100";
-
-/// Certificates whose signed part has no deviations, and where it ends.
-const CLEAN: &[(&str, usize)] = &[
-    // version 2 alone
-    (
-        "3051303fa003020101020101300506032b65703000301e170d3139313031373137343132385a170d3232313031363137343132385a3000300a300506032b6570030100300b06092a864886f70d01010b030100",
-        67,
-    ),
-    (IDENTIFIED, 74),
-    // version 3 with the issuer's identifier and an extension
-    (CONSTRAINED, 86),
-];
-
-/// What a run showed that should read the certificate with its signed part.
-fn certificate_turn<A: Heap>(heap: A, input: &[u8], end: usize) -> Turn {
-    match Certificate::read_with_signed_part(heap, input) {
-        Ok(read) => {
-            let absent = read.outside.count(Deviation::RsaParametersAbsent);
-            let is_counted = read.inside.is_none() && read.outside.total() == 1 && absent == 1;
-            let is_slice = input.get(2..end) == Some(read.signed);
-            drop(read);
-            Turn::right(is_counted && is_slice)
-        }
-        Err(ReadError::OutOfMemory) => Turn::Refused,
-        Err(_other) => Turn::Wrong,
-    }
-}
-
-/// The certificate is read with its signed part, or memory is wanted.
-fn certificate_is_sliced<A: Heap>(rt: &impl Abort, heap: A, text: &str, end: usize) {
-    let input = decoded(rt, heap, text);
-    let bytes = input.as_slice();
-    let requests = in_turn!(heap, certificate_turn(heap, bytes, end));
-    is_so(rt, requests.is_some(), text);
-}
-
-/// The test of this name, over any such allocator.
-fn signed_certificates_are_sliced_over<A: Heap>(rt: &impl Abort, heap: A) {
-    for (text, end) in CLEAN {
-        certificate_is_sliced(rt, heap, *text, *end);
-    }
-}
-
-#[test]
-fn signed_certificates_are_sliced(rt: HostRuntime) {
-    let heap = Refusing::new(rt.alloc());
-    signed_certificates_are_sliced_over(&rt, &heap);
-}
-
-/// Whether there are bits, and just these.
-fn has_bits<A: Allocator>(bits: &Option<BitString<A>>, count: u128, bytes: &[u8]) -> bool {
-    match bits {
-        Some(bits) => bits.get_num_bits() == count && bits.payload_view() == bytes,
-        None => false,
-    }
-}
-
-/// A unique identifier of no bits is one, and each stands in its own place.
-fn unique_identifiers_are_kept_over<A: Heap>(rt: &impl Abort, heap: A) {
-    let input = decoded(rt, heap, IDENTIFIED);
-    let read = from_bytes::<Certificate<A>, A>(heap, input.as_slice()).expect(rt, "a certificate");
-    let part = &read.tbs_certificate;
-    is_so(rt, part.version == Version::V2, "version 2");
-    let issuer = has_bits(&part.issuer_unique_id, 8, b"\xAA");
-    is_so(rt, issuer, "the issuer's");
-    let subject = has_bits(&part.subject_unique_id, 0, b"");
-    is_so(rt, subject, "the subject's");
-    drop(read);
-}
-
-#[test]
-fn unique_identifiers_are_kept(rt: HostRuntime) {
-    let heap = Refusing::new(rt.alloc());
-    unique_identifiers_are_kept_over(&rt, &heap);
-}
-
-/// A request without attributes.
-const REQUEST: &[u8] = &[
-    0x30, 0x1F, 0x30, 0x13, 0x02, 0x01, 0x00, 0x30, 0x00, 0x30, 0x0A, 0x30, 0x05, 0x06, 0x03, 0x2B,
-    0x65, 0x70, 0x03, 0x01, 0x00, 0xA0, 0x00, 0x30, 0x05, 0x06, 0x03, 0x2B, 0x65, 0x70, 0x03, 0x01,
-    0x00,
-];
-
-/// What a run showed that should read the request with its signed part.
-fn request_turn<A: Heap>(heap: A) -> Turn {
-    match CertificationRequest::read_with_signed_part(heap, REQUEST) {
-        Ok(read) => {
-            let is_clean = read.inside.is_none() && read.outside.is_none();
-            let is_slice = read.signed == &REQUEST[2..23];
-            drop(read);
-            Turn::right(is_clean && is_slice)
-        }
-        Err(ReadError::OutOfMemory) => Turn::Refused,
-        Err(_other) => Turn::Wrong,
-    }
-}
-
-/// The test of this name, over any such allocator.
-fn signed_requests_are_sliced_over<A: Heap>(rt: &impl Abort, heap: A) {
-    let requests = in_turn!(heap, request_turn(heap));
-    is_so(rt, requests.is_some(), "a request");
-}
-
-#[test]
-fn signed_requests_are_sliced(rt: HostRuntime) {
-    let heap = Refusing::new(rt.alloc());
-    signed_requests_are_sliced_over(&rt, &heap);
-}
 
 /// A certificate with basic constraints.
 const CONSTRAINED: &str =
@@ -321,7 +92,7 @@ fn is_found<A: Heap>(rt: &impl Abort, heap: A, certificate: &Certificate<A>, row
 
 /// The same, in the row's certificate.
 fn is_found_in<A: Heap>(rt: &impl Abort, heap: A, row: &LookUp<'_>) {
-    let input = decoded(rt, heap, row.input);
+    let input = hex::decode(heap, row.input).expect(rt, row.input);
     let read = from_bytes::<Certificate<A>, A>(heap, input.as_slice()).expect(rt, row.input);
     is_found(rt, heap, &read, row);
     drop(read);
@@ -338,15 +109,6 @@ fn first_extensions_are_found_over<A: Heap>(rt: &impl Abort, heap: A) {
 fn first_extensions_are_found(rt: HostRuntime) {
     let heap = Refusing::new(rt.alloc());
     first_extensions_are_found_over(&rt, &heap);
-}
-
-/// Whether these bytes are the DER encoding.
-fn is_written<T: ToDer>(value: &T, bytes: &[u8]) -> bool {
-    let mut room = [0u8; 80];
-    match write_to_slice(value, room.as_mut_slice()) {
-        Ok(len) => &room[..len] == bytes,
-        Err(_refused) => false,
-    }
 }
 
 /// What is signed of a request without attributes.
@@ -410,90 +172,30 @@ fn attributes_are_added_in_place(rt: HostRuntime) {
     attributes_are_added_in_place_over(&rt, &heap);
 }
 
-/// What a run showed that should give the request with an attribute: both as they were where memory was refused.
-fn taken_turn<I: ToDer + Drop, T: ToDer + Drop>(answer: Result<I, (I, T)>) -> Turn {
+/// Whether a request comes back with an attribute more.
+fn is_asking<I: ToDer + Drop, B: Drop>(answer: Result<I, B>) -> bool {
     match answer {
-        Ok(info) => Turn::right(is_written(&info, ASKING)),
-        Err((info, back)) => {
-            Turn::stands(is_written(&info, BARE) && is_written(&back, REQUESTED))
-        }
+        Ok(info) => is_written(&info, ASKING),
+        Err(_back) => false,
     }
 }
 
-/// What a run showed that should make an attribute for this request.
-fn attribute_taken_turn<A: Heap>(heap: A, info: CertificationRequestInfo<A>) -> Turn {
-    match Attribute::new_extension_request(heap, Vec::new(heap)) {
-        Ok(attribute) => taken_turn(info.with_attribute(attribute)),
-        Err(AllocError) => {
-            drop(info);
-            Turn::Refused
-        }
-    }
-}
-
-/// What a run showed that should make a request and an attribute for it.
-fn request_taken_turn<A: Heap>(heap: A) -> Turn {
-    match from_bytes::<CertificationRequestInfo<A>, A>(heap, BARE) {
-        Ok(info) => attribute_taken_turn(heap, info),
-        Err(ReadError::OutOfMemory) => Turn::Refused,
-        Err(_other) => Turn::Wrong,
-    }
-}
-
-/// A request comes back with an attribute more; where memory is refused, both come back.
+/// A request takes an attribute, and a list of attributes is put under its tag.
 fn requests_take_attributes_over<A: Heap>(rt: &impl Abort, heap: A) {
-    let requests = in_turn!(heap, request_taken_turn(heap));
-    is_so(rt, requests.is_some(), "an attribute");
+    let info = bare(rt, heap);
+    let attribute = granted(rt, Attribute::new_extension_request(heap, Vec::new(heap)));
+    is_so(
+        rt,
+        is_asking(info.with_attribute(attribute)),
+        "an attribute",
+    );
+    let attributes = OpenSslAttributes::from(Asn1SequenceOf(Vec::new(heap)));
+    is_so(rt, is_written(&attributes, b"\xA0\x00"), "no attributes");
+    drop(attributes);
 }
 
 #[test]
 fn requests_take_attributes(rt: HostRuntime) {
     let heap = Refusing::new(rt.alloc());
     requests_take_attributes_over(&rt, &heap);
-}
-
-/// A list of attributes is put under its tag without memory.
-fn attributes_are_tagged_over<A: Heap>(rt: &impl Abort, heap: A) {
-    heap.refuse_all();
-    let attributes = OpenSslAttributes::from(Asn1SequenceOf(Vec::new(heap)));
-    is_so(rt, is_written(&attributes, b"\xA0\x00"), "no attributes");
-    same(rt, &heap.requests(), &0, "requests");
-    drop(attributes);
-}
-
-#[test]
-fn attributes_are_tagged(rt: HostRuntime) {
-    let heap = Refusing::new(rt.alloc());
-    attributes_are_tagged_over(&rt, &heap);
-}
-
-/// What is signed of a certificate of version 3 with an extension.
-const OF_VERSION_3: &str =
-    "304ea003020102020101300506032b65703000301e170d3139313031373137343132385a170d3232313031363137343132385a3000300a300506032b6570030100a30d300b30090603551d1304023000";
-
-/// The same of version 2, which has no extensions.
-const OF_VERSION_2: &str =
-    "304ea003020101020101300506032b65703000301e170d3139313031373137343132385a170d3232313031363137343132385a3000300a300506032b6570030100a30d300b30090603551d1304023000";
-
-/// Whether reading is refused for the extensions.
-fn has_no_extensions<T: FromDer<A>, A: Heap>(heap: A, bytes: &[u8]) -> bool {
-    from_bytes::<T, A>(heap, bytes).err() == Some(ReadError::ExtensionsNeedV3)
-}
-
-/// A signed part of version 2 with an extension is written, and what is written is refused.
-fn misfits_are_refused_over<A: Heap>(rt: &impl Abort, heap: A) {
-    let input = decoded(rt, heap, OF_VERSION_3);
-    let stated = decoded(rt, heap, OF_VERSION_2);
-    let mut read = from_bytes::<TbsCertificate<A>, A>(heap, input.as_slice()).expect(rt, "one");
-    read.version = Version::V2;
-    is_so(rt, is_written(&read, stated.as_slice()), "version 2");
-    drop(read);
-    let is_refused = has_no_extensions::<TbsCertificate<A>, A>(heap, stated.as_slice());
-    is_so(rt, is_refused, "version 2 has no extensions");
-}
-
-#[test]
-fn misfits_are_refused(rt: HostRuntime) {
-    let heap = Refusing::new(rt.alloc());
-    misfits_are_refused_over(&rt, &heap);
 }

@@ -1,10 +1,10 @@
-//! Printable, IA5 and BMP strings.
+//! Printable and BMP strings.
 
 use super::checks::{bytes_of, is_so, same_bytes};
 use std::alloc::Global;
 use std::fmt;
 use std::process::Abort;
-use x509_prim::{BmpString, Ia5String, Ia5StringAsn1, PrintableString, Utf8String};
+use x509_prim::{BmpString, PrintableString, PrintableStringAsn1, Utf8String};
 
 /// The value prints as the text.
 fn prints<T: fmt::Display>(rt: &impl Abort, alloc: Global, value: &T, text: &str) {
@@ -34,34 +34,11 @@ fn printable_texts(rt: HostRuntime) {
     same_bytes(&rt, string.as_bytes(), PRINTABLE.as_bytes(), "text");
     is_so(&rt, string.as_str() == PRINTABLE, "text");
     prints(&rt, rt.alloc(), &string, PRINTABLE);
+    let string = PrintableStringAsn1::from(string);
+    same_bytes(&rt, string.as_bytes(), PRINTABLE.as_bytes(), "element");
+    is_so(&rt, string.as_str() == PRINTABLE, "element");
+    prints(&rt, rt.alloc(), &string, PRINTABLE);
     is_so(&rt, string.into_string().as_str() == PRINTABLE, "moved");
-    let other = String::from_str(rt.alloc(), "a*b").expect(&rt, "memory");
-    assert!(rt; PrintableString::from_string(other).is_err());
-}
-
-#[test]
-fn ia5_bytes(rt: HostRuntime) {
-    for byte in 0..=u8::MAX {
-        let bytes = Vec::from_slice(rt.alloc(), &[byte]).expect(&rt, "memory");
-        assert_eq!(rt; Ia5String::from_bytes(bytes).is_ok(), byte < 0x80, "{byte}");
-    }
-}
-
-#[test]
-fn ia5_texts(rt: HostRuntime) {
-    let text = String::from_str(rt.alloc(), "test1@rsa.com").expect(&rt, "memory");
-    let string = Ia5String::from_string(text).ok().expect(&rt, "IA5");
-    let string = Ia5StringAsn1::from(string);
-    same_bytes(&rt, string.as_bytes(), b"test1@rsa.com", "text");
-    is_so(&rt, string.as_str() == "test1@rsa.com", "text");
-    prints(&rt, rt.alloc(), &string, "test1@rsa.com");
-    is_so(
-        &rt,
-        string.into_string().as_str() == "test1@rsa.com",
-        "moved",
-    );
-    let other = String::from_str(rt.alloc(), "\u{E9}").expect(&rt, "memory");
-    assert!(rt; Ia5String::from_string(other).is_err());
 }
 
 /// Texts and their units in hexadecimal; the last but one is the example of RFC 2781, 5.
@@ -103,10 +80,4 @@ fn lone_surrogates_are_replaced(rt: HostRuntime) {
         let string = BmpString::from_bytes(units).ok().expect(&rt, "units");
         prints(&rt, rt.alloc(), &string, *text);
     }
-}
-
-#[test]
-fn an_odd_byte_is_no_unit(rt: HostRuntime) {
-    let bytes = Vec::from_slice(rt.alloc(), &[0x61u8]).expect(&rt, "memory");
-    assert!(rt; BmpString::from_bytes(bytes).is_err());
 }

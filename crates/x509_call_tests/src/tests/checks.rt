@@ -5,7 +5,7 @@ use refusing::Turn;
 use std::alloc::{AllocError, Global};
 use std::fmt::Debug;
 use std::process::Abort;
-use x509_der::{ObjectIdentifier, ToDer, write_to_slice};
+use x509_der::{ToDer, write_to_slice};
 
 /// The two are equal.
 pub(super) fn same<T: PartialEq + Debug>(rt: &impl Abort, left: &T, right: &T, what: &str) {
@@ -22,16 +22,16 @@ pub(super) fn is_so(rt: &impl Abort, is_right: bool, what: &str) {
     assert!(rt; is_right, "{what}");
 }
 
-/// Whether the value is written as these bytes, 64 at most. Takes no memory.
+/// Whether the value is written as these bytes, 80 at most. Takes no memory.
 pub(super) fn is_written<T: ToDer>(value: &T, stated: &[u8]) -> bool {
-    let mut room = [0u8; 64];
+    let mut room = [0u8; 80];
     match write_to_slice(value, room.as_mut_slice()) {
         Ok(len) => len == stated.len() && room.starts_with(stated),
         Err(_refused) => false,
     }
 }
 
-/// What a run of a maker showed whose value is to be written as these bytes, 64 at most. It is over any type, since a
+/// What a run of a maker showed whose value is to be written as these bytes, 80 at most. It is over any type, since a
 /// proof in which a value of a large one goes out of scope costs ten times as much; so others end with `drop`.
 pub(super) fn made_turn<T: ToDer + Drop>(made: Result<T, AllocError>, stated: &[u8]) -> Turn {
     match made {
@@ -56,9 +56,4 @@ pub(super) fn granted<T, E: Drop>(rt: &impl Abort, answer: Result<T, E>) -> T {
 /// The bytes that the text has in hexadecimal.
 pub(super) fn bytes_of(rt: &impl Abort, alloc: Global, text: &str) -> Vec<u8> {
     hex::decode(alloc, text).expect(rt, text)
-}
-
-/// The identifier 2.5.4.3.
-pub(super) fn common_name(rt: &impl Abort, alloc: Global) -> ObjectIdentifier {
-    ObjectIdentifier::from_arcs(alloc, &[2, 5, 4, 3]).expect(rt, "lawful arcs")
 }

@@ -53,42 +53,18 @@ fn kinds_are_numbered_and_named(rt: HostRuntime) {
     }
 }
 
-/// A deviation of a kind, somewhere.
-fn place_of(kind: Deviation) -> Place {
-    Place {
-        kind,
-        start: 0,
-        end: 2,
-    }
-}
-
-#[test]
-fn places_are_counted(rt: HostRuntime) {
-    let places = [
-        place_of(Deviation::SaltTooLarge),
-        place_of(Deviation::SkippedKeyElement),
-        place_of(Deviation::SaltTooLarge),
-    ];
-    let counts = Deviations::of_places(&places);
-    same(&rt, &counts.total(), &3, "in all");
-    for (kind, count) in counts.pairs() {
-        let stated = match kind {
-            Deviation::SaltTooLarge => 2,
-            Deviation::SkippedKeyElement => 1,
-            _ => 0,
-        };
-        same(&rt, &count, &stated, kind.name());
-        same(&rt, &counts.count(kind), &stated, kind.name());
-    }
-    is_so(&rt, Deviations::of_places(&[]).is_none(), "no places");
-}
-
 #[test]
 fn places_that_are_read_are_counted(rt: HostRuntime) {
     let alloc = rt.alloc();
     let bytes = bytes_of(&rt, alloc, "300a06082a864886f70d0209");
     let read = read_located::<RawAlgorithmIdentifier, _>(alloc, &bytes);
     let (_, places) = read.expect(&rt, "an algorithm");
+    let place = Place {
+        kind: Deviation::RawParametersAbsent,
+        start: 0,
+        end: bytes.len(),
+    };
+    is_so(&rt, places.first() == Some(&place), "the whole");
     let counts = Deviations::of_places(&places);
     same(
         &rt,

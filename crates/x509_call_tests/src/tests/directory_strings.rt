@@ -1,7 +1,7 @@
 //! Directory strings: what they are made of and turned into, and what is printed, with requests for memory refused.
 
 use super::Heap;
-use super::checks::{is_so, same};
+use super::checks::{granted, is_so, same};
 use refusing::{Refusing, Turn, in_turn};
 use std::alloc::{AllocError, Allocator};
 use std::borrow::CowStr;
@@ -9,7 +9,7 @@ use std::fmt::{Display, Write};
 use std::process::Abort;
 use x509_der::from_bytes;
 use x509_names::{DirectoryString, Name, NamePrettyFormatter};
-use x509_prim::{BmpString, BmpStringAsn1, PrintableString, PrintableStringAsn1, Utf8String};
+use x509_prim::{BmpString, BmpStringAsn1, PrintableString, PrintableStringAsn1};
 
 /// The letter a, a surrogate without a partner and the letter b.
 const UNPAIRED: &[u8] = b"\x1E\x06\x00a\xDC\x00\x00b";
@@ -20,34 +20,6 @@ const UNPAIRED_TEXT: &str = "a\u{FFFD}b";
 /// The directory string that the bytes encode.
 fn string_of<A: Heap>(rt: &impl Abort, heap: A, bytes: &[u8]) -> DirectoryString<A> {
     from_bytes(heap, bytes).expect(rt, "a directory string")
-}
-
-/// What a run of `from_text` showed.
-fn text_turn<A: Allocator + Copy>(
-    made: Result<DirectoryString<A>, AllocError>,
-    text: &str,
-) -> Turn {
-    match made {
-        Ok(DirectoryString::Utf8String(string)) => Turn::right(string.as_str() == text),
-        Ok(_other) => Turn::Wrong,
-        Err(AllocError) => Turn::Refused,
-    }
-}
-
-/// A text is copied, which is the one request.
-fn texts_are_copied_over<A: Heap>(rt: &impl Abort, heap: A) {
-    let text = "\u{E9}*";
-    let requests = in_turn!(
-        heap,
-        text_turn(DirectoryString::from_text(heap, text), text)
-    );
-    same(rt, &requests, &Some(1), "requests");
-}
-
-#[test]
-fn texts_are_copied(rt: HostRuntime) {
-    let heap = Refusing::new(rt.alloc());
-    texts_are_copied_over(&rt, &heap);
 }
 
 /// What a run of `to_utf8_lossy` showed of a string, which is as the other one.
@@ -136,51 +108,6 @@ fn strings_are_turned_into_text(rt: HostRuntime) {
     strings_are_turned_into_text_over(&rt, &heap);
 }
 
-/// What a run of `into_utf8_string` showed of a string, which is handed back as it was.
-fn utf8_turn<A: Allocator + Copy>(
-    answer: Result<Utf8String<A>, DirectoryString<A>>,
-    text: &str,
-    before: &DirectoryString<A>,
-) -> Turn {
-    match answer {
-        Ok(answer) => Turn::right(answer.as_str() == text),
-        Err(back) => Turn::stands(back == *before),
-    }
-}
-
-/// What a run showed that makes a string and turns it into a UTF-8 string.
-fn turned_into_utf8<A: Allocator + Copy>(
-    alloc: A,
-    made: Result<DirectoryString<A>, AllocError>,
-    text: &str,
-    before: &DirectoryString<A>,
-) -> Turn {
-    match made {
-        Ok(string) => utf8_turn(string.into_utf8_string(alloc), text, before),
-        Err(AllocError) => Turn::Refused,
-    }
-}
-
-/// How many requests a copy of a string makes that is turned into a UTF-8 string.
-fn utf8_requests<A: Heap>(rt: &impl Abort, heap: A, bytes: &[u8], text: &str) -> Option<u64> {
-    let before = string_of(rt, heap, bytes);
-    in_turn!(heap, turned_into_utf8(heap, before.clone(), text, &before))
-}
-
-/// The same of UTF-8 strings as of text.
-fn strings_are_turned_into_utf8_over<A: Heap>(rt: &impl Abort, heap: A) {
-    let printable = utf8_requests(rt, heap, b"\x13\x01a", "a");
-    same(rt, &printable, &Some(1), "printable");
-    let bmp = utf8_requests(rt, heap, UNPAIRED, UNPAIRED_TEXT);
-    is_so(rt, bmp > Some(1), "BMP");
-}
-
-#[test]
-fn strings_are_turned_into_utf8(rt: HostRuntime) {
-    let heap = Refusing::new(rt.alloc());
-    strings_are_turned_into_utf8_over(&rt, &heap);
-}
-
 /// The string has this content, and no request was made since all were refused; none is refused any more.
 fn holds<A: Heap>(rt: &impl Abort, heap: A, string: &DirectoryString<A>, content: &[u8]) {
     is_so(rt, string.as_bytes() == content, "content");
@@ -193,15 +120,15 @@ fn owned_bytes<A: Heap>(rt: &impl Abort, heap: A, bytes: &[u8]) -> Vec<u8, A> {
     Vec::from_slice(heap, bytes).expect(rt, "memory")
 }
 
-/// A text is moved into a directory string, also as a UTF-8 string.
+/// A text is moved into a directory string, also as a UTF-8 string, and out of it.
 fn texts_are_moved_over<A: Heap>(rt: &impl Abort, heap: A) {
     let text = String::from_str(heap, "\u{E9}").expect(rt, "memory");
     heap.refuse_all();
     holds(rt, heap, &DirectoryString::from(text), b"\xC3\xA9");
-    let text = String::from_str(heap, "b").expect(rt, "memory");
+    let copy = granted(rt, DirectoryString::from_text(heap, "b"));
     heap.refuse_all();
-    let string = DirectoryString::from(Utf8String::from(text));
-    holds(rt, heap, &string, b"b");
+    let moved = granted(rt, copy.into_utf8_string(heap));
+    holds(rt, heap, &DirectoryString::from(moved), b"b");
 }
 
 #[test]
@@ -210,8 +137,8 @@ fn texts_are_moved(rt: HostRuntime) {
     texts_are_moved_over(&rt, &heap);
 }
 
-/// A printable string is moved, also as an element.
-fn printable_strings_are_moved_over<A: Heap>(rt: &impl Abort, heap: A) {
+/// A printable string is moved, also as an element, and a BMP string as an element.
+fn others_are_moved_over<A: Heap>(rt: &impl Abort, heap: A) {
     let string = PrintableString::from_bytes(owned_bytes(rt, heap, b"a")).expect(rt, "printable");
     heap.refuse_all();
     holds(rt, heap, &DirectoryString::from(string), b"a");
@@ -219,16 +146,6 @@ fn printable_strings_are_moved_over<A: Heap>(rt: &impl Abort, heap: A) {
     heap.refuse_all();
     let string = DirectoryString::from(PrintableStringAsn1::from(string));
     holds(rt, heap, &string, b"b");
-}
-
-#[test]
-fn printable_strings_are_moved(rt: HostRuntime) {
-    let heap = Refusing::new(rt.alloc());
-    printable_strings_are_moved_over(&rt, &heap);
-}
-
-/// The test of this name, over any such allocator.
-fn bmp_strings_are_moved_over<A: Heap>(rt: &impl Abort, heap: A) {
     let string = BmpString::from_bytes(owned_bytes(rt, heap, b"\xD8\x00")).expect(rt, "units");
     heap.refuse_all();
     let string = DirectoryString::from(BmpStringAsn1::from(string));
@@ -236,9 +153,9 @@ fn bmp_strings_are_moved_over<A: Heap>(rt: &impl Abort, heap: A) {
 }
 
 #[test]
-fn bmp_strings_are_moved(rt: HostRuntime) {
+fn others_are_moved(rt: HostRuntime) {
     let heap = Refusing::new(rt.alloc());
-    bmp_strings_are_moved_over(&rt, &heap);
+    others_are_moved_over(&rt, &heap);
 }
 
 /// The value prints this text where every request is refused and there is room for the text.
@@ -251,18 +168,6 @@ fn prints_without_memory<A: Heap, T: Display>(rt: &impl Abort, heap: A, value: &
     is_so(rt, printed.as_str() == text, text);
 }
 
-/// The test of this name, over any such allocator.
-fn strings_print_without_memory_over<A: Heap>(rt: &impl Abort, heap: A) {
-    let string = string_of(rt, heap, UNPAIRED);
-    prints_without_memory(rt, heap, &string, UNPAIRED_TEXT);
-}
-
-#[test]
-fn strings_print_without_memory(rt: HostRuntime) {
-    let heap = Refusing::new(rt.alloc());
-    strings_print_without_memory_over(&rt, &heap);
-}
-
 /// A common name and a title, which has no variant of its own.
 const NAME: &[u8] =
     b"\x30\x18\x31\x0A\x30\x08\x06\x03\x55\x04\x03\x0C\x01a\x31\x0A\x30\x08\x06\x03\x55\x04\x0C\x0C\x01b";
@@ -270,8 +175,10 @@ const NAME: &[u8] =
 /// What it prints.
 const NAME_TEXT: &str = "CN=a,2.5.4.12=#0c0162";
 
-/// The test of this name, over any such allocator.
+/// A directory string prints without memory, and a name in both forms.
 fn names_print_without_memory_over<A: Heap>(rt: &impl Abort, heap: A) {
+    let string = string_of(rt, heap, UNPAIRED);
+    prints_without_memory(rt, heap, &string, UNPAIRED_TEXT);
     let name = from_bytes::<Name<A>, A>(heap, NAME).expect(rt, "a name");
     prints_without_memory(rt, heap, &name, NAME_TEXT);
     prints_without_memory(rt, heap, &NamePrettyFormatter(&name), NAME_TEXT);

@@ -3,29 +3,14 @@
 
 use super::Heap;
 use super::checks::{clone_turn, granted, is_so, is_written, made_turn, same};
-use picky_asn1_x509::{
-    Attribute, ExtendedKeyUsage, Extension, ExtensionView, Extensions, KeyUsage,
-};
+use picky_asn1_x509::{Attribute, ExtendedKeyUsage, Extension, ExtensionView, Extensions};
 use refusing::{Refusing, Turn, in_turn};
 use std::alloc::{AllocError, Allocator};
 use std::process::Abort;
 use x509_der::{
-    Asn1SequenceOf, IntegerAsn1, ObjectIdentifier, ObjectIdentifierAsn1, OctetStringAsn1,
-    OctetStringAsn1Container, OidError, from_bytes,
+    Asn1SequenceOf, IntegerAsn1, OctetStringAsn1, OctetStringAsn1Container, from_bytes,
 };
-use x509_names::GeneralName;
-use x509_prim::{Ia5String, Ia5StringAsn1, UTCTime};
-
-/// Bits 0 and 2 of seven.
-fn key_usage<A: Allocator + Copy>(alloc: A) -> Result<Extension<A>, AllocError> {
-    let mut usage = KeyUsage::new(alloc, 7)?;
-    usage.set_digital_signature(true)?;
-    usage.set_key_encipherment(true)?;
-    Extension::new_key_usage(alloc, usage)
-}
-
-/// 2.5.29.15 is critical.
-const KEY_USAGE: &[u8] = b"\x30\x0E\x06\x03\x55\x1D\x0F\x01\x01\xFF\x04\x04\x03\x02\x01\xA0";
+use x509_prim::UTCTime;
 
 /// The octets AA identify the subject's key.
 fn subject_key<A: Allocator + Copy>(alloc: A) -> Result<Extension<A>, AllocError> {
@@ -50,71 +35,18 @@ fn authority_key<A: Allocator + Copy>(alloc: A) -> Result<Extension<A>, AllocErr
 const AUTHORITY_KEY: &[u8] =
     b"\x30\x0F\x06\x03\x55\x1D\x23\x04\x08\x30\x06\x80\x01\xAA\x82\x01\x01";
 
-/// A text of characters that an IA5String may have.
-fn ia5<A: Allocator + Copy>(alloc: A, text: &[u8]) -> Result<Ia5StringAsn1<A>, AllocError> {
-    match Ia5String::from_bytes(Vec::from_slice(alloc, text)?) {
-        Ok(text) => Ok(Ia5StringAsn1::from(text)),
-        Err(_refused) => Err(AllocError),
-    }
-}
-
-/// The DNS name `b` is the key's issuer.
-fn authority_issuer<A: Allocator + Copy>(alloc: A) -> Result<Extension<A>, AllocError> {
-    let issuer = GeneralName::DnsName(ia5(alloc, b"b")?);
-    Extension::new_authority_key_identifier(alloc, None, Some(issuer), None)
-}
-
-/// The issuer stands in its explicit tag.
-const AUTHORITY_ISSUER: &[u8] = b"\x30\x0E\x06\x03\x55\x1D\x23\x04\x07\x30\x05\xA1\x03\x82\x01\x62";
-
 /// An authority with a path length of 3: 2.5.29.19 is critical.
 const CONSTRAINTS: &[u8] =
     b"\x30\x12\x06\x03\x55\x1D\x13\x01\x01\xFF\x04\x08\x30\x06\x01\x01\xFF\x02\x01\x03";
 
-/// An identifier of lawful arcs.
-fn identifier<A: Allocator + Copy>(
-    alloc: A,
-    arcs: &[u64],
-) -> Result<ObjectIdentifierAsn1<A>, AllocError> {
-    match ObjectIdentifier::from_arcs(alloc, arcs) {
-        Ok(value) => Ok(ObjectIdentifierAsn1(value)),
-        Err(OidError::OutOfMemory | OidError::Bad) => Err(AllocError),
-    }
-}
+/// A list of no purposes, which is critical.
+const NO_PURPOSES: &[u8] = b"\x30\x0C\x06\x03\x55\x1D\x25\x01\x01\xFF\x04\x02\x30\x00";
 
-/// The one purpose of these arcs.
-fn purpose<A: Allocator + Copy>(alloc: A, arcs: &[u64]) -> Result<Extension<A>, AllocError> {
-    let mut purposes = Vec::with_capacity(alloc, 1)?;
-    purposes.push(identifier(alloc, arcs)?)?;
-    Extension::new_extended_key_usage(alloc, ExtendedKeyUsage::new(purposes))
-}
+/// A list of no names of the subject, which is critical.
+const NO_SUBJECT_NAMES: &[u8] = b"\x30\x0C\x06\x03\x55\x1D\x11\x01\x01\xFF\x04\x02\x30\x00";
 
-/// The one DNS name `a`.
-fn dns_names<A: Allocator + Copy>(
-    alloc: A,
-) -> Result<Asn1SequenceOf<GeneralName<A>, A>, AllocError> {
-    let text = ia5(alloc, b"a")?;
-    let mut names = Vec::with_capacity(alloc, 1)?;
-    names.push(GeneralName::DnsName(text))?;
-    Ok(Asn1SequenceOf(names))
-}
-
-/// One name of the subject.
-fn subject_names<A: Allocator + Copy>(alloc: A) -> Result<Extension<A>, AllocError> {
-    Extension::new_subject_alt_name(alloc, dns_names(alloc)?)
-}
-
-/// Names of the subject are critical.
-const SUBJECT_NAMES: &[u8] =
-    b"\x30\x0F\x06\x03\x55\x1D\x11\x01\x01\xFF\x04\x05\x30\x03\x82\x01\x61";
-
-/// One name of the issuer.
-fn issuer_names<A: Allocator + Copy>(alloc: A) -> Result<Extension<A>, AllocError> {
-    Extension::new_issuer_alt_name(alloc, dns_names(alloc)?)
-}
-
-/// Names of the issuer aren't.
-const ISSUER_NAMES: &[u8] = b"\x30\x0C\x06\x03\x55\x1D\x12\x04\x05\x30\x03\x82\x01\x61";
+/// And of the issuer, which isn't.
+const NO_ISSUER_NAMES: &[u8] = b"\x30\x09\x06\x03\x55\x1D\x12\x04\x02\x30\x00";
 
 /// The number of a revocation list is 1.
 fn crl_number<A: Allocator + Copy>(alloc: A) -> Result<Extension<A>, AllocError> {
@@ -125,14 +57,10 @@ const CRL_NUMBER: &[u8] = b"\x30\x0A\x06\x03\x55\x1D\x14\x04\x03\x02\x01\x01";
 
 /// Each maker of keys and constraints gives what is stated, also where memory is refused.
 fn keys_are_made_over<A: Heap>(rt: &impl Abort, heap: A) {
-    let usage = in_turn!(heap, made_turn(key_usage(heap), KEY_USAGE));
-    is_so(rt, usage.is_some(), "key usage");
     let subject = in_turn!(heap, made_turn(subject_key(heap), SUBJECT_KEY));
     is_so(rt, subject.is_some(), "subject key");
     let authority = in_turn!(heap, made_turn(authority_key(heap), AUTHORITY_KEY));
     is_so(rt, authority.is_some(), "authority key");
-    let issuer = in_turn!(heap, made_turn(authority_issuer(heap), AUTHORITY_ISSUER));
-    is_so(rt, issuer.is_some(), "authority key by its issuer");
     let constraints = in_turn!(
         heap,
         made_turn(
@@ -149,32 +77,32 @@ fn keys_are_made(rt: HostRuntime) {
     keys_are_made_over(&rt, &heap);
 }
 
-/// Any purpose, 2.5.29.37.0, makes the extension not critical, and another one doesn't.
-fn purposes_are_made_over<A: Heap>(rt: &impl Abort, heap: A) {
-    let any = b"\x30\x0F\x06\x03\x55\x1D\x25\x04\x08\x30\x06\x06\x04\x55\x1D\x25\x00".as_slice();
-    let made = in_turn!(heap, made_turn(purpose(heap, &[2, 5, 29, 37, 0]), any));
-    is_so(rt, made.is_some(), "any purpose");
-    let server =
-        b"\x30\x16\x06\x03\x55\x1D\x25\x01\x01\xFF\x04\x0C\x30\x0A\x06\x08\x2B\x06\x01\x05\x05\x07\x03\x01".as_slice();
-    let made = in_turn!(
-        heap,
-        made_turn(purpose(heap, &[1, 3, 6, 1, 5, 5, 7, 3, 1]), server)
-    );
-    is_so(rt, made.is_some(), "a server's purpose");
-}
-
-#[test]
-fn purposes_are_made(rt: HostRuntime) {
-    let heap = Refusing::new(rt.alloc());
-    purposes_are_made_over(&rt, &heap);
-}
-
-/// The makers of names and numbers.
+/// The makers of purposes, names and numbers.
 fn names_are_made_over<A: Heap>(rt: &impl Abort, heap: A) {
-    let subject = in_turn!(heap, made_turn(subject_names(heap), SUBJECT_NAMES));
-    is_so(rt, subject.is_some(), "the subject's");
-    let issuer = in_turn!(heap, made_turn(issuer_names(heap), ISSUER_NAMES));
-    is_so(rt, issuer.is_some(), "the issuer's");
+    let purposes = in_turn!(
+        heap,
+        made_turn(
+            Extension::new_extended_key_usage(heap, ExtendedKeyUsage::new(Vec::new(heap))),
+            NO_PURPOSES,
+        )
+    );
+    same(rt, &purposes, &Some(0), "purposes");
+    let subject = in_turn!(
+        heap,
+        made_turn(
+            Extension::new_subject_alt_name(heap, Asn1SequenceOf(Vec::new(heap))),
+            NO_SUBJECT_NAMES,
+        )
+    );
+    same(rt, &subject, &Some(0), "the subject's");
+    let issuer = in_turn!(
+        heap,
+        made_turn(
+            Extension::new_issuer_alt_name(heap, Asn1SequenceOf(Vec::new(heap))),
+            NO_ISSUER_NAMES,
+        )
+    );
+    same(rt, &issuer, &Some(0), "the issuer's");
     let number = in_turn!(heap, made_turn(crl_number(heap), CRL_NUMBER));
     is_so(rt, number.is_some(), "a list's number");
 }
@@ -227,8 +155,8 @@ fn attributes_are_made_over<A: Heap>(rt: &impl Abort, heap: A) {
     is_so(rt, content.is_some(), "a content type");
     let time = in_turn!(heap, made_turn(signing_time(heap), SIGNING_TIME));
     is_so(rt, time.is_some(), "a time");
-    let digest = in_turn!(heap, made_turn(digest(heap), DIGEST));
-    is_so(rt, digest.is_some(), "a digest");
+    let made = in_turn!(heap, made_turn(digest(heap), DIGEST));
+    is_so(rt, made.is_some(), "a digest");
 }
 
 #[test]
@@ -237,25 +165,13 @@ fn attributes_are_made(rt: HostRuntime) {
     attributes_are_made_over(&rt, &heap);
 }
 
-/// How many requests a clone of the attribute's values by themselves makes.
-fn values_requests<A: Heap>(
-    rt: &impl Abort,
-    heap: A,
-    made: Result<Attribute<A>, AllocError>,
-) -> Option<u64> {
-    let attribute = granted(rt, made);
+/// Values by themselves are cloned by one request for their set, and octets by one more.
+fn values_are_cloned_over<A: Heap>(rt: &impl Abort, heap: A) {
+    let attribute = granted(rt, digest(heap));
     let values = &attribute.value;
     let requests = in_turn!(heap, clone_turn(values.clone(), values));
+    same(rt, &requests, &Some(2), "a digest");
     drop(attribute);
-    requests
-}
-
-/// Values are cloned by one request for their set, and octets by one more.
-fn values_are_cloned_over<A: Heap>(rt: &impl Abort, heap: A) {
-    let time = values_requests(rt, heap, signing_time(heap));
-    same(rt, &time, &Some(1), "a time");
-    let digest = values_requests(rt, heap, digest(heap));
-    same(rt, &digest, &Some(2), "a digest");
 }
 
 #[test]
@@ -269,23 +185,20 @@ const GENERIC: &[u8] = b"\x30\x0B\x06\x03\x55\x1D\x20\x04\x04\xDE\xAD\xBE\xEF";
 
 const CRITICAL: &[u8] = b"\x30\x0E\x06\x03\x55\x1D\x20\x01\x01\xFF\x04\x04\xDE\xAD\xBE\xEF";
 
-/// Whether the extension is critical is told, and changed with nothing else; no memory is asked for.
+/// Whether the extension is critical is told, and changed with nothing else, and its identifier is lent; no memory is
+/// asked for.
 fn critical_is_changed_over<A: Heap>(rt: &impl Abort, heap: A) {
     let mut extension = from_bytes::<Extension<A>, A>(heap, GENERIC).expect(rt, "an extension");
     heap.refuse_all();
     is_so(rt, !extension.critical(), "not critical");
     extension.set_critical(true);
-    is_so(
-        rt,
-        extension.critical() && is_written(&extension, CRITICAL),
-        "critical",
-    );
-    extension.set_critical(false);
+    is_so(rt, is_written(&extension, CRITICAL), "critical");
+    let extension = extension.into_non_critical();
     is_so(rt, is_written(&extension, GENERIC), "no more");
     let extension = extension.into_critical();
-    is_so(rt, is_written(&extension, CRITICAL), "critical again");
-    let extension = extension.into_non_critical();
-    is_so(rt, is_written(&extension, GENERIC), "no more again");
+    is_so(rt, extension.critical(), "critical again");
+    let is_policies = extension.extn_id().0.is_arcs(&[2, 5, 29, 32]);
+    is_so(rt, is_policies, "certificate policies");
     same(rt, &heap.requests(), &0, "requests");
     drop(extension);
 }
@@ -324,7 +237,10 @@ const VARIANTS: &[(u8, &[u8])] = &[
 /// The place of a variant, where what it lends is what stands in `VARIANTS`.
 fn place_of<A: Allocator>(view: ExtensionView<'_, A>) -> Option<u8> {
     let (place, is_right) = match view {
-        ExtensionView::AuthorityKeyIdentifier(key) => (0, key.authority_cert_issuer().is_none()),
+        ExtensionView::AuthorityKeyIdentifier(key) => {
+            let is_serial = key.authority_cert_serial_number().is_some();
+            (0, is_serial && key.authority_cert_issuer().is_none())
+        }
         ExtensionView::SubjectKeyIdentifier(key) => (1, key.0.len() == 1),
         ExtensionView::KeyUsage(usage) => (2, usage.key_encipherment()),
         ExtensionView::SubjectAltName(names) => (3, names.0.len() == 1),
@@ -357,25 +273,6 @@ fn values_are_lent(rt: HostRuntime) {
     for (place, bytes) in VARIANTS {
         is_lent(&rt, &heap, *place, *bytes);
     }
-}
-
-/// The identifier is lent.
-fn identifiers_are_lent_over<A: Heap>(rt: &impl Abort, heap: A) {
-    let extension = from_bytes::<Extension<A>, A>(heap, GENERIC).expect(rt, "an extension");
-    heap.refuse_all();
-    is_so(
-        rt,
-        extension.extn_id().0.is_arcs(&[2, 5, 29, 32]),
-        "certificate policies",
-    );
-    same(rt, &heap.requests(), &0, "requests");
-    drop(extension);
-}
-
-#[test]
-fn identifiers_are_lent(rt: HostRuntime) {
-    let heap = Refusing::new(rt.alloc());
-    identifiers_are_lent_over(&rt, &heap);
 }
 
 /// A list of the one extension that isn't known.

@@ -3,11 +3,9 @@
 use super::Heap;
 use super::checks::{is_so, is_written, same};
 use refusing::Refusing;
-use std::alloc::AllocError;
 use std::process::Abort;
-use x509_der::{Asn1RawDer, ObjectIdentifierAsn1, ToDer, from_bytes};
-use x509_names::{DirectoryString, GeneralName, Name, OtherName, Time, Validity, Version};
-use x509_oids_objects::user_principal_name;
+use x509_der::ToDer;
+use x509_names::{DirectoryString, GeneralName, Name, Time, Version};
 use x509_prim::{GeneralizedTime, GeneralizedTimeAsn1, UTCTime, UtcTimeAsn1, Utf8String};
 
 /// No request was made since all were refused, and the value is written as these bytes; none is refused any more.
@@ -23,22 +21,8 @@ fn directory_string<A: Heap>(rt: &impl Abort, heap: A, text: &str) -> DirectoryS
     DirectoryString::Utf8String(Utf8String::from(text))
 }
 
-/// A party `a`.
-fn parties_are_named_over<A: Heap>(rt: &impl Abort, heap: A) {
-    let party = directory_string(rt, heap, "a");
-    heap.refuse_all();
-    let name = GeneralName::new_edi_party_name(party, None);
-    is_made(rt, heap, name, b"\xA5\x05\xA1\x03\x0C\x01a");
-}
-
-#[test]
-fn parties_are_named(rt: HostRuntime) {
-    let heap = Refusing::new(rt.alloc());
-    parties_are_named_over(&rt, &heap);
-}
-
-/// A party `a`, which `b` named.
-fn parties_are_assigned_over<A: Heap>(rt: &impl Abort, heap: A) {
+/// A party `a`, which `b` named, and the empty name.
+fn names_are_made_over<A: Heap>(rt: &impl Abort, heap: A) {
     let party = directory_string(rt, heap, "a");
     let assigner = Some(directory_string(rt, heap, "b"));
     heap.refuse_all();
@@ -49,44 +33,15 @@ fn parties_are_assigned_over<A: Heap>(rt: &impl Abort, heap: A) {
         name,
         b"\xA5\x0A\xA0\x03\x0C\x01b\xA1\x03\x0C\x01a",
     );
-}
-
-#[test]
-fn parties_are_assigned(rt: HostRuntime) {
-    let heap = Refusing::new(rt.alloc());
-    parties_are_assigned_over(&rt, &heap);
-}
-
-/// The empty name.
-fn names_are_moved_over<A: Heap>(rt: &impl Abort, heap: A) {
-    let name = from_bytes::<Name<A>, A>(heap, b"\x30\x00").expect(rt, "a name");
     heap.refuse_all();
-    let general = GeneralName::from(name);
-    is_made(rt, heap, general, b"\xA4\x02\x30\x00");
+    let name = GeneralName::from(Name::new(heap));
+    is_made(rt, heap, name, b"\xA4\x02\x30\x00");
 }
 
 #[test]
-fn names_are_moved(rt: HostRuntime) {
+fn names_are_made(rt: HostRuntime) {
     let heap = Refusing::new(rt.alloc());
-    names_are_moved_over(&rt, &heap);
-}
-
-/// A user principal name, `a`, of its parts.
-fn other_names_are_made_over<A: Heap>(rt: &impl Abort, heap: A) {
-    let type_id = user_principal_name(heap).expect(rt, "memory");
-    let value = Vec::from_slice(heap, b"\x0C\x01a").expect(rt, "memory");
-    let value = Asn1RawDer::from_vec(value).expect(rt, "an element");
-    heap.refuse_all();
-    let type_id = ObjectIdentifierAsn1(type_id);
-    let name = GeneralName::OtherName(OtherName { type_id, value });
-    let stated = b"\xA0\x11\x06\x0A\x2B\x06\x01\x04\x01\x82\x37\x14\x02\x03\xA0\x03\x0C\x01a";
-    is_made(rt, heap, name, stated);
-}
-
-#[test]
-fn other_names_are_made(rt: HostRuntime) {
-    let heap = Refusing::new(rt.alloc());
-    other_names_are_made_over(&rt, &heap);
+    names_are_made_over(&rt, &heap);
 }
 
 /// 1950-01-01 00:00:00.
@@ -117,25 +72,6 @@ fn times_are_moved(rt: HostRuntime) {
     heap.refuse_all();
     let time = GeneralizedTimeAsn1::from(generalized_time(&rt));
     is_made(&rt, &heap, Time::from(time), GENERALIZED);
-}
-
-/// Whether it is an equal validity.
-fn is_copy(answer: Result<Validity, AllocError>, value: &Validity) -> bool {
-    match answer {
-        Ok(copy) => copy == *value,
-        Err(AllocError) => false,
-    }
-}
-
-#[test]
-fn validities_are_cloned(rt: HostRuntime) {
-    let validity = Validity {
-        not_before: Time::from(utc_time(&rt)),
-        not_after: Time::from(generalized_time(&rt)),
-    };
-    is_so(&rt, is_copy(validity.clone(), &validity), "a clone");
-    let stated = b"\x30\x20\x17\x0D500101000000Z\x18\x0F00000229000000Z";
-    is_so(&rt, is_written(&validity, stated), "the bytes");
 }
 
 /// Numbers and their versions.

@@ -1,36 +1,13 @@
-//! Lists and containers.
+//! Lists and containers under implicit tags.
 
 use super::Heap;
 use refusing::{Refusing, Turn, in_turn};
-use std::alloc::Global;
 use std::process::Abort;
 use x509_der::parts::{ContextConstructed, ContextPrimitive, OneTag, TagOf, Tagged};
 use x509_der::{
     Asn1SequenceOf, Asn1SetOf, BitStringAsn1Container, IntegerAsn1, OctetStringAsn1Container,
     ReadError, from_bytes,
 };
-
-#[test]
-fn items_of_sequences_are_as_stated(rt: HostRuntime) {
-    let bytes = [0x30, 6, 2, 1, 1, 2, 1, 2];
-    let list = from_bytes::<Asn1SequenceOf<u8>, Global>(rt.alloc(), &bytes).expect(&rt, "a value");
-    assert!(rt; list.0.as_slice() == [1u8, 2].as_slice());
-}
-
-#[test]
-fn items_of_sets_are_as_stated(rt: HostRuntime) {
-    let bytes = [0x31, 6, 2, 1, 2, 2, 1, 1];
-    let set = from_bytes::<Asn1SetOf<u8>, Global>(rt.alloc(), &bytes).expect(&rt, "a value");
-    assert!(rt; set.0.as_slice() == [2u8, 1].as_slice());
-}
-
-#[test]
-fn contained_values_are_as_stated(rt: HostRuntime) {
-    let octets = from_bytes::<OctetStringAsn1Container<u8>, Global>(rt.alloc(), &[4, 3, 2, 1, 5]);
-    assert!(rt; octets == Ok(OctetStringAsn1Container(5)));
-    let bits = from_bytes::<BitStringAsn1Container<u8>, Global>(rt.alloc(), &[3, 4, 0, 2, 1, 5]);
-    assert!(rt; bits == Ok(BitStringAsn1Container(5)));
-}
 
 /// What a run showed that should read this value under an implicit tag.
 fn content_turn<A: Heap, N: TagOf<T::Form> + Drop, T: OneTag<A> + PartialEq>(
@@ -57,20 +34,31 @@ fn content_is_read<A: Heap, N: TagOf<T::Form> + Drop, T: OneTag<A> + PartialEq>(
     assert!(rt; requests.is_some(), "{element:?}");
 }
 
+/// The test of this name, over any such allocator.
 fn contents_are_read_over<A: Heap>(rt: &impl Abort, heap: A) {
-    let list = [0x30, 6, 2, 1, 1, 2, 1, 2];
     content_is_read::<A, ContextConstructed<0>, Asn1SequenceOf<u8, A>>(
         rt,
         heap,
-        &list,
+        &[0x30, 6, 2, 1, 1, 2, 1, 2],
         &[0xA0, 6, 2, 1, 1, 2, 1, 2],
     );
-    let set = [0x31, 6, 2, 1, 2, 2, 1, 1];
     content_is_read::<A, ContextConstructed<0>, Asn1SetOf<u8, A>>(
         rt,
         heap,
-        &set,
+        &[0x31, 6, 2, 1, 2, 2, 1, 1],
         &[0xA0, 6, 2, 1, 2, 2, 1, 1],
+    );
+    content_is_read::<A, ContextPrimitive<0>, OctetStringAsn1Container<IntegerAsn1<A>>>(
+        rt,
+        heap,
+        &[4, 3, 2, 1, 5],
+        &[0x80, 3, 2, 1, 5],
+    );
+    content_is_read::<A, ContextPrimitive<0>, BitStringAsn1Container<IntegerAsn1<A>>>(
+        rt,
+        heap,
+        &[3, 4, 0, 2, 1, 5],
+        &[0x80, 4, 0, 2, 1, 5],
     );
 }
 
@@ -78,27 +66,4 @@ fn contents_are_read_over<A: Heap>(rt: &impl Abort, heap: A) {
 fn contents_are_read(rt: HostRuntime) {
     let heap = Refusing::new(rt.alloc());
     contents_are_read_over(&rt, &heap);
-}
-
-fn contents_of_containers_are_read_over<A: Heap>(rt: &impl Abort, heap: A) {
-    let octets = [4, 3, 2, 1, 5];
-    content_is_read::<A, ContextPrimitive<0>, OctetStringAsn1Container<IntegerAsn1<A>>>(
-        rt,
-        heap,
-        &octets,
-        &[0x80, 3, 2, 1, 5],
-    );
-    let bits = [3, 4, 0, 2, 1, 5];
-    content_is_read::<A, ContextPrimitive<0>, BitStringAsn1Container<IntegerAsn1<A>>>(
-        rt,
-        heap,
-        &bits,
-        &[0x80, 4, 0, 2, 1, 5],
-    );
-}
-
-#[test]
-fn contents_of_containers_are_read(rt: HostRuntime) {
-    let heap = Refusing::new(rt.alloc());
-    contents_of_containers_are_read_over(&rt, &heap);
 }

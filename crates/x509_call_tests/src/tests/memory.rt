@@ -1,7 +1,7 @@
 //! Makers and changes, with each request for memory refused in turn.
 
 use super::Heap;
-use super::checks::same;
+use super::checks::{made_turn, same};
 use refusing::{Refusing, Turn, in_turn};
 use std::alloc::{AllocError, Allocator};
 use std::process::Abort;
@@ -9,14 +9,6 @@ use x509_der::{
     BitString, IntegerAsn1, ObjectIdentifier, ObjectIdentifierAsn1, OidError, ReadError, from_bytes,
 };
 use x509_prim::BmpString;
-
-/// What a run of a maker showed.
-fn made_turn(is_right: Result<bool, AllocError>) -> Turn {
-    match is_right {
-        Ok(is_right) => Turn::right(is_right),
-        Err(AllocError) => Turn::Refused,
-    }
-}
 
 /// What a run showed that should make an identifier of these arcs.
 fn arcs_turn<A: Allocator>(answer: Result<ObjectIdentifier<A>, OidError>, arcs: &[u64]) -> Turn {
@@ -89,171 +81,81 @@ fn identifiers_are_read(rt: HostRuntime) {
     identifiers_are_read_over(&rt, &heap);
 }
 
-/// The bytes of a signed number are held as these.
-fn signed_is_right<A: Allocator + Copy>(
-    alloc: A,
-    given: &[u8],
-    held: &[u8],
-) -> Result<bool, AllocError> {
-    let number = IntegerAsn1::from_bytes_be_signed(Vec::from_slice(alloc, given)?)?;
-    Ok(number.as_bytes() == held)
+/// The integer of a signed number's bytes.
+fn signed<A: Allocator + Copy>(alloc: A, bytes: &[u8]) -> Result<IntegerAsn1<A>, AllocError> {
+    IntegerAsn1::from_bytes_be_signed(Vec::from_slice(alloc, bytes)?)
 }
 
-/// The bytes of a number without a sign are held as these.
-fn unsigned_is_right<A: Allocator + Copy>(
-    alloc: A,
-    given: &[u8],
-    held: &[u8],
-) -> Result<bool, AllocError> {
-    let number = IntegerAsn1::from_bytes_be_unsigned(Vec::from_slice(alloc, given)?)?;
-    Ok(number.as_bytes() == held)
+/// The integer of the bytes of a number without a sign.
+fn unsigned<A: Allocator + Copy>(alloc: A, bytes: &[u8]) -> Result<IntegerAsn1<A>, AllocError> {
+    IntegerAsn1::from_bytes_be_unsigned(Vec::from_slice(alloc, bytes)?)
 }
 
-/// How many requests the bytes of a signed number make.
-fn signed_requests<A: Heap>(heap: A, given: &[u8], held: &[u8]) -> Option<u64> {
-    in_turn!(heap, made_turn(signed_is_right(heap, given, held)))
-}
-
-/// How many requests the bytes of a number without a sign make.
-fn unsigned_requests<A: Heap>(heap: A, given: &[u8], held: &[u8]) -> Option<u64> {
-    in_turn!(heap, made_turn(unsigned_is_right(heap, given, held)))
-}
-
-/// Zero is one byte.
-fn zero_is_right<A: Allocator + Copy>(alloc: A) -> Result<bool, AllocError> {
-    let zero = IntegerAsn1::zero(alloc)?;
-    Ok(zero.as_bytes() == b"\x00".as_slice())
-}
-
-/// A padded number is kept in its own memory, which is the one request, and no bytes take one for the zero.
-fn signed_integers_are_made_over<A: Heap>(rt: &impl Abort, heap: A) {
-    let number = signed_requests(heap, b"\x00\x00\x80", b"\x00\x80");
-    same(rt, &number, &Some(1), "a padded number");
-    let zero = signed_requests(heap, b"", b"\x00");
-    same(rt, &zero, &Some(1), "no bytes");
-}
-
-#[test]
-fn signed_integers_are_made(rt: HostRuntime) {
-    let heap = Refusing::new(rt.alloc());
-    signed_integers_are_made_over(&rt, &heap);
-}
-
-/// A number whose top bit is set takes room for a zero byte.
-fn unsigned_integers_are_made_over<A: Heap>(rt: &impl Abort, heap: A) {
-    let number = unsigned_requests(heap, b"\x80\x00", b"\x00\x80\x00");
-    same(rt, &number, &Some(2), "a number whose top bit is set");
-    let zero = unsigned_requests(heap, b"", b"\x00");
-    same(rt, &zero, &Some(1), "no bytes");
-}
-
-#[test]
-fn unsigned_integers_are_made(rt: HostRuntime) {
-    let heap = Refusing::new(rt.alloc());
-    unsigned_integers_are_made_over(&rt, &heap);
-}
-
-/// The test of this name, over any such allocator.
-fn zero_is_made_over<A: Heap>(rt: &impl Abort, heap: A) {
-    let requests = in_turn!(heap, made_turn(zero_is_right(heap)));
-    same(rt, &requests, &Some(1), "requests");
-}
-
-#[test]
-fn zero_is_made(rt: HostRuntime) {
-    let heap = Refusing::new(rt.alloc());
-    zero_is_made_over(&rt, &heap);
-}
-
-/// The integer of a number is held as these bytes, and tells the number.
-fn natural_is_right<A: Allocator + Copy>(
-    alloc: A,
-    number: u64,
-    held: &[u8],
-) -> Result<bool, AllocError> {
-    let made = IntegerAsn1::from_u64(alloc, number)?;
-    Ok(made.as_bytes() == held && made.to_u64() == Some(number))
-}
-
-/// How many requests the integer of a number makes.
-fn natural_requests<A: Heap>(heap: A, number: u64, held: &[u8]) -> Option<u64> {
-    in_turn!(heap, made_turn(natural_is_right(heap, number, held)))
-}
-
-/// Numbers, and the contents of their integers.
+/// Numbers, and their integers.
 const NATURALS: &[(u64, &[u8])] = &[
-    (0, b"\x00"),
-    (127, b"\x7F"),
-    (128, b"\x00\x80"),
-    (255, b"\x00\xFF"),
-    (256, b"\x01\x00"),
-    (9223372036854775807, b"\x7F\xFF\xFF\xFF\xFF\xFF\xFF\xFF"),
-    (9223372036854775808, b"\x00\x80\x00\x00\x00\x00\x00\x00\x00"),
+    (0, b"\x02\x01\x00"),
+    (127, b"\x02\x01\x7F"),
+    (128, b"\x02\x02\x00\x80"),
+    (256, b"\x02\x02\x01\x00"),
     (
         18446744073709551615,
-        b"\x00\xFF\xFF\xFF\xFF\xFF\xFF\xFF\xFF",
+        b"\x02\x09\x00\xFF\xFF\xFF\xFF\xFF\xFF\xFF\xFF",
     ),
 ];
 
-/// The test of this name, over any such allocator.
-fn naturals_are_made_over<A: Heap>(rt: &impl Abort, heap: A) {
-    for (number, held) in NATURALS {
-        let requests = natural_requests(heap, *number, *held);
-        same(rt, &requests, &Some(1), "requests");
+/// A padded number is kept in its own memory, which is the one request; a number whose top bit is set takes room for a
+/// zero byte; other numbers take memory once.
+fn integers_are_made_over<A: Heap>(rt: &impl Abort, heap: A) {
+    let padded = b"\x02\x02\x00\x80";
+    let requests = in_turn!(heap, made_turn(signed(heap, b"\x00\x00\x80"), padded));
+    same(rt, &requests, &Some(1), "a padded number");
+    let large = b"\x02\x03\x00\x80\x00";
+    let requests = in_turn!(heap, made_turn(unsigned(heap, b"\x80\x00"), large));
+    same(rt, &requests, &Some(2), "a number whose top bit is set");
+    let requests = in_turn!(heap, made_turn(IntegerAsn1::zero(heap), b"\x02\x01\x00"));
+    same(rt, &requests, &Some(1), "zero");
+    for (number, element) in NATURALS {
+        let requests = in_turn!(
+            heap,
+            made_turn(IntegerAsn1::from_u64(heap, *number), *element)
+        );
+        same(rt, &requests, &Some(1), "a natural number");
     }
 }
 
 #[test]
-fn naturals_are_made(rt: HostRuntime) {
+fn integers_are_made(rt: HostRuntime) {
     let heap = Refusing::new(rt.alloc());
-    naturals_are_made_over(&rt, &heap);
+    integers_are_made_over(&rt, &heap);
 }
 
-/// So many bits, none of which is set.
-fn unset_bits_are_right<A: Allocator + Copy>(alloc: A) -> Result<bool, AllocError> {
-    let bits = BitString::with_len(alloc, 9)?;
-    Ok(bits.get_num_bits() == 9 && bits.payload_view() == b"\x00\x00".as_slice())
+/// What a run showed that should make bits of these bytes.
+fn bits_turn<A: Allocator>(made: Result<BitString<A>, AllocError>, bytes: &[u8]) -> Turn {
+    match made {
+        Ok(bits) => Turn::right(bits.payload_view() == bytes),
+        Err(AllocError) => Turn::Refused,
+    }
 }
 
-/// A byte of set bits that is made so many bits is held as these bytes.
-fn resized_is_right<A: Allocator + Copy>(
-    alloc: A,
-    bits: usize,
-    held: &[u8],
-) -> Result<bool, AllocError> {
-    let resized = BitString::with_bytes_and_len(Vec::from_slice(alloc, b"\xFF")?, bits)?;
-    Ok(resized.payload_view() == held)
+/// A byte of set bits that is made so many bits.
+fn resized<A: Allocator + Copy>(alloc: A, bits: usize) -> Result<BitString<A>, AllocError> {
+    BitString::with_bytes_and_len(Vec::from_slice(alloc, b"\xFF")?, bits)
 }
 
-/// How many requests that makes, with the byte's own.
-fn resized_requests<A: Heap>(heap: A, bits: usize, held: &[u8]) -> Option<u64> {
-    in_turn!(heap, made_turn(resized_is_right(heap, bits, held)))
-}
-
-/// The test of this name, over any such allocator.
+/// Bytes that are cut to bits stay in their own memory, and bits that are appended take more.
 fn bit_strings_are_made_over<A: Heap>(rt: &impl Abort, heap: A) {
-    let requests = in_turn!(heap, made_turn(unset_bits_are_right(heap)));
-    same(rt, &requests, &Some(1), "requests");
+    let requests = in_turn!(heap, bits_turn(BitString::with_len(heap, 9), b"\x00\x00"));
+    same(rt, &requests, &Some(1), "unset");
+    let requests = in_turn!(heap, bits_turn(resized(heap, 3), b"\xE0"));
+    same(rt, &requests, &Some(1), "cut");
+    let requests = in_turn!(heap, bits_turn(resized(heap, 12), b"\xFF\x00"));
+    same(rt, &requests, &Some(2), "grown");
 }
 
 #[test]
 fn bit_strings_are_made(rt: HostRuntime) {
     let heap = Refusing::new(rt.alloc());
     bit_strings_are_made_over(&rt, &heap);
-}
-
-/// Bytes that are cut to bits stay in their own memory, and bits that are appended take more.
-fn bit_strings_are_resized_over<A: Heap>(rt: &impl Abort, heap: A) {
-    let cut = resized_requests(heap, 3, b"\xE0");
-    same(rt, &cut, &Some(1), "cut");
-    let grown = resized_requests(heap, 12, b"\xFF\x00");
-    same(rt, &grown, &Some(2), "grown");
-}
-
-#[test]
-fn bit_strings_are_resized(rt: HostRuntime) {
-    let heap = Refusing::new(rt.alloc());
-    bit_strings_are_resized_over(&rt, &heap);
 }
 
 /// What a run showed in which a byte's bits should be grown, which stay as they were where memory is refused.

@@ -3,18 +3,15 @@
 use super::Heap;
 use super::checks::{is_so, same};
 use refusing::Refusing;
-use std::alloc::{AllocError, Allocator};
+use std::alloc::Allocator;
 use std::process::Abort;
 use x509_der::{
     Asn1RawDer, Asn1SequenceOf, Asn1SetOf, BitString, BitStringAsn1, BitStringAsn1Container,
     IntegerAsn1, ObjectIdentifier, ObjectIdentifierAsn1, OctetStringAsn1, OctetStringAsn1Container,
-    OidError,
+    ToDer,
 };
 use x509_keys::RawAlgorithmIdentifier;
-use x509_prim::{
-    BmpString, BmpStringAsn1, CharSetError, Ia5String, Ia5StringAsn1, PrintableString,
-    PrintableStringAsn1, Utf8String,
-};
+use x509_prim::{CharSetError, Ia5String, Ia5StringAsn1, Utf8String};
 
 /// The answer is the stated one, and no request was made since all were refused; none is refused any more.
 fn needs_none<A: Heap>(rt: &impl Abort, heap: A, what: &str, is_right: bool) {
@@ -57,25 +54,13 @@ fn identifiers_are_looked_at(rt: HostRuntime) {
     identifiers_are_looked_at_over(&rt, &heap);
 }
 
-/// The test of this name, over any such allocator.
-fn other_arcs_are_bad_over<A: Heap>(rt: &impl Abort, heap: A) {
-    heap.refuse_all();
-    let refused = ObjectIdentifier::from_arcs(heap, &[1, 40]).err();
-    needs_none(rt, heap, "1.40", refused == Some(OidError::Bad));
-}
-
-#[test]
-fn other_arcs_are_bad(rt: HostRuntime) {
-    let heap = Refusing::new(rt.alloc());
-    other_arcs_are_bad_over(&rt, &heap);
-}
-
 /// The bytes of 128 are taken as a content, and handed out as they are and without the sign.
 fn content_answers<A: Allocator>(bytes: Vec<u8, A>) -> bool {
     match IntegerAsn1::from_signed_content(bytes) {
         Ok(number) => {
             let is_held = number.as_bytes() == b"\x00\x80".as_slice();
-            is_held && number.as_unsigned_bytes_be() == b"\x80".as_slice()
+            let is_natural = number.as_unsigned_bytes_be() == b"\x80".as_slice();
+            is_held && is_natural && !number.is_negative()
         }
         Err(_back) => false,
     }
@@ -104,51 +89,13 @@ fn numbers_are_looked_at(rt: HostRuntime) {
     numbers_are_looked_at_over(&rt, &heap);
 }
 
-/// A number was made, and is held as these bytes.
-fn is_held<A: Allocator>(answer: Result<IntegerAsn1<A>, AllocError>, bytes: &[u8]) -> bool {
-    match answer {
-        Ok(number) => number.as_bytes() == bytes,
-        Err(AllocError) => false,
-    }
-}
-
-/// A number that is padded is made minimal in its own memory.
-fn numbers_are_cut_over<A: Heap>(rt: &impl Abort, heap: A) {
-    let signed = last_bytes(rt, heap, b"\xFF\xFF\x7F");
-    let number = IntegerAsn1::from_bytes_be_signed(signed);
-    needs_none(rt, heap, "a signed number", is_held(number, b"\xFF\x7F"));
-    let unsigned = last_bytes(rt, heap, b"\x00\x00\x7F");
-    let number = IntegerAsn1::from_bytes_be_unsigned(unsigned);
-    needs_none(
-        rt,
-        heap,
-        "a number without a sign",
-        is_held(number, b"\x7F"),
-    );
-}
-
-#[test]
-fn numbers_are_cut(rt: HostRuntime) {
-    let heap = Refusing::new(rt.alloc());
-    numbers_are_cut_over(&rt, &heap);
-}
-
 /// Wrapped and unwrapped, cut to twelve bits and changed, sixteen set bits answer as stated.
 fn bits_answer<A: Allocator + Copy>(bytes: Vec<u8, A>) -> bool {
     let mut bits = BitString::from(BitStringAsn1::from(BitString::with_bytes(bytes)));
-    let is_cut = bits.set_num_bits(12).is_ok();
-    is_cut && are_changed(&mut bits) && are_counted(&bits)
-}
-
-/// The first of twelve set bits is cleared, and there is none behind the last.
-fn are_changed<A: Allocator>(bits: &mut BitString<A>) -> bool {
-    bits.set(0, false) && bits.is_set(11) && !bits.set(12, true)
-}
-
-/// They are twelve bits, of which all but the first are set.
-fn are_counted<A: Allocator>(bits: &BitString<A>) -> bool {
-    let is_counted = bits.get_num_bits() == 12 && bits.get_num_unused_bits() == 4;
-    is_counted && bits.payload_view() == b"\x7F\xF0".as_slice()
+    let is_cut = bits.set_num_bits(12).is_ok() && bits.get_num_bits() == 12;
+    let is_set = bits.set(0, false) && bits.is_set(11) && !bits.set(12, true);
+    let is_held = bits.get_num_unused_bits() == 4 && bits.payload_view() == b"\x7F\xF0".as_slice();
+    is_cut && is_set && is_held
 }
 
 /// The test of this name, over any such allocator.
@@ -163,18 +110,23 @@ fn bits_are_cut_and_set(rt: HostRuntime) {
     bits_are_cut_and_set_over(&rt, &heap);
 }
 
-/// NULL is taken as an element.
-fn null_is_taken<A: Allocator + Copy>(bytes: Vec<u8, A>) -> bool {
+/// NULL is taken as an element, and held as no parameters of an algorithm.
+fn null_is_taken<A: Allocator + Copy>(algorithm: ObjectIdentifier<A>, bytes: Vec<u8, A>) -> bool {
     match Asn1RawDer::from_vec(bytes) {
-        Ok(element) => element.as_bytes() == b"\x05\x00".as_slice(),
+        Ok(element) => {
+            let is_null = element.as_bytes() == b"\x05\x00".as_slice();
+            let value = RawAlgorithmIdentifier::from_parts(algorithm, Some(element));
+            is_null && value.parameters().is_none() && value.algorithm().is_arcs(&[2, 5, 4, 3])
+        }
         Err(_back) => false,
     }
 }
 
 /// The test of this name, over any such allocator.
 fn raw_elements_are_taken_or_handed_back_over<A: Heap>(rt: &impl Abort, heap: A) {
+    let algorithm = ObjectIdentifier::from_arcs(heap, &[2, 5, 4, 3]).expect(rt, "lawful arcs");
     let one = last_bytes(rt, heap, b"\x05\x00");
-    needs_none(rt, heap, "one element", null_is_taken(one));
+    needs_none(rt, heap, "one element", null_is_taken(algorithm, one));
     let two = last_bytes(rt, heap, b"\x05\x00\x05\x00");
     let refused = Asn1RawDer::from_vec(two);
     needs_none(
@@ -189,47 +141,6 @@ fn raw_elements_are_taken_or_handed_back_over<A: Heap>(rt: &impl Abort, heap: A)
 fn raw_elements_are_taken_or_handed_back(rt: HostRuntime) {
     let heap = Refusing::new(rt.alloc());
     raw_elements_are_taken_or_handed_back_over(&rt, &heap);
-}
-
-/// The element that the bytes are, which must be one unless there are none; from here on each request is refused.
-fn last_element<A: Heap>(rt: &impl Abort, heap: A, bytes: &[u8]) -> Option<Asn1RawDer<A>> {
-    let element = Asn1RawDer::from_vec(last_bytes(rt, heap, bytes)).ok();
-    is_so(rt, element.is_none() == bytes.is_empty(), "an element");
-    element
-}
-
-/// The algorithm is 2.5.4.3, with these parameters.
-fn is_held_with<A: Allocator>(
-    value: &RawAlgorithmIdentifier<A>,
-    parameters: Option<&[u8]>,
-) -> bool {
-    let is_right = match (value.parameters(), parameters) {
-        (Some(element), Some(bytes)) => element.as_bytes() == bytes,
-        (None, None) => true,
-        _ => false,
-    };
-    is_right && value.algorithm().is_arcs(&[2, 5, 4, 3])
-}
-
-/// What is put together of 2.5.4.3 and an element, or of no bytes none, has these parameters; NULL is held as none.
-fn is_put_together<A: Heap>(rt: &impl Abort, heap: A, bytes: &[u8], parameters: Option<&[u8]>) {
-    let algorithm = ObjectIdentifier::from_arcs(heap, &[2, 5, 4, 3]).expect(rt, "lawful arcs");
-    let element = last_element(rt, heap, bytes);
-    let value = RawAlgorithmIdentifier::from_parts(algorithm, element);
-    needs_none(rt, heap, "parameters", is_held_with(&value, parameters));
-}
-
-/// The test of this name, over any such allocator.
-fn algorithms_are_put_together_over<A: Heap>(rt: &impl Abort, heap: A) {
-    is_put_together(rt, heap, b"", None);
-    is_put_together(rt, heap, b"\x05\x00", None);
-    is_put_together(rt, heap, b"\x0C\x01a", Some(b"\x0C\x01a"));
-}
-
-#[test]
-fn algorithms_are_put_together(rt: HostRuntime) {
-    let heap = Refusing::new(rt.alloc());
-    algorithms_are_put_together_over(&rt, &heap);
 }
 
 /// The bytes stay through each type that they are wrapped in.
@@ -254,86 +165,6 @@ fn values_are_wrapped(rt: HostRuntime) {
     values_are_wrapped_over(&rt, &heap);
 }
 
-/// The letter a is printable, and its byte is moved out of the wrapped string.
-fn printable_answers<A: Allocator + Copy>(made: Result<PrintableString<A>, CharSetError>) -> bool {
-    match made {
-        Ok(string) => {
-            let bytes = PrintableStringAsn1::from(string).into_bytes();
-            bytes.as_slice() == b"a".as_slice()
-        }
-        Err(_other) => false,
-    }
-}
-
-/// The test of this name, over any such allocator.
-fn printable_strings_are_made_over<A: Heap>(rt: &impl Abort, heap: A) {
-    let made = PrintableString::from_string(last_text(rt, heap, "a"));
-    needs_none(rt, heap, "a text", printable_answers(made));
-    let made = PrintableString::from_bytes(last_bytes(rt, heap, b"a"));
-    needs_none(rt, heap, "bytes", printable_answers(made));
-    let star = PrintableString::from_string(last_text(rt, heap, "a*"));
-    needs_none(rt, heap, "a text with a star", star.is_err());
-    let star = PrintableString::from_bytes(last_bytes(rt, heap, b"a*"));
-    needs_none(rt, heap, "bytes with a star", star.is_err());
-}
-
-#[test]
-fn printable_strings_are_made(rt: HostRuntime) {
-    let heap = Refusing::new(rt.alloc());
-    printable_strings_are_made_over(&rt, &heap);
-}
-
-/// An asterisk is a character of IA5, and the same when it is wrapped and unwrapped.
-fn ia5_answers<A: Allocator + Copy>(made: Result<Ia5String<A>, CharSetError>) -> bool {
-    match made {
-        Ok(string) => {
-            let string = Ia5String::from(Ia5StringAsn1::from(string));
-            string.as_bytes() == b"a*".as_slice()
-        }
-        Err(_other) => false,
-    }
-}
-
-/// The test of this name, over any such allocator.
-fn ia5_strings_are_made_over<A: Heap>(rt: &impl Abort, heap: A) {
-    let made = Ia5String::from_string(last_text(rt, heap, "a*"));
-    needs_none(rt, heap, "a text", ia5_answers(made));
-    let made = Ia5String::from_bytes(last_bytes(rt, heap, b"a*"));
-    needs_none(rt, heap, "bytes", ia5_answers(made));
-    let accent = Ia5String::from_string(last_text(rt, heap, "\u{E9}"));
-    needs_none(rt, heap, "a text with an accent", accent.is_err());
-    let accent = Ia5String::from_bytes(last_bytes(rt, heap, b"\xC3\xA9"));
-    needs_none(rt, heap, "bytes with an accent", accent.is_err());
-}
-
-#[test]
-fn ia5_strings_are_made(rt: HostRuntime) {
-    let heap = Refusing::new(rt.alloc());
-    ia5_strings_are_made_over(&rt, &heap);
-}
-
-/// Half of a pair is kept, and the same when it is wrapped.
-fn units_answer<A: Allocator + Copy>(made: Result<BmpString<A>, CharSetError>) -> bool {
-    match made {
-        Ok(string) => BmpStringAsn1::from(string).as_bytes() == b"\xD8\x3D".as_slice(),
-        Err(_other) => false,
-    }
-}
-
-/// The test of this name, over any such allocator.
-fn bmp_strings_are_made_over<A: Heap>(rt: &impl Abort, heap: A) {
-    let made = BmpString::from_bytes(last_bytes(rt, heap, b"\xD8\x3D"));
-    needs_none(rt, heap, "half of a pair", units_answer(made));
-    let odd = BmpString::from_bytes(last_bytes(rt, heap, b"abc"));
-    needs_none(rt, heap, "an odd byte", odd.is_err());
-}
-
-#[test]
-fn bmp_strings_are_made(rt: HostRuntime) {
-    let heap = Refusing::new(rt.alloc());
-    bmp_strings_are_made_over(&rt, &heap);
-}
-
 /// A text is a UTF-8 string, and comes back from it.
 fn text_answers<A: Allocator + Copy>(text: String<A>) -> bool {
     let string = Utf8String::from(text);
@@ -341,14 +172,47 @@ fn text_answers<A: Allocator + Copy>(text: String<A>) -> bool {
     is_same && String::from(string).as_str() == "*\u{E9}"
 }
 
+/// An asterisk is a character of IA5, and the same when it is wrapped and unwrapped.
+fn ia5_answers<A: Allocator + Copy>(made: Result<Ia5String<A>, CharSetError>) -> bool {
+    match made {
+        Ok(string) => {
+            let string = Ia5String::from(Ia5StringAsn1::from(string));
+            let bytes = Ia5StringAsn1::from(string).into_bytes();
+            bytes.as_slice() == b"a*".as_slice()
+        }
+        Err(_other) => false,
+    }
+}
+
 /// The test of this name, over any such allocator.
-fn utf8_strings_are_made_over<A: Heap>(rt: &impl Abort, heap: A) {
+fn strings_are_made_over<A: Heap>(rt: &impl Abort, heap: A) {
     let text = last_text(rt, heap, "*\u{E9}");
     needs_none(rt, heap, "a text", text_answers(text));
+    let made = Ia5String::from_string(last_text(rt, heap, "a*"));
+    needs_none(rt, heap, "a text of IA5", ia5_answers(made));
+    let made = Ia5String::from_bytes(last_bytes(rt, heap, b"a*"));
+    needs_none(rt, heap, "bytes", ia5_answers(made));
+    let accent = Ia5String::from_bytes(last_bytes(rt, heap, b"\xC3\xA9"));
+    needs_none(rt, heap, "bytes with an accent", accent.is_err());
 }
 
 #[test]
-fn utf8_strings_are_made(rt: HostRuntime) {
+fn strings_are_made(rt: HostRuntime) {
     let heap = Refusing::new(rt.alloc());
-    utf8_strings_are_made_over(&rt, &heap);
+    strings_are_made_over(&rt, &heap);
+}
+
+/// Fills the front of a slice with a value's DER encoding, if it fits.
+fn filled<T: ToDer>(value: &T, room: &mut [u8]) -> Option<usize> {
+    match value.encoded_len() {
+        Ok(len) if len <= room.len() => Some(value.write(room)),
+        _ => None,
+    }
+}
+
+#[test]
+fn values_are_written_to_the_front(rt: HostRuntime) {
+    let mut room: [u8; 5] = [7; 5];
+    assert!(rt; filled(&true, &mut room) == Some(3));
+    assert!(rt; room == [1, 1, 0xff, 7, 7]);
 }

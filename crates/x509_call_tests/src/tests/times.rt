@@ -1,7 +1,6 @@
 //! Times.
 
 use super::checks::{bytes_of, is_so, same, same_bytes};
-use refusing::Refusing;
 use std::alloc::Global;
 use x509_der::{from_bytes, to_vec};
 use x509_prim::{GeneralizedTime, GeneralizedTimeAsn1, UTCTime, UtcTimeAsn1};
@@ -43,7 +42,8 @@ fn utc_times(rt: HostRuntime) {
     for (spelling, numbers) in UTC_TIMES {
         let bytes = bytes_of(&rt, alloc, *spelling);
         let read = from_bytes::<UtcTimeAsn1, Global>(alloc, &bytes).expect(&rt, "a time");
-        same(&rt, &numbers_of_utc(&read.0), numbers, *spelling);
+        let copy = UTCTime::from(read.clone().expect(&rt, "memory"));
+        same(&rt, &numbers_of_utc(&copy), numbers, *spelling);
         let made = UtcTimeAsn1::from(utc_time(*numbers).expect(&rt, "a time"));
         let written = to_vec(alloc, &made).expect(&rt, "memory");
         same_bytes(&rt, &written, &bytes, *spelling);
@@ -99,91 +99,11 @@ fn generalized_times(rt: HostRuntime) {
     for (spelling, numbers) in GENERALIZED_TIMES {
         let bytes = bytes_of(&rt, alloc, *spelling);
         let read = from_bytes::<GeneralizedTimeAsn1, Global>(alloc, &bytes).expect(&rt, "a time");
-        same(&rt, &numbers_of_generalized(&read.0), numbers, *spelling);
+        let copy = GeneralizedTime::from(read.clone().expect(&rt, "memory"));
+        same(&rt, &numbers_of_generalized(&copy), numbers, *spelling);
         let made = GeneralizedTimeAsn1::from(generalized_time(*numbers).expect(&rt, "a time"));
         let written = to_vec(alloc, &made).expect(&rt, "memory");
         same_bytes(&rt, &written, &bytes, *spelling);
         is_so(&rt, read == made, *spelling);
     }
-}
-
-/// Numbers that no UTCTime has.
-const NO_UTC_TIMES: &[Numbers] = &[
-    (1949, 12, 31, 23, 59, 59),
-    (2050, 1, 1, 0, 0, 0),
-    (2019, 2, 29, 0, 0, 0),
-    (2019, 0, 1, 0, 0, 0),
-    (2019, 1, 0, 0, 0, 0),
-    (2019, 255, 255, 0, 0, 0),
-    (2019, 1, 1, 24, 0, 0),
-    (2019, 1, 1, 0, 60, 0),
-    (2019, 1, 1, 0, 0, 60),
-];
-
-#[test]
-fn utc_times_are_made_of_lawful_numbers(rt: HostRuntime) {
-    for numbers in NO_UTC_TIMES {
-        assert!(rt; utc_time(*numbers).is_none(), "{numbers:?}");
-    }
-}
-
-/// Numbers that no GeneralizedTime has.
-const NO_GENERALIZED_TIMES: &[Numbers] = &[
-    (10000, 1, 1, 0, 0, 0),
-    (65535, 1, 1, 0, 0, 0),
-    (1900, 2, 29, 0, 0, 0),
-    (2019, 4, 31, 0, 0, 0),
-    (2019, 13, 1, 0, 0, 0),
-    (2019, 1, 32, 0, 0, 0),
-    (2019, 1, 1, 24, 0, 0),
-    (2019, 1, 1, 0, 60, 0),
-    (2019, 1, 1, 0, 0, 60),
-];
-
-#[test]
-fn generalized_times_are_made_of_lawful_numbers(rt: HostRuntime) {
-    for numbers in NO_GENERALIZED_TIMES {
-        assert!(rt; generalized_time(*numbers).is_none(), "{numbers:?}");
-    }
-}
-
-/// A second, and the next.
-const SECONDS: (Numbers, Numbers) = ((2000, 2, 29, 0, 0, 0), (2000, 2, 29, 0, 0, 1));
-
-/// No request is made: none of these calls has an allocator to ask.
-#[test]
-fn utc_times_are_wrapped(rt: HostRuntime) {
-    let heap = Refusing::new(rt.alloc());
-    heap.refuse_all();
-    let time = utc_time(SECONDS.0).expect(&rt, "a time");
-    let time = UTCTime::from(UtcTimeAsn1::from(time));
-    same(&rt, &numbers_of_utc(&time), &SECONDS.0, "numbers");
-    same(&rt, &heap.requests(), &0, "requests");
-}
-
-/// No request is made: none of these calls has an allocator to ask.
-#[test]
-fn generalized_times_are_wrapped(rt: HostRuntime) {
-    let heap = Refusing::new(rt.alloc());
-    heap.refuse_all();
-    let time = generalized_time(SECONDS.0).expect(&rt, "a time");
-    let time = GeneralizedTime::from(GeneralizedTimeAsn1::from(time));
-    same(&rt, &numbers_of_generalized(&time), &SECONDS.0, "numbers");
-    same(&rt, &heap.requests(), &0, "requests");
-}
-
-#[test]
-fn utc_times_are_cloned_and_compared(rt: HostRuntime) {
-    let time = utc_time(SECONDS.0).expect(&rt, "a time");
-    let next = utc_time(SECONDS.1).expect(&rt, "a time");
-    let copy = time.clone().expect(&rt, "memory");
-    is_so(&rt, copy == time && time != next, "compared");
-}
-
-#[test]
-fn generalized_times_are_cloned_and_compared(rt: HostRuntime) {
-    let time = generalized_time(SECONDS.0).expect(&rt, "a time");
-    let next = generalized_time(SECONDS.1).expect(&rt, "a time");
-    let copy = time.clone().expect(&rt, "memory");
-    is_so(&rt, copy == time && time != next, "compared");
 }
