@@ -6,8 +6,13 @@ usage: tools/rt_ci.py
 rt ci gives each check one processor while others wait for one, so the longest chain of crates, one above the other, takes longer
 than all other work. Here the check that has most of that chain behind it gets as many jobs as there are processors, and one of a
 chain that is nearly as long half as many. The others are nicer. Beside the first run one fewer than there are processors, or than
-RT_JOBS says. What is checked, and how, is rt's own: its command is run in this process, with one function of it, the one that
-orders the checks, in another form. Where a toolchain's rt has no such function, it is run as it is.
+RT_JOBS says.
+
+rt also computes the checksum of all that a library is made of, twice for each, and that of a crate by those of each crate that it
+lists, which lists others: over this repository's crates that is 90,000 crates, in one thread. Here a crate is read once a question.
+
+What is checked, and how, is rt's own: its command is run in this process, with these two functions of it in another form. Where a
+toolchain's rt has no such functions, it is run as it is.
 """
 
 import importlib.machinery
@@ -104,10 +109,16 @@ def in_lanes(plan):
     return given
 
 
+def takes(owner, name, parameters):
+    """Whether an owner has a function with these parameters."""
+    function = getattr(owner, name, None)
+    return callable(function) and [*inspect.signature(function).parameters] == parameters
+
+
 def is_known(rt):
-    """Whether rt orders its checks by the function that is meant here."""
+    """Whether rt has the functions that are meant here."""
     wanted = {"in_lanes": ["tasks"], "processors": [], "free": [], "main": ["words"]}
-    return all(callable(getattr(rt, it, None)) and [*inspect.signature(getattr(rt, it)).parameters] == wanted[it] for it in wanted)
+    return all(takes(rt, name, parameters) for name, parameters in wanted.items()) and takes(rt.rtlib.Crate, "stamp", ["self"])
 
 
 def load(path):
@@ -133,6 +144,24 @@ def order(rt):
     rt.in_lanes = by_chain
 
 
+def remember(crates):
+    """Has the checksum of what a crate is made of asked once of each crate below it."""
+    by_rt, asked = crates.stamp, threading.local()
+
+    def stamp(crate):
+        if getattr(asked, "sums", None) is None:
+            asked.sums = {}
+            try:
+                return stamp(crate)
+            finally:
+                asked.sums = None
+        if crate.folder not in asked.sums:
+            asked.sums[crate.folder] = by_rt(crate)
+        return asked.sums[crate.folder]
+
+    crates.stamp = stamp
+
+
 def main():
     path = shutil.which("rt")
     if not path:
@@ -144,6 +173,7 @@ def main():
     except (Exception, SystemExit):  # (whatever another rt may be)
         os.execv(path, [path, "ci"])
     order(rt)
+    remember(rt.rtlib.Crate)
     return rt.main(["ci"])
 
 

@@ -26,6 +26,12 @@ if __name__ == "__main__":
 ORDERED = """import sys
 
 
+class rtlib:
+    class Crate:
+        def stamp(self):
+            pass
+
+
 def processors():
     return 2
 
@@ -146,6 +152,35 @@ class OrderTest(unittest.TestCase):
         with self.assertRaises(SystemExit) as raised:
             tasks.run()
         self.assertEqual(raised.exception.code, 5)
+
+
+class Crate:
+    """A crate as rt has it, which counts how often it is read."""
+
+    read = 0
+
+    def __init__(self, folder, deps):
+        self.folder, self.deps = folder, deps
+
+    def stamp(self):
+        Crate.read += 1
+        return f"{self.folder}({','.join(it.stamp() for it in self.deps)})"
+
+
+class SumTest(unittest.TestCase):
+    def test_each_crate_is_read_once_a_question(self):
+        class Remembered(Crate):
+            pass
+
+        rt_ci.remember(Remembered)
+        for kind, times in ((Crate, 8), (Remembered, 4)):
+            low = kind("low", [])
+            left, right = kind("left", [low]), kind("right", [low])
+            top = kind("top", [left, right, low, left])
+            for _ in range(2):
+                Crate.read = 0
+                self.assertEqual(top.stamp(), "top(left(low()),right(low()),low(),left(low()))")
+                self.assertEqual(Crate.read, times)
 
 
 class CommandTest(unittest.TestCase):
