@@ -14,10 +14,10 @@
  * - What is written may overlap neither the input nor anything else that the call is given.
  * - Nothing is kept between calls, so any number of threads may call at once, each with memory of its own.
  * - A call never calls malloc. Calls that only look take no memory: cimaroly_check works in less than 2 KB of the stack,
- *   whatever the size of the input. Calls that make, cimaroly_encode, cimaroly_findings, cimaroly_report and, if the
- *   input has deviations, cimaroly_places work in memory that they are lent (struct cimaroly_memory), which is the
- *   caller's again when they return. Where the environment is hosted, their forms whose names end in _malloc take what
- *   is needed from malloc, ask for more if it was too little, and free it.
+ *   whatever the size of the input. Calls that make, cimaroly_encode, cimaroly_findings, cimaroly_request_findings,
+ *   cimaroly_report and, if the input has deviations, cimaroly_places work in memory that they are lent (struct
+ *   cimaroly_memory), which is the caller's again when they return. Where the environment is hosted, their forms whose
+ *   names end in _malloc take what is needed from malloc, ask for more if it was too little, and free it.
  * - A result, a size or a count is written whatever the status, and is all zeros unless stated otherwise. A buffer is
  *   written with CIMAROLY_OK alone; with every other status it is unchanged, unless stated otherwise.
  * - Places count bytes of the input from 0. A span covers the bytes start..end, without the one at end.
@@ -120,66 +120,70 @@ enum cimaroly_rule {
     CIMAROLY_RULE_SERIAL_NOT_POSITIVE = 1,
     CIMAROLY_RULE_SERIAL_TOO_LONG = 2,
     CIMAROLY_RULE_ALGORITHMS_DIFFER = 3,
-    CIMAROLY_RULE_ISSUER_EMPTY = 4,
-    CIMAROLY_RULE_ISSUER_SET_EMPTY = 5,
-    CIMAROLY_RULE_ISSUER_TEXT_EMPTY = 6,
-    CIMAROLY_RULE_ISSUER_TEXT_LONG = 7,
-    CIMAROLY_RULE_ISSUER_COUNTRY = 8,
-    CIMAROLY_RULE_ISSUER_STRING_TYPE = 9,
-    CIMAROLY_RULE_VALIDITY_REVERSED = 10,
-    CIMAROLY_RULE_NOT_BEFORE_FORM = 11,
-    CIMAROLY_RULE_NOT_AFTER_FORM = 12,
-    CIMAROLY_RULE_SUBJECT_EMPTY = 13,
-    CIMAROLY_RULE_AUTHORITY_UNNAMED = 14,
-    CIMAROLY_RULE_SUBJECT_SET_EMPTY = 15,
-    CIMAROLY_RULE_SUBJECT_TEXT_EMPTY = 16,
-    CIMAROLY_RULE_SUBJECT_TEXT_LONG = 17,
-    CIMAROLY_RULE_SUBJECT_COUNTRY = 18,
-    CIMAROLY_RULE_SUBJECT_STRING_TYPE = 19,
-    CIMAROLY_RULE_SUBJECT_MAILBOX_UNNAMED = 20,
-    CIMAROLY_RULE_MODULUS_NOT_POSITIVE = 21,
-    CIMAROLY_RULE_MODULUS_EVEN = 22,
-    CIMAROLY_RULE_MODULUS_SHORT = 23,
-    CIMAROLY_RULE_EXPONENT_LOW = 24,
-    CIMAROLY_RULE_EXPONENT_EVEN = 25,
-    CIMAROLY_RULE_ISSUER_UNIQUE_ID = 26,
-    CIMAROLY_RULE_SUBJECT_UNIQUE_ID = 27,
-    CIMAROLY_RULE_CRITICAL_UNKNOWN = 28,
-    CIMAROLY_RULE_AUTHORITY_KEY_CRITICAL = 29,
-    CIMAROLY_RULE_AUTHORITY_KEY_MISSING = 30,
-    CIMAROLY_RULE_AUTHORITY_KEY_PARTIAL = 31,
-    CIMAROLY_RULE_SUBJECT_KEY_CRITICAL = 32,
-    CIMAROLY_RULE_SUBJECT_KEY_MISSING = 33,
-    CIMAROLY_RULE_KEY_USAGE_EMPTY = 34,
-    CIMAROLY_RULE_KEY_USAGE_PADDED = 35,
-    CIMAROLY_RULE_KEY_USAGE_NOT_CRITICAL = 36,
-    CIMAROLY_RULE_SIGNING_WITHOUT_AUTHORITY = 37,
-    CIMAROLY_RULE_AUTHORITY_WITHOUT_SIGNING = 38,
-    CIMAROLY_RULE_POLICY_MAPPINGS_NOT_CRITICAL = 39,
-    CIMAROLY_RULE_SUBJECT_NAMES_EMPTY = 40,
-    CIMAROLY_RULE_SUBJECT_NAMES_CRITICAL = 41,
-    CIMAROLY_RULE_ALTERNATIVE_NAME_EMPTY = 42,
-    CIMAROLY_RULE_ADDRESS_LENGTH = 43,
-    CIMAROLY_RULE_MAILBOX_WITHOUT_AT = 44,
-    CIMAROLY_RULE_HOST_NAME = 45,
-    CIMAROLY_RULE_URI_WITHOUT_SCHEME = 46,
-    CIMAROLY_RULE_ISSUER_NAMES_EMPTY = 47,
-    CIMAROLY_RULE_ISSUER_NAMES_CRITICAL = 48,
-    CIMAROLY_RULE_DIRECTORY_ATTRIBUTES_CRITICAL = 49,
-    CIMAROLY_RULE_AUTHORITY_NOT_CRITICAL = 50,
-    CIMAROLY_RULE_PATH_LENGTH_IDLE = 51,
-    CIMAROLY_RULE_PATH_LENGTH_WITHOUT_SIGNING = 52,
-    CIMAROLY_RULE_AUTHORITY_DEFAULT_SPELLED = 53,
-    CIMAROLY_RULE_NAME_CONSTRAINTS_NOT_CRITICAL = 54,
-    CIMAROLY_RULE_NAME_CONSTRAINTS_WITHOUT_AUTHORITY = 55,
-    CIMAROLY_RULE_POLICY_CONSTRAINTS_NOT_CRITICAL = 56,
-    CIMAROLY_RULE_PURPOSES_EMPTY = 57,
-    CIMAROLY_RULE_ANY_PURPOSE_CRITICAL = 58,
-    CIMAROLY_RULE_REVOCATION_POINTS_CRITICAL = 59,
-    CIMAROLY_RULE_ANY_POLICY_NOT_CRITICAL = 60,
-    CIMAROLY_RULE_FRESHEST_LIST_CRITICAL = 61,
-    CIMAROLY_RULE_AUTHORITY_ACCESS_CRITICAL = 62,
-    CIMAROLY_RULE_SUBJECT_ACCESS_CRITICAL = 63
+    CIMAROLY_RULE_SALT_LENGTH_SPELLED = 4,
+    CIMAROLY_RULE_ISSUER_EMPTY = 5,
+    CIMAROLY_RULE_ISSUER_SET_EMPTY = 6,
+    CIMAROLY_RULE_ISSUER_SET_ORDER = 7,
+    CIMAROLY_RULE_ISSUER_TEXT_EMPTY = 8,
+    CIMAROLY_RULE_ISSUER_TEXT_LONG = 9,
+    CIMAROLY_RULE_ISSUER_COUNTRY = 10,
+    CIMAROLY_RULE_ISSUER_STRING_TYPE = 11,
+    CIMAROLY_RULE_VALIDITY_REVERSED = 12,
+    CIMAROLY_RULE_NOT_BEFORE_FORM = 13,
+    CIMAROLY_RULE_NOT_AFTER_FORM = 14,
+    CIMAROLY_RULE_SUBJECT_EMPTY = 15,
+    CIMAROLY_RULE_AUTHORITY_UNNAMED = 16,
+    CIMAROLY_RULE_SUBJECT_SET_EMPTY = 17,
+    CIMAROLY_RULE_SUBJECT_SET_ORDER = 18,
+    CIMAROLY_RULE_SUBJECT_TEXT_EMPTY = 19,
+    CIMAROLY_RULE_SUBJECT_TEXT_LONG = 20,
+    CIMAROLY_RULE_SUBJECT_COUNTRY = 21,
+    CIMAROLY_RULE_SUBJECT_STRING_TYPE = 22,
+    CIMAROLY_RULE_SUBJECT_MAILBOX_UNNAMED = 23,
+    CIMAROLY_RULE_MODULUS_NOT_POSITIVE = 24,
+    CIMAROLY_RULE_MODULUS_EVEN = 25,
+    CIMAROLY_RULE_MODULUS_SHORT = 26,
+    CIMAROLY_RULE_EXPONENT_LOW = 27,
+    CIMAROLY_RULE_EXPONENT_EVEN = 28,
+    CIMAROLY_RULE_ISSUER_UNIQUE_ID = 29,
+    CIMAROLY_RULE_SUBJECT_UNIQUE_ID = 30,
+    CIMAROLY_RULE_EXTENSION_REPEATED = 31,
+    CIMAROLY_RULE_CRITICAL_UNKNOWN = 32,
+    CIMAROLY_RULE_AUTHORITY_KEY_CRITICAL = 33,
+    CIMAROLY_RULE_AUTHORITY_KEY_MISSING = 34,
+    CIMAROLY_RULE_AUTHORITY_KEY_PARTIAL = 35,
+    CIMAROLY_RULE_SUBJECT_KEY_CRITICAL = 36,
+    CIMAROLY_RULE_SUBJECT_KEY_MISSING = 37,
+    CIMAROLY_RULE_KEY_USAGE_EMPTY = 38,
+    CIMAROLY_RULE_KEY_USAGE_PADDED = 39,
+    CIMAROLY_RULE_KEY_USAGE_NOT_CRITICAL = 40,
+    CIMAROLY_RULE_SIGNING_WITHOUT_AUTHORITY = 41,
+    CIMAROLY_RULE_AUTHORITY_WITHOUT_SIGNING = 42,
+    CIMAROLY_RULE_POLICY_MAPPINGS_NOT_CRITICAL = 43,
+    CIMAROLY_RULE_SUBJECT_NAMES_EMPTY = 44,
+    CIMAROLY_RULE_SUBJECT_NAMES_CRITICAL = 45,
+    CIMAROLY_RULE_ALTERNATIVE_NAME_EMPTY = 46,
+    CIMAROLY_RULE_ADDRESS_LENGTH = 47,
+    CIMAROLY_RULE_MAILBOX_WITHOUT_AT = 48,
+    CIMAROLY_RULE_HOST_NAME = 49,
+    CIMAROLY_RULE_URI_WITHOUT_SCHEME = 50,
+    CIMAROLY_RULE_ISSUER_NAMES_EMPTY = 51,
+    CIMAROLY_RULE_ISSUER_NAMES_CRITICAL = 52,
+    CIMAROLY_RULE_DIRECTORY_ATTRIBUTES_CRITICAL = 53,
+    CIMAROLY_RULE_AUTHORITY_NOT_CRITICAL = 54,
+    CIMAROLY_RULE_PATH_LENGTH_IDLE = 55,
+    CIMAROLY_RULE_PATH_LENGTH_WITHOUT_SIGNING = 56,
+    CIMAROLY_RULE_AUTHORITY_DEFAULT_SPELLED = 57,
+    CIMAROLY_RULE_NAME_CONSTRAINTS_NOT_CRITICAL = 58,
+    CIMAROLY_RULE_NAME_CONSTRAINTS_WITHOUT_AUTHORITY = 59,
+    CIMAROLY_RULE_POLICY_CONSTRAINTS_NOT_CRITICAL = 60,
+    CIMAROLY_RULE_PURPOSES_EMPTY = 61,
+    CIMAROLY_RULE_ANY_PURPOSE_CRITICAL = 62,
+    CIMAROLY_RULE_REVOCATION_POINTS_CRITICAL = 63,
+    CIMAROLY_RULE_ANY_POLICY_NOT_CRITICAL = 64,
+    CIMAROLY_RULE_FRESHEST_LIST_CRITICAL = 65,
+    CIMAROLY_RULE_AUTHORITY_ACCESS_CRITICAL = 66,
+    CIMAROLY_RULE_SUBJECT_ACCESS_CRITICAL = 67
 };
 
 /* What cimaroly_pem_next answers. */
@@ -352,7 +356,7 @@ struct cimaroly_point {
     struct cimaroly_span issuer;  /* the content of cRLIssuer: general names, one behind another */
 };
 
-/* A rule that a certificate breaks. */
+/* A rule that a certificate or request breaks. */
 struct cimaroly_finding {
     uint32_t rule;           /* the enum cimaroly_rule */
     struct cimaroly_span at; /* where the field stands that the rule is about; of an absent one, what is signed */
@@ -713,6 +717,16 @@ uint32_t cimaroly_findings(struct cimaroly_memory *memory, const uint8_t *der, s
                            struct cimaroly_finding *findings, size_t room, size_t *count);
 
 /*
+ * The same of a request: the rules about its subject, its key, the algorithm of its signature, and the extensions that it
+ * asks for, which stand in its attributes. What isn't there breaks no rule, since an authority adds it.
+ *
+ * CIMAROLY_OK, CIMAROLY_BUFFER_TOO_SHORT: *count is how many there are.
+ * CIMAROLY_REFUSED, CIMAROLY_OUT_OF_MEMORY.
+ */
+uint32_t cimaroly_request_findings(struct cimaroly_memory *memory, const uint8_t *der, size_t der_size,
+                                   struct cimaroly_finding *findings, size_t room, size_t *count);
+
+/*
  * Writes what stands in the input to the front of `out`, which has room for `out_size` bytes: one JSON object in UTF-8,
  * without a line feed or a zero behind it. docs/JSON.md describes its members; `file`, `line` and `label` are left out,
  * and so are the secret numbers of private keys unless `secrets` is true.
@@ -900,8 +914,10 @@ static inline const char *cimaroly_rule_name(size_t rule)
         "serial-not-positive",
         "serial-too-long",
         "algorithms-differ",
+        "salt-length-spelled",
         "issuer-empty",
         "issuer-set-empty",
+        "issuer-set-order",
         "issuer-text-empty",
         "issuer-text-long",
         "issuer-country",
@@ -912,6 +928,7 @@ static inline const char *cimaroly_rule_name(size_t rule)
         "subject-empty",
         "authority-unnamed",
         "subject-set-empty",
+        "subject-set-order",
         "subject-text-empty",
         "subject-text-long",
         "subject-country",
@@ -924,6 +941,7 @@ static inline const char *cimaroly_rule_name(size_t rule)
         "exponent-even",
         "issuer-unique-id",
         "subject-unique-id",
+        "extension-repeated",
         "critical-unknown",
         "authority-key-critical",
         "authority-key-missing",
@@ -972,8 +990,10 @@ static inline const char *cimaroly_rule_text(size_t rule)
         "serial number isn't positive",
         "serial number has more than 20 octets",
         "the algorithm in the signed part isn't the one beside the signature",
+        "a salt length of 20 is encoded, though it is the default",
         "issuer is empty",
         "issuer has a set without attributes",
+        "issuer has a set whose attributes aren't in order",
         "issuer has a text without characters",
         "issuer has a text that is longer than its attribute may be",
         "countryName in issuer isn't a PrintableString of two letters",
@@ -984,6 +1004,7 @@ static inline const char *cimaroly_rule_text(size_t rule)
         "subject is empty, and no critical subjectAltName names it",
         "subject of an authority is empty",
         "subject has a set without attributes",
+        "subject has a set whose attributes aren't in order",
         "subject has a text without characters",
         "subject has a text that is longer than its attribute may be",
         "countryName in subject isn't a PrintableString of two letters",
@@ -996,6 +1017,7 @@ static inline const char *cimaroly_rule_text(size_t rule)
         "RSA exponent is even",
         "issuer has a unique identifier",
         "subject has a unique identifier",
+        "an extension stands twice",
         "an extension is critical that RFC 5280 doesn't define",
         "authority key identifier is critical",
         "no authority key identifier has a keyIdentifier, though issuer and subject differ",
@@ -1044,8 +1066,10 @@ static inline const char *cimaroly_rule_clause(size_t rule)
         "RFC 5280, 4.1.2.2",
         "RFC 5280, 4.1.2.2",
         "RFC 5280, 4.1.1.2",
+        "X.690, 11.5",
         "RFC 5280, 4.1.2.4",
         "RFC 5280, 4.1.2.4",
+        "X.690, 11.6",
         "RFC 5280, A.1",
         "RFC 5280, A.1",
         "RFC 5280, A.1",
@@ -1056,6 +1080,7 @@ static inline const char *cimaroly_rule_clause(size_t rule)
         "RFC 5280, 4.1.2.6",
         "RFC 5280, 4.1.2.6",
         "RFC 5280, 4.1.2.4",
+        "X.690, 11.6",
         "RFC 5280, A.1",
         "RFC 5280, A.1",
         "RFC 5280, A.1",
@@ -1068,6 +1093,7 @@ static inline const char *cimaroly_rule_clause(size_t rule)
         "RFC 8017, 3.1",
         "RFC 5280, 4.1.2.8",
         "RFC 5280, 4.1.2.8",
+        "RFC 5280, 4.2",
         "RFC 5280, 4.2",
         "RFC 5280, 4.2.1.1",
         "RFC 5280, 4.2.1.1",
@@ -1187,6 +1213,12 @@ static inline uint32_t cimaroly_findings_malloc(const uint8_t *der, size_t der_s
                                                 size_t room, size_t *count)
 {
     CIMAROLY_OVER_MALLOC(der_size, cimaroly_findings(memory, der, der_size, findings, room, count));
+}
+
+static inline uint32_t cimaroly_request_findings_malloc(const uint8_t *der, size_t der_size,
+                                                        struct cimaroly_finding *findings, size_t room, size_t *count)
+{
+    CIMAROLY_OVER_MALLOC(der_size, cimaroly_request_findings(memory, der, der_size, findings, room, count));
 }
 
 static inline uint32_t cimaroly_report_malloc(uint32_t kind, const uint8_t *der, size_t der_size, bool secrets,

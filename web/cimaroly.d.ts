@@ -241,6 +241,7 @@ export interface FrameValues {
 export interface SignedValues extends FrameValues, ExtensionValues {
   subject: Name;
   publicKey: PublicKey;
+  findings: Finding[];
 }
 
 export interface CertificateValues extends SignedValues {
@@ -250,7 +251,6 @@ export interface CertificateValues extends SignedValues {
   notBefore: Date;
   /** The last second in which it is. */
   notAfter: Date;
-  findings: Finding[];
 }
 
 /** What each type has; what it hasn't is `undefined`. Of a request it is what is asked for. */
@@ -353,7 +353,7 @@ export class Structure<K extends Kind = Kind> implements Verdict {
   get signedBytes(): ValueOf<K, "signedBytes">;
   /** The digest of its bytes in hexadecimal, by an algorithm of WebCrypto: `SHA-256` by default. */
   fingerprint(algorithm?: string): Promise<string>;
-  /** The rules of RFC 5280, X.690 and RFC 8017 that a certificate breaks, each once and in their order. */
+  /** The rules of RFC 5280, X.690 and RFC 8017 that a certificate or a request breaks, each once and in their order. */
   get findings(): ValueOf<K, "findings">;
   /**
    * Whether one of its alternative names is that of a host, a domain name or an IP address (RFC 9525, 6). A wildcard stands

@@ -312,19 +312,20 @@ function extensionsOf(der, kind) {
   );
 }
 
-// Which rules a certificate breaks, and where. (The number of a rule has 32 bits.)
-function findingsOf(der) {
+// Which rules a certificate or a request breaks, and where. (The number of a rule has 32 bits.)
+function findingsOf(der, kind) {
+  const name = kind === "request" ? "cimaroly_request_findings" : "cimaroly_findings";
   const call = (room) => {
     room.unit = 24;
     const [out, , result] = room.output;
-    return room.callLent("cimaroly_findings", ...room.input, out, BigInt(Math.floor(room.outSize / 24)), result);
+    return room.callLent(name, ...room.input, out, BigInt(Math.floor(room.outSize / 24)), result);
   };
   const take = (room) =>
     Array.from({ length: room.word(0) }, (_, index) => {
       const at = room.out + 24 * index;
       return findingOf(room.view.getUint32(at, true), room.word(1, at), room.word(2, at));
     });
-  return run("certificate", der, 24 * 32, call, take, workSizeFor(der));
+  return run(kind, der, 24 * 32, call, take, workSizeFor(der));
 }
 
 /** Whether a certificate is for a host, which is a domain name in ASCII or an IP address. */

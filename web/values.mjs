@@ -96,7 +96,8 @@ export class Values {
 
   /**
    * `encoded(bytes, kind)` gives the DER encoding of bytes, `extensionsOf(bytes, kind)` where their extensions stand,
-   * `findingsOf(bytes)` the rules that a certificate breaks, and `isForHostText(bytes, text)` whether it is for a host.
+   * `findingsOf(bytes, kind)` the rules that they break, and `isForHostText(bytes, text)` whether a certificate is for a
+   * host.
    */
   constructor(calls) {
     this.#calls = calls;
@@ -267,10 +268,10 @@ export class Values {
     return hexadecimal(await digestOf(algorithm, this.der));
   }
 
-  /** The rules that a certificate breaks, each once and in their order (docs/FINDINGS.md). */
+  /** The rules that a certificate or a request breaks, each once and in their order (docs/FINDINGS.md). */
   get findings() {
-    if (this.kind !== "certificate") return undefined;
-    this.#findings ??= this.#calls.findingsOf(this.der);
+    if (this.kind !== "certificate" && this.kind !== "request") return undefined;
+    this.#findings ??= this.#calls.findingsOf(this.der, this.kind);
     return this.#findings;
   }
 

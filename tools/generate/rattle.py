@@ -198,7 +198,7 @@ def rules():
 def condition(text):
     """What a rule asks, in Rattle: 'Has FaultyName(EmptyName)', say."""
     kind, *features = text.split()
-    owner = {"Field": "FieldFault", "Issuer": "TextFault", "Subject": "TextFault"}.get(kind, "Feature")
+    owner = {"Field": "FieldFault", "Issuer": "TextFault", "Subject": "TextFault", "Order": "OrderFault"}.get(kind, "Feature")
     written = [re.sub(r"\((\w+)\)", lambda it: f"({inner_type(feature)}::{it[1]})", f"{owner}::{feature}") for feature in features]
     return f"Condition::{kind}({', '.join(written)})"
 

@@ -201,6 +201,26 @@ WELL_NAMED = attributes(
 )
 MAILED = attributes((EMAIL, IA5, b"a@" + b"b" * 253))
 
+
+def name_of_sets(*sets):
+    """A name with a set for each list of common names, in the order in which they stand there."""
+    return sequence(*(element(0x31, *(sequence(identifier(COMMON), element(UTF8, it)) for it in one)) for one in sets))
+
+
+# Sets whose attributes aren't in the order of their encodings, and such as are (X.690, 11.6).
+UNSORTED = [name_of_sets([b"b", b"a"]), name_of_sets([b"a"], [b"a", b"b", b"a"]), name_of_sets([b"aa", b"b"], [b"a"])]
+SORTED = name_of_sets([b"a", b"a"], [b"b", b"aa"], [b"a", b"b", b"c"], [b"a"])
+
+
+def pss(salt):
+    """RSASSA-PSS with SHA-256 and a salt of so many octets, beside the signature and in what is signed."""
+    sha256 = algorithm("2.16.840.1.101.3.4.2.1", NULL)
+    mask = algorithm("1.2.840.113549.1.1.8", sha256)
+    parameters = sequence(element(0xA0, sha256), element(0xA1, mask), element(0xA2, integer(salt)))
+    both = algorithm("1.2.840.113549.1.1.10", parameters)
+    return {"signature": both, "signatureAlgorithm": both}
+
+
 # Names in subjectAltName that are no hosts, and that are no URIs.
 NO_HOSTS = ["a b", "a..b", ".a", "a.", "-a", "a-", "a.-b", "a_b.example", "*", "a.*", "a.*.b", "**.a", "*.", "192.0.2.7", "a" * 64, "a." * 126 + "bc"]
 HOSTS = ["a", "1.a", "*.a", "a-b.c", "A1", "a" * 63, "a." * 126 + "b", "1-2.3a"]
@@ -221,7 +241,10 @@ BROKEN = {
     "serial-not-positive": [{"serialNumber": integer(0)}, {"serialNumber": integer(-1)}],
     "serial-too-long": [{"serialNumber": integer(1 << 160)}],
     "algorithms-differ": [{"signatureAlgorithm": algorithm("1.3.101.113")}],
+    "salt-length-spelled": [pss(20)],
     "issuer-empty": [{"issuer": name()}],
+    "issuer-set-order": [{"issuer": it} for it in UNSORTED],
+    "subject-set-order": [{"subject": it} for it in UNSORTED],
     "validity-reversed": [{"validity": sequence(utc(2049), utc(2020))}],
     "not-before-form": [{"validity": sequence(general(2049), general(2050))}],
     "not-after-form": [{"validity": sequence(utc(2020), general(2049))}],
@@ -234,6 +257,11 @@ BROKEN = {
     **{f"issuer-{it}": [{"issuer": changed} for changed in names] for it, names in FAULTY_NAMES.items()},
     **{f"subject-{it}": [{"subject": changed, **MAIL_NAMED} for changed in names] for it, names in FAULTY_NAMES.items()},
     "subject-mailbox-unnamed": [{"subject": MAILED}, {"subject": MAILED, **signed(alternative_names("2.5.29.17", "a"))}],
+    "extension-repeated": [
+        signed(extension("1.2.3.4", NULL), extension("1.2.3.4", NULL)),
+        signed(alternative_names("2.5.29.17", "a"), extension("1.2.3.4", NULL), alternative_names("2.5.29.17", "b")),
+        {"extensions": (authority_key(), *LEAF, authority_key())},
+    ],
     "critical-unknown": [signed(extension(it, NULL, critical=True)) for it in ("1.2.3.4", "2.5.29.16", "1.3.6.1.5.5.7.1.24")],
     "host-name": [signed(alternative_names(text, "a", it)) for text in NAMES for it in NO_HOSTS],
     "uri-without-scheme": [named(b"a:b", it) for it in NO_URIS],
@@ -280,6 +308,9 @@ BROKEN = {
     "subject-access-critical": [signed(extension("1.3.6.1.5.5.7.1.11", sequence(), critical=True))],
 }
 
+# The rules about a key, and about the algorithm of a signature alone.
+RULES_OF_FIELDS = ("salt-length-spelled", *(it for it in BROKEN if it.startswith(("modulus-", "exponent-"))))
+
 # What breaks two at once, since one can't be broken without the other.
 BOTH = {
     ("subject-empty", "authority-unnamed"): {"subject": name()},
@@ -299,10 +330,15 @@ KEPT = [
     {"issuer": name("subject"), "extensions": LEAF},
     {"extensions": (*LEAF, authority_key(KEY_IDENTIFIER, CERT_ISSUER, CERT_SERIAL))},
     {"serialNumber": integer((1 << 159) - 1)},
+    pss(19),
+    pss(21),
+    pss(32),
+    {"issuer": SORTED},
+    {"subject": SORTED},
     {"issuer": WELL_NAMED},
     {"subject": WELL_NAMED},
     {"issuer": MAILED, "subject": MAILED, **MAIL_NAMED},
-    signed(extension("1.2.3.4", NULL)),
+    signed(*(extension(it, NULL) for it in ("1.2.3.4", "1.2.3.5", "1.2.3", "1.2.3.4.1"))),
     signed(alternative_names("2.5.29.17", *HOSTS), alternative_names("2.5.29.18", *HOSTS)),
     named(*URIS),
     {"validity": sequence(utc(2049), general(2050))},

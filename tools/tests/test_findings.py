@@ -1,4 +1,4 @@
-"""Tests that each language tells the findings that `cimaroly lint` does, of certificates that break rules and of data/.
+"""Tests that each language tells the findings that `cimaroly lint` does, of certificates and requests that break rules and of data/.
 
 The library is that of dist/ for this machine, or of the folder that the variable CIMAROLY_LIB_DIR names.
 """
@@ -16,15 +16,19 @@ import unittest
 
 from cimaroly_program import CC, DATA, NEEDS_PROGRAM, ROOT, read, run
 from faulty_certificates import BOTH, BROKEN, KEPT, certificate
+from faulty_requests import BROKEN_BY_REQUEST, KEPT_BY_REQUEST, asking, request
 from test_bindings import ARCHIVE, LIBRARY, NEEDS_LIBRARY, SHARED
 
 BLOCK = re.compile(rb"-----BEGIN CERTIFICATE-----\n(.*?)-----END", re.DOTALL)
+# How the names of files begin that have requests.
+REQUEST = "request"
 
 # Each prints a line for each file that it is given: a list of its findings, each with rule, severity, text, clause and
-# place, and in Python and JavaScript the reason.
+# place, and in Python and JavaScript the reason. What is behind the folder in a path says which call is meant.
 IN_C = r"""
 #include "cimaroly.h"
 #include <stdio.h>
+#include <string.h>
 
 int main(int count, char **paths)
 {
@@ -35,7 +39,10 @@ int main(int count, char **paths)
         FILE *file = fopen(paths[i], "rb");
         size_t size = fread(der, 1, sizeof der, file);
         fclose(file);
-        if (cimaroly_findings_malloc(der, size, found, 32, &number) != CIMAROLY_OK)
+        uint32_t status = strstr(paths[i], "/request") != NULL
+            ? cimaroly_request_findings_malloc(der, size, found, 32, &number)
+            : cimaroly_findings_malloc(der, size, found, 32, &number);
+        if (status != CIMAROLY_OK)
             return 1;
         printf("[");
         for (size_t j = 0; j < number; j++) {
@@ -69,7 +76,9 @@ for (const path of process.argv.slice(2)) {
 IN_RUST = r"""
 fn main() {
     for path in std::env::args().skip(1) {
-        let found = cimaroly::findings(&std::fs::read(path).unwrap()).unwrap();
+        let der = std::fs::read(&path).unwrap();
+        let told = if path.contains("/request") { cimaroly::request_findings(&der) } else { cimaroly::findings(&der) };
+        let found = told.unwrap();
         let told = found.iter().map(|it| {
             let rule = it.rule().unwrap();
             let severity = if rule.is_warning() { "warning" } else { "error" };
@@ -95,6 +104,14 @@ def certificates():
                 yield der
 
 
+def requests():
+    """Requests in DER: such as break rules, such as keep them, and one of OpenSSL's."""
+    listed = [changes for name, rows in BROKEN.items() if "extensions" in rows[0] for changes in asking(rows[:2])]
+    for changes in [*listed, *(it for rows in BROKEN_BY_REQUEST.values() for it in rows), *KEPT_BY_REQUEST]:
+        yield request(**changes)
+    yield run("der", f"{DATA}/request_rsa.pem")[0]
+
+
 @NEEDS_PROGRAM
 @NEEDS_LIBRARY
 class Findings(unittest.TestCase):
@@ -103,9 +120,11 @@ class Findings(unittest.TestCase):
         room = tempfile.TemporaryDirectory(prefix="findings-")
         cls.addClassCleanup(room.cleanup)
         cls.folder, cls.paths = room.name, []
-        for number, der in enumerate(certificates()):
-            cls.write(f"{number}.der", der)
-            cls.paths.append(f"{room.name}/{number}.der")
+        named = [(f"{number}.der", der) for number, der in enumerate(certificates())]
+        named += [(f"{REQUEST}{number}.der", der) for number, der in enumerate(requests())]
+        for name, der in named:
+            cls.write(name, der)
+            cls.paths.append(f"{room.name}/{name}")
         out, _, _ = run("lint", "--json", "--list")
         cls.reasons = {it["rule"]: it["reason"] for it in map(json.loads, out.splitlines())}
         out, _, _ = run("lint", "--json", *cls.paths)

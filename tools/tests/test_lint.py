@@ -10,7 +10,9 @@ import tempfile
 import unittest
 
 from cimaroly_program import DATA, NEEDS_PROGRAM, PROGRAM, ROOT, STORE, run
-from faulty_certificates import BOTH, BROKEN, KEPT, certificate, place_of
+from faulty_certificates import BOTH, BROKEN, KEPT, UNSORTED, algorithm, certificate, ed25519_key, place_of
+from faulty_requests import BROKEN_BY_REQUEST, KEPT_BY_REQUEST, PLACES, asking, request
+from faulty_requests import place_of as place_in_request
 
 sys.path.insert(0, f"{ROOT}/tools")
 from generate import tables  # noqa: E402
@@ -62,6 +64,108 @@ class Rules(unittest.TestCase):
                     self.assertEqual(found("--ignore", ",".join(names), data=data), ([], 0))
 
 
+def of_requests(rule):
+    """Whether requests may break a rule: by their subject, key or algorithm, or an extension that is there."""
+    form, _, what = rule.condition.partition(" ")
+    return form in ("Subject", "Has") or what in ("EmptySubjectSet", "UnsortedSubject", "RepeatedExtension") or rule.name in BROKEN_BY_REQUEST
+
+
+@NEEDS_PROGRAM
+class Requests(unittest.TestCase):
+    """Requests that are encoded byte by byte, and break one rule."""
+
+    def broken(self):
+        for name, rule in RULES.items():
+            if of_requests(rule):
+                yield from ((name, changes) for changes in BROKEN_BY_REQUEST.get(name) or asking(BROKEN[name]))
+
+    def test_each_rule_is_broken_once(self):
+        for name, changes in self.broken():
+            with self.subTest(name, changes=changes):
+                where = RULES[name].where
+                wanted = [(name, place_in_request(PLACES.get(where, where), **changes))]
+                self.assertEqual(found(data=request(**changes)), (wanted, 3))
+
+    def test_what_is_kept(self):
+        for changes in KEPT_BY_REQUEST:
+            with self.subTest(changes):
+                self.assertEqual(found(data=request(**changes)), ([], 0))
+
+    def test_what_an_authority_adds(self):
+        others = [it for it in RULES.values() if it.name in BROKEN and it.where == "extensions" and not of_requests(it)]
+        self.assertGreater(len(others), 5)
+        for rule in others:
+            for changes in asking(BROKEN[rule.name]):
+                with self.subTest(rule.name):
+                    self.assertEqual(found(data=request(**changes)), ([], 0))
+
+    def test_times_say_nothing_of_requests(self):
+        self.assertEqual(found("--at", "1970-01-01T00:00:00Z", data=request()), ([], 0))
+
+    def test_files(self):
+        out, error, status = run("lint", f"{DATA}/request_rsa.pem")
+        self.assertRegex(out.decode(), r"^\S+:1: warning: RSA modulus .* \[modulus-short\]\n\S+:1: warning: .* \[key-usage-not-critical\]\n$")
+        self.assertEqual((error, status), (b"1 structure: 0 without findings, 1 with findings, 0 refused\n", 3))
+        out, _, _ = run("lint", "--json", f"{DATA}/request_rsa.pem")
+        told = json.loads(out)
+        self.assertEqual((told["type"], told["label"], len(told["findings"])), ("request", "CERTIFICATE REQUEST", 2))
+
+
+# The rules that tell whether something is in DER.
+OF_DER = {name for name, rule in RULES.items() if rule.clause.startswith("X.690")}
+
+
+def damaged(der, at):
+    """The same bytes with another one at a place."""
+    return der[:at] + bytes([der[at] ^ 1 << at % 8]) + der[at + 1 :]
+
+
+@NEEDS_PROGRAM
+class Check(unittest.TestCase):
+    """`check` tells of certificates and requests which rules of X.690 they break, exactly as `lint` does."""
+
+    def agree(self, structures):
+        with tempfile.TemporaryDirectory(prefix="check-") as room:
+            for number, der in enumerate(structures):
+                with open(f"{room}/{number:06}.der", "wb") as file:
+                    file.write(der)
+            checked = [json.loads(it) for it in run("check", "--json", room)[0].splitlines()]
+            linted = [json.loads(it) for it in run("lint", "--json", "--rule", ",".join(sorted(OF_DER)), room)[0].splitlines()]
+        told = {it["file"]: it.get("findings", []) for it in checked if it["result"] in ("ok", "deviations")}
+        self.assertEqual(told, {it["file"]: it["findings"] for it in linted if "findings" in it})
+        return [it for it in told.values() if it]
+
+    def test_whole(self):
+        certificates = [changes for listed in BROKEN.values() for changes in listed] + [*BOTH.values(), *KEPT]
+        requests = [changes for _, changes in Requests().broken()] + KEPT_BY_REQUEST
+        found = self.agree([certificate(**it) for it in certificates] + [request(**it) for it in requests])
+        self.assertEqual({it["rule"] for told in found for it in told}, OF_DER)
+
+    def test_damaged(self):
+        ders = [certificate(**changes) for name in sorted(OF_DER) for changes in BROKEN[name]] + [certificate(), request()]
+        found = self.agree([damaged(der, at) for der in ders for at in range(len(der))])
+        self.assertGreater(len(found), 500)
+
+    def test_text(self):
+        for changes, status, wanted in (
+            ({}, 0, "ok"),
+            ({"subject": UNSORTED[0]}, 3, "not in DER: subject has a set whose attributes aren't in order at {}..{} (X.690, 11.6)"),
+        ):
+            out, error, ended = run("check", "-", data=certificate(**changes))
+            self.assertEqual(out.decode(), f"-: certificate: {wanted.format(*place_of('subject', **changes))}\n")
+            self.assertEqual(ended, status)
+            self.assertEqual(error.decode(), f"1 structure: {int(not status)} in DER, {int(bool(status))} with deviations, 0 refused\n")
+        told = run("check", "--deep", "--at", "2020-06-01T00:00:00Z", "-", data=certificate(**changes))
+        self.assertEqual((told[0], told[2]), (out, 3))
+
+    def test_with_deviations(self):
+        without_null = algorithm("1.2.840.113549.1.1.11")
+        fields = {"subject": UNSORTED[0], "signature": without_null, "signatureAlgorithm": without_null}
+        out, _, status = run("check", "-", data=certificate(**fields))
+        self.assertRegex(out.decode(), r"^-: certificate: 2 deviations: RSA parameters absent at .*; not in DER: subject has a set .* \(X.690, 11.6\)\n$")
+        self.assertEqual(status, 3)
+
+
 @NEEDS_PROGRAM
 class Program(unittest.TestCase):
     """What is printed, and the status."""
@@ -72,7 +176,7 @@ class Program(unittest.TestCase):
         pem = f"before\n-----BEGIN CERTIFICATE-----\n{text}-----END CERTIFICATE-----\n".encode()
         out, error, status = run("lint", "-", data=pem)
         self.assertEqual(out.decode(), "-:2: error: serial number isn't positive at 12..15 (RFC 5280, 4.1.2.2) [serial-not-positive]\n")
-        self.assertEqual(error, b"1 certificate: 0 without findings, 1 with findings, 0 refused\n")
+        self.assertEqual(error, b"1 structure: 0 without findings, 1 with findings, 0 refused\n")
         self.assertEqual(status, 3)
 
     def test_colours(self):
@@ -86,17 +190,19 @@ class Program(unittest.TestCase):
                 self.assertEqual(found("--at", time, data=certificate()), ([(name, place_of("validity"))], 3))
         self.assertEqual(found("--at", "2020-01-01T00:00:00Z", data=certificate()), ([], 0))
         _, error, status = run("lint", "--at", "2050-01-01T00:00:00Z", "-", data=certificate())
-        self.assertEqual(error, b"1 certificate: 0 without findings, 1 with findings, 0 refused; 1 expired or not yet valid\n")
+        self.assertEqual(error, b"1 structure: 0 without findings, 1 with findings, 0 refused; 1 expired or not yet valid\n")
         _, error, status = run("lint", "--at", "yesterday", "-", data=certificate())
         self.assertEqual(status, 2)
 
     def test_others(self):
-        out, error, status = run("lint", f"{DATA}/request_rsa.pem")
-        self.assertRegex(out.decode(), r":1: CERTIFICATE REQUEST: passed over: only certificates are looked at\n$")
-        self.assertEqual((error, status), (b"0 certificates: 0 without findings, 0 with findings, 0 refused; 1 passed over\n", 1))
-        der = run("der", f"{DATA}/request_rsa.pem")[0]
+        der = ed25519_key()
+        text = base64.encodebytes(der).decode()
+        pem = f"-----BEGIN PUBLIC KEY-----\n{text}-----END PUBLIC KEY-----\n".encode()
+        out, error, status = run("lint", "-", data=pem)
+        self.assertEqual(out, b"-:1: PUBLIC KEY: passed over: only certificates and requests are looked at\n")
+        self.assertEqual((error, status), (b"0 structures: 0 without findings, 0 with findings, 0 refused; 1 passed over\n", 1))
         out, error, status = run("lint", "-", data=der)
-        self.assertEqual((out, status), (b"-: passed over: only certificates are looked at\n", 1))
+        self.assertEqual((out, status), (b"-: passed over: only certificates and requests are looked at\n", 1))
         broken = certificate(version=b"")
         out, error, status = run("lint", "-", data=broken)
         self.assertRegex(out.decode(), "^-: certificate: refused: extensions without version 3 ")
@@ -226,7 +332,7 @@ class RootCertificates(unittest.TestCase):
         with open(path, "rb") as file:
             lines = file.read().splitlines(keepends=True)
         out, error, status = run("lint", "--json", path)
-        self.assertRegex(error.decode(), r"^\d+ certificates?: \d+ without findings, \d+ with findings, \d+ refused")
+        self.assertRegex(error.decode(), r"^\d+ structures?: \d+ without findings, \d+ with findings, \d+ refused")
         self.assertIn(status, (0, 1, 3))
         told = [json.loads(it) for it in out.splitlines()]
         self.assertGreater(len(told), 100)

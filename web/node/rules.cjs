@@ -31,6 +31,13 @@ const RULES = Object.freeze([
     reason: "The one beside the signature isn't signed, so anybody can change it.",
   },
   {
+    rule: "salt-length-spelled",
+    severity: "error",
+    text: "a salt length of 20 is encoded, though it is the default",
+    clause: "X.690, 11.5",
+    reason: "One value has two encodings, so that the certificate isn't in DER.",
+  },
+  {
     rule: "issuer-empty",
     severity: "error",
     text: "issuer is empty",
@@ -43,6 +50,13 @@ const RULES = Object.freeze([
     text: "issuer has a set without attributes",
     clause: "RFC 5280, 4.1.2.4",
     reason: "A set has at least one, and some programs refuse an empty one.",
+  },
+  {
+    rule: "issuer-set-order",
+    severity: "error",
+    text: "issuer has a set whose attributes aren't in order",
+    clause: "X.690, 11.6",
+    reason: "Such a name has several encodings, so that the certificate isn't in DER.",
   },
   {
     rule: "issuer-text-empty",
@@ -113,6 +127,13 @@ const RULES = Object.freeze([
     text: "subject has a set without attributes",
     clause: "RFC 5280, 4.1.2.4",
     reason: "A set has at least one, and some programs refuse an empty one.",
+  },
+  {
+    rule: "subject-set-order",
+    severity: "error",
+    text: "subject has a set whose attributes aren't in order",
+    clause: "X.690, 11.6",
+    reason: "Such a name has several encodings, so that the certificate isn't in DER.",
   },
   {
     rule: "subject-text-empty",
@@ -199,6 +220,13 @@ const RULES = Object.freeze([
     reason: "Authorities must not issue such certificates: names are not used again.",
   },
   {
+    rule: "extension-repeated",
+    severity: "error",
+    text: "an extension stands twice",
+    clause: "RFC 5280, 4.2",
+    reason: "Some programs go by the first one, others by the last.",
+  },
+  {
     rule: "critical-unknown",
     severity: "warning",
     text: "an extension is critical that RFC 5280 doesn't define",
@@ -210,7 +238,7 @@ const RULES = Object.freeze([
     severity: "error",
     text: "authority key identifier is critical",
     clause: "RFC 5280, 4.2.1.1",
-    reason: "Programs that don't know it refuse the certificate, though it only helps to find the issuer's key.",
+    reason: "Programs that don't know it refuse the certificate, though they could do without it.",
   },
   {
     rule: "authority-key-missing",
@@ -231,7 +259,7 @@ const RULES = Object.freeze([
     severity: "error",
     text: "subject key identifier is critical",
     clause: "RFC 5280, 4.2.1.2",
-    reason: "Programs that don't know it refuse the certificate, though it only helps to find the key.",
+    reason: "Programs that don't know it refuse the certificate, though they could do without it.",
   },
   {
     rule: "subject-key-missing",
@@ -343,14 +371,14 @@ const RULES = Object.freeze([
     severity: "warning",
     text: "issuerAltName is critical",
     clause: "RFC 5280, 4.2.1.7",
-    reason: "Programs that don't know it refuse the certificate, though nothing depends on it.",
+    reason: "Programs that don't know it refuse the certificate, though they could do without it.",
   },
   {
     rule: "directory-attributes-critical",
     severity: "error",
     text: "subjectDirectoryAttributes is critical",
     clause: "RFC 5280, 4.2.1.8",
-    reason: "Programs that don't know it refuse the certificate, though it only describes the subject.",
+    reason: "Programs that don't know it refuse the certificate, though they could do without it.",
   },
   {
     rule: "authority-not-critical",
@@ -434,21 +462,21 @@ const RULES = Object.freeze([
     severity: "error",
     text: "freshestCRL is critical",
     clause: "RFC 5280, 4.2.1.15",
-    reason: "Programs that don't know it refuse the certificate, though it only helps to find newer lists.",
+    reason: "Programs that don't know it refuse the certificate, though they could do without it.",
   },
   {
     rule: "authority-access-critical",
     severity: "error",
     text: "authorityInfoAccess is critical",
     clause: "RFC 5280, 4.2.2.1",
-    reason: "Programs that don't know it refuse the certificate, though it only helps to find the issuer's services.",
+    reason: "Programs that don't know it refuse the certificate, though they could do without it.",
   },
   {
     rule: "subject-access-critical",
     severity: "error",
     text: "subjectInfoAccess is critical",
     clause: "RFC 5280, 4.2.2.2",
-    reason: "Programs that don't know it refuse the certificate, though it only helps to find the subject's services.",
+    reason: "Programs that don't know it refuse the certificate, though they could do without it.",
   },
 ]);
 

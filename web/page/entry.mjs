@@ -87,9 +87,9 @@ export class Entry {
     return this.outline ?? this.report;
   }
 
-  /** The rules that it breaks; none of what isn't a certificate, or is refused. */
+  /** The rules that it breaks; none of what is neither a certificate nor a request, or is refused. */
   get findings() {
-    if (this.kind !== "certificate" || !["ok", "deviations"].includes(this.report.result)) return [];
+    if (!["certificate", "request"].includes(this.kind) || !["ok", "deviations"].includes(this.report.result)) return [];
     try {
       this.foundFindings ??= this.cimaroly.read(this.bytes, this.kind).findings;
     } catch (error) {

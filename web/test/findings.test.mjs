@@ -33,12 +33,12 @@ test("what is required tells the same", () => {
   assert.deepEqual(required.read(FAULTY).findings, read(FAULTY).findings);
 });
 
-test("only certificates have findings", () => {
+test("only certificates and requests have findings", () => {
   for (const name of SAMPLES.filter((it) => it.endsWith(".pem"))) {
     const [{ kind, bytes }] = structuresIn(sample(name));
     if (kind === null || bytes === undefined) continue;
     try {
-      assert.equal(read(bytes, kind).findings !== undefined, kind === "certificate", name);
+      assert.equal(read(bytes, kind).findings !== undefined, ["certificate", "request"].includes(kind), name);
     } catch (error) {
       if (!(error instanceof Refused)) throw error;
     }

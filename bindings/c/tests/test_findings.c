@@ -2,7 +2,7 @@
 /*
  * Tests the call for findings over a certificate by hand (RFC 5280, 4.1): its issuer is empty, it has unique identifiers,
  * and as an authority it has a path length, but no key identifier and no key usage. Then over each of its
- * prefixes, with less memory and with less room; and what the header says of rules.
+ * prefixes, with less memory and with less room; over a request; and what the header says of rules.
  *
  * usage: test_findings
  */
@@ -110,6 +110,48 @@ static void prefixes_are_refused(const uint8_t *der)
     }
 }
 
+/*
+ * A request (RFC 2986, 4) up to its signature of 64 zeros: two common names of its subject, b and a, aren't in order, and it
+ * asks for a key usage with trailing zero bits.
+ */
+static const char request[] =
+    "\x30\x81\xB6\x30\x6A\x02\x01\x00\x30\x16\x31\x14\x30\x08\x06\x03\x55\x04\x03\x0C\x01\x62\x30\x08"
+    "\x06\x03\x55\x04\x03\x0C\x01\x61\x30\x2A\x30\x05\x06\x03\x2B\x65\x70\x03\x21\x00\x00\x01\x02\x03"
+    "\x04\x05\x06\x07\x08\x09\x0A\x0B\x0C\x0D\x0E\x0F\x10\x11\x12\x13\x14\x15\x16\x17\x18\x19\x1A\x1B"
+    "\x1C\x1D\x1E\x1F\xA0\x21\x30\x1F\x06\x09\x2A\x86\x48\x86\xF7\x0D\x01\x09\x0E\x31\x12\x30\x10\x30"
+    "\x0E\x06\x03\x55\x1D\x0F\x01\x01\xFF\x04\x04\x03\x02\x06\x80\x30\x05\x06\x03\x2B\x65\x70\x03\x41"
+    "\x00";
+
+enum { FRONT = sizeof request - 1, REQUEST = FRONT + 64 };
+
+static void requests_are_told(void)
+{
+    static const struct cimaroly_finding wanted[] = {
+        {CIMAROLY_RULE_SUBJECT_SET_ORDER, {8, 32}},
+        {CIMAROLY_RULE_KEY_USAGE_PADDED, {76, 111}},
+    };
+    uint8_t der[REQUEST] = {0};
+    struct cimaroly_finding found[MANY] = {{0}};
+    size_t count = 0;
+    memcpy(der, request, FRONT);
+    uint32_t status = cimaroly_request_findings_malloc(der, REQUEST, found, MANY, &count);
+    expect(status == CIMAROLY_OK && count == 2, "the findings of a request");
+    for (size_t i = 0; i < 2; i++) {
+        expect(found[i].rule == wanted[i].rule, "a rule of a request");
+        expect(found[i].at.start == wanted[i].at.start && found[i].at.end == wanted[i].at.end, "a place in a request");
+    }
+    status = cimaroly_request_findings_malloc(der, REQUEST, found, 1, &count);
+    expect(status == CIMAROLY_BUFFER_TOO_SHORT && count == 2, "too little room for a request's");
+    struct cimaroly_memory memory = {NULL, 0};
+    status = cimaroly_request_findings(&memory, der, REQUEST, found, MANY, &count);
+    expect(status == CIMAROLY_OUT_OF_MEMORY && count == 0, "a request without memory");
+    for (size_t size = 0; size < REQUEST; size++) {
+        status = cimaroly_request_findings_malloc(der, size, found, MANY, &count);
+        expect(status == CIMAROLY_REFUSED && count == 0, "a prefix of a request");
+    }
+    expect(cimaroly_findings_malloc(der, REQUEST, found, MANY, &count) == CIMAROLY_REFUSED, "a request as a certificate");
+}
+
 static void rules_have_texts(void)
 {
     size_t warnings = 0;
@@ -134,6 +176,7 @@ int main(void)
     room_is_kept_to(der.at);
     memory_is_kept_to(der.at);
     prefixes_are_refused(der.at);
+    requests_are_told();
     rules_have_texts();
     guarded_free(der);
     printf("%zu passed, %zu failed\n", passed, failed);

@@ -13,7 +13,7 @@
 an algorithm that isn't read; and of other kinds a `Structure`, which they all are: it has fields, deviations, signed
 part, DER encoding and report. `read_all` gives a list of them. What is refused raises `Refused`, which says why, at
 which byte and in which field. `read_each` gives what came of each PEM block, and goes on behind those that are refused.
-`check_extension` checks the value of an extension that `check` takes as octets, and a certificate's `findings` tell
+`check_extension` checks the value of an extension that `check` takes as octets, and the `findings` of a certificate or request tell
 which rules it breaks.
 
 `RequestBuilder` and `CertificateBuilder` build what is to be signed, any signer signs it, and `with_signature` puts both

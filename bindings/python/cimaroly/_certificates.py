@@ -86,6 +86,13 @@ class _Signed(Structure):
         raise NotImplementedError
 
     @cached_property
+    def findings(self) -> tuple[Finding, ...]:
+        """The rules of RFC 5280, X.690 and RFC 8017 that it breaks (docs/FINDINGS.md), in their order, each once. No
+        signature is checked, and no clock is read."""
+        found = _library.findings(self.kind, self._der)
+        return tuple(finding(it.rule, it.at.start, it.at.end) for it in found)
+
+    @cached_property
     def public_key(self) -> PublicKey:
         """The subject's public key (RFC 5280, 4.1.2.7)."""
         return PublicKey._within(self._bytes(*self._span("subject_public_key_info")))
@@ -303,12 +310,6 @@ class Certificate(_Signed):
         """What names the issuer's key (RFC 5280, 4.2.1.1)."""
         told = self._told_of(_AUTHORITY_KEY)
         return octets(told["keyIdentifier"]["value"]) if told is not None and "keyIdentifier" in told else None
-
-    @cached_property
-    def findings(self) -> tuple[Finding, ...]:
-        """The rules of RFC 5280, X.690 and RFC 8017 that it breaks (docs/FINDINGS.md), in their order, each once. No
-        signature is checked, and no clock is read."""
-        return tuple(finding(it.rule, it.at.start, it.at.end) for it in _library.findings(self._der))
 
     def matches_host(self, host: Union[str, Address]) -> bool:
         # (by the library, which looks at the first list of names: of two, neither counts)

@@ -56,6 +56,13 @@ _RULES: tuple[tuple[str, Severity, str, str, str], ...] = (
         "The one beside the signature isn't signed, so anybody can change it.",
     ),
     (
+        "salt-length-spelled",
+        "error",
+        "a salt length of 20 is encoded, though it is the default",
+        "X.690, 11.5",
+        "One value has two encodings, so that the certificate isn't in DER.",
+    ),
+    (
         "issuer-empty",
         "error",
         "issuer is empty",
@@ -68,6 +75,13 @@ _RULES: tuple[tuple[str, Severity, str, str, str], ...] = (
         "issuer has a set without attributes",
         "RFC 5280, 4.1.2.4",
         "A set has at least one, and some programs refuse an empty one.",
+    ),
+    (
+        "issuer-set-order",
+        "error",
+        "issuer has a set whose attributes aren't in order",
+        "X.690, 11.6",
+        "Such a name has several encodings, so that the certificate isn't in DER.",
     ),
     (
         "issuer-text-empty",
@@ -138,6 +152,13 @@ _RULES: tuple[tuple[str, Severity, str, str, str], ...] = (
         "subject has a set without attributes",
         "RFC 5280, 4.1.2.4",
         "A set has at least one, and some programs refuse an empty one.",
+    ),
+    (
+        "subject-set-order",
+        "error",
+        "subject has a set whose attributes aren't in order",
+        "X.690, 11.6",
+        "Such a name has several encodings, so that the certificate isn't in DER.",
     ),
     (
         "subject-text-empty",
@@ -224,6 +245,13 @@ _RULES: tuple[tuple[str, Severity, str, str, str], ...] = (
         "Authorities must not issue such certificates: names are not used again.",
     ),
     (
+        "extension-repeated",
+        "error",
+        "an extension stands twice",
+        "RFC 5280, 4.2",
+        "Some programs go by the first one, others by the last.",
+    ),
+    (
         "critical-unknown",
         "warning",
         "an extension is critical that RFC 5280 doesn't define",
@@ -235,7 +263,7 @@ _RULES: tuple[tuple[str, Severity, str, str, str], ...] = (
         "error",
         "authority key identifier is critical",
         "RFC 5280, 4.2.1.1",
-        "Programs that don't know it refuse the certificate, though it only helps to find the issuer's key.",
+        "Programs that don't know it refuse the certificate, though they could do without it.",
     ),
     (
         "authority-key-missing",
@@ -256,7 +284,7 @@ _RULES: tuple[tuple[str, Severity, str, str, str], ...] = (
         "error",
         "subject key identifier is critical",
         "RFC 5280, 4.2.1.2",
-        "Programs that don't know it refuse the certificate, though it only helps to find the key.",
+        "Programs that don't know it refuse the certificate, though they could do without it.",
     ),
     (
         "subject-key-missing",
@@ -368,14 +396,14 @@ _RULES: tuple[tuple[str, Severity, str, str, str], ...] = (
         "warning",
         "issuerAltName is critical",
         "RFC 5280, 4.2.1.7",
-        "Programs that don't know it refuse the certificate, though nothing depends on it.",
+        "Programs that don't know it refuse the certificate, though they could do without it.",
     ),
     (
         "directory-attributes-critical",
         "error",
         "subjectDirectoryAttributes is critical",
         "RFC 5280, 4.2.1.8",
-        "Programs that don't know it refuse the certificate, though it only describes the subject.",
+        "Programs that don't know it refuse the certificate, though they could do without it.",
     ),
     (
         "authority-not-critical",
@@ -459,20 +487,20 @@ _RULES: tuple[tuple[str, Severity, str, str, str], ...] = (
         "error",
         "freshestCRL is critical",
         "RFC 5280, 4.2.1.15",
-        "Programs that don't know it refuse the certificate, though it only helps to find newer lists.",
+        "Programs that don't know it refuse the certificate, though they could do without it.",
     ),
     (
         "authority-access-critical",
         "error",
         "authorityInfoAccess is critical",
         "RFC 5280, 4.2.2.1",
-        "Programs that don't know it refuse the certificate, though it only helps to find the issuer's services.",
+        "Programs that don't know it refuse the certificate, though they could do without it.",
     ),
     (
         "subject-access-critical",
         "error",
         "subjectInfoAccess is critical",
         "RFC 5280, 4.2.2.2",
-        "Programs that don't know it refuse the certificate, though it only helps to find the subject's services.",
+        "Programs that don't know it refuse the certificate, though they could do without it.",
     ),
 )

@@ -26,8 +26,8 @@ _HERE = os.path.dirname(os.path.abspath(__file__))
 _NAME = "libcimaroly.so"
 
 _NUMBERS = {kind: number for number, kind in enumerate(KINDS, 1)}
-# The call that is for certificates alone, and isn't told the kind.
-_FINDINGS = "cimaroly_findings"
+# The calls that are for one kind each, and aren't told it.
+_FINDINGS = {"certificate": "cimaroly_findings", "request": "cimaroly_request_findings"}
 
 # How much memory a thread keeps between calls, and how many items or bytes a first answer has room for.
 _KEPT = 1 << 20
@@ -158,7 +158,8 @@ def _load() -> dict[str, Callable[..., int]]:
         "cimaroly_check": (*of_a_kind, c_void_p),
         "cimaroly_encode": (*lent, *buffer),
         "cimaroly_places": (*lent, *buffer),
-        _FINDINGS: making,
+        "cimaroly_findings": making,
+        "cimaroly_request_findings": making,
         "cimaroly_signed_part": (*of_a_kind, c_void_p),
         "cimaroly_extensions": (*of_a_kind, *buffer),
         "cimaroly_report": (*lent, c_bool, *buffer),
@@ -303,7 +304,7 @@ def input_at(der: Held) -> Any:
 def _asked(name: str, kind: Kind, der: Held, *arguments: Any) -> int:
     """The status of a call on an input of a kind, which is given more memory until that is enough."""
     call, size = CALLS[name], 16 * len(der) + 16384
-    kinds = () if name == _FINDINGS else (_NUMBERS[kind],)
+    kinds = () if name in _FINDINGS.values() else (_NUMBERS[kind],)
     while True:
         lent = _lent(size)
         status = call(byref(lent.of_library), *kinds, input_at(der), len(der), *arguments)
@@ -446,9 +447,9 @@ def places(kind: Kind, der: Held) -> list[Place]:
     return _items("cimaroly_places", kind, der, Place)
 
 
-def findings(der: Held) -> list[FoundAt]:
-    """Which rules a certificate breaks, and where."""
-    return _items(_FINDINGS, "certificate", der, FoundAt)
+def findings(kind: Kind, der: Held) -> list[FoundAt]:
+    """Which rules a certificate or request breaks, and where."""
+    return _items(_FINDINGS[kind], kind, der, FoundAt)
 
 
 def extensions(kind: Kind, der: Held) -> list[tuple[int, ...]]:

@@ -101,6 +101,16 @@ pub fn findings(der: &[u8]) -> Result<Vec<Finding>, Error> {
     })
 }
 
+/// As [`Reader::request_findings`].
+///
+/// # Errors
+/// [`Error::Refused`], and [`Error::OutOfMemory`] if the allocator refuses memory.
+pub fn request_findings(der: &[u8]) -> Result<Vec<Finding>, Error> {
+    filled(&Finding::EMPTY, Rule::ALL.len(), |out| {
+        lent(der, |reader| reader.request_findings(der, out).map(<[Finding]>::len))
+    })
+}
+
 /// As [`Reader::signed_part`].
 ///
 /// # Errors

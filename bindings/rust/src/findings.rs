@@ -14,137 +14,147 @@ pub enum Rule {
     SerialTooLong = 2,
     /// The algorithm in the signed part isn't the one beside the signature.
     AlgorithmsDiffer = 3,
+    /// A salt length of 20 is encoded, though it is the default.
+    SaltLengthSpelled = 4,
     /// Issuer is empty.
-    IssuerEmpty = 4,
+    IssuerEmpty = 5,
     /// Issuer has a set without attributes.
-    IssuerSetEmpty = 5,
+    IssuerSetEmpty = 6,
+    /// Issuer has a set whose attributes aren't in order.
+    IssuerSetOrder = 7,
     /// Issuer has a text without characters.
-    IssuerTextEmpty = 6,
+    IssuerTextEmpty = 8,
     /// Issuer has a text that is longer than its attribute may be.
-    IssuerTextLong = 7,
+    IssuerTextLong = 9,
     /// `countryName` in issuer isn't a `PrintableString` of two letters.
-    IssuerCountry = 8,
+    IssuerCountry = 10,
     /// Issuer has a string type that isn't for new names.
-    IssuerStringType = 9,
+    IssuerStringType = 11,
     /// `notAfter` is before `notBefore`.
-    ValidityReversed = 10,
+    ValidityReversed = 12,
     /// `notBefore` is a `GeneralizedTime` before 2050.
-    NotBeforeForm = 11,
+    NotBeforeForm = 13,
     /// `notAfter` is a `GeneralizedTime` before 2050.
-    NotAfterForm = 12,
+    NotAfterForm = 14,
     /// Subject is empty, and no critical `subjectAltName` names it.
-    SubjectEmpty = 13,
+    SubjectEmpty = 15,
     /// Subject of an authority is empty.
-    AuthorityUnnamed = 14,
+    AuthorityUnnamed = 16,
     /// Subject has a set without attributes.
-    SubjectSetEmpty = 15,
+    SubjectSetEmpty = 17,
+    /// Subject has a set whose attributes aren't in order.
+    SubjectSetOrder = 18,
     /// Subject has a text without characters.
-    SubjectTextEmpty = 16,
+    SubjectTextEmpty = 19,
     /// Subject has a text that is longer than its attribute may be.
-    SubjectTextLong = 17,
+    SubjectTextLong = 20,
     /// `countryName` in subject isn't a `PrintableString` of two letters.
-    SubjectCountry = 18,
+    SubjectCountry = 21,
     /// Subject has a string type that isn't for new names.
-    SubjectStringType = 19,
+    SubjectStringType = 22,
     /// Subject has an `emailAddress`, but no `rfc822Name` is among the alternative names.
-    SubjectMailboxUnnamed = 20,
+    SubjectMailboxUnnamed = 23,
     /// RSA modulus isn't positive.
-    ModulusNotPositive = 21,
+    ModulusNotPositive = 24,
     /// RSA modulus is even.
-    ModulusEven = 22,
+    ModulusEven = 25,
     /// RSA modulus has fewer than 2048 bits.
-    ModulusShort = 23,
+    ModulusShort = 26,
     /// RSA exponent is below 3.
-    ExponentLow = 24,
+    ExponentLow = 27,
     /// RSA exponent is even.
-    ExponentEven = 25,
+    ExponentEven = 28,
     /// Issuer has a unique identifier.
-    IssuerUniqueId = 26,
+    IssuerUniqueId = 29,
     /// Subject has a unique identifier.
-    SubjectUniqueId = 27,
+    SubjectUniqueId = 30,
+    /// An extension stands twice.
+    ExtensionRepeated = 31,
     /// An extension is critical that RFC 5280 doesn't define.
-    CriticalUnknown = 28,
+    CriticalUnknown = 32,
     /// Authority key identifier is critical.
-    AuthorityKeyCritical = 29,
+    AuthorityKeyCritical = 33,
     /// No authority key identifier has a `keyIdentifier`, though issuer and subject differ.
-    AuthorityKeyMissing = 30,
+    AuthorityKeyMissing = 34,
     /// Authority key identifier has one of `authorityCertIssuer` and `authorityCertSerialNumber`
     /// without the other.
-    AuthorityKeyPartial = 31,
+    AuthorityKeyPartial = 35,
     /// Subject key identifier is critical.
-    SubjectKeyCritical = 32,
+    SubjectKeyCritical = 36,
     /// Authority has no subject key identifier.
-    SubjectKeyMissing = 33,
+    SubjectKeyMissing = 37,
     /// Key usage allows nothing.
-    KeyUsageEmpty = 34,
+    KeyUsageEmpty = 38,
     /// Key usage has trailing zero bits.
-    KeyUsagePadded = 35,
+    KeyUsagePadded = 39,
     /// Key usage isn't critical.
-    KeyUsageNotCritical = 36,
+    KeyUsageNotCritical = 40,
     /// Key may sign certificates, but the subject isn't an authority.
-    SigningWithoutAuthority = 37,
+    SigningWithoutAuthority = 41,
     /// Subject is an authority, but no key usage lets the key sign certificates.
-    AuthorityWithoutSigning = 38,
+    AuthorityWithoutSigning = 42,
     /// Policy mappings aren't critical.
-    PolicyMappingsNotCritical = 39,
+    PolicyMappingsNotCritical = 43,
     /// `subjectAltName` has no names.
-    SubjectNamesEmpty = 40,
+    SubjectNamesEmpty = 44,
     /// `subjectAltName` is critical, though the subject isn't empty.
-    SubjectNamesCritical = 41,
+    SubjectNamesCritical = 45,
     /// An alternative name is empty.
-    AlternativeNameEmpty = 42,
+    AlternativeNameEmpty = 46,
     /// An `iPAddress` has neither four nor sixteen octets.
-    AddressLength = 43,
+    AddressLength = 47,
     /// An `rfc822Name` has no @.
-    MailboxWithoutAt = 44,
+    MailboxWithoutAt = 48,
     /// A `dNSName` isn't the name of a host.
-    HostName = 45,
+    HostName = 49,
     /// A `uniformResourceIdentifier` has no scheme.
-    UriWithoutScheme = 46,
+    UriWithoutScheme = 50,
     /// `issuerAltName` has no names.
-    IssuerNamesEmpty = 47,
+    IssuerNamesEmpty = 51,
     /// `issuerAltName` is critical.
-    IssuerNamesCritical = 48,
+    IssuerNamesCritical = 52,
     /// `subjectDirectoryAttributes` is critical.
-    DirectoryAttributesCritical = 49,
+    DirectoryAttributesCritical = 53,
     /// Basic constraints of an authority that may sign certificates aren't critical.
-    AuthorityNotCritical = 50,
+    AuthorityNotCritical = 54,
     /// Path length is limited, but the subject isn't an authority.
-    PathLengthIdle = 51,
+    PathLengthIdle = 55,
     /// Path length is limited, but no key usage lets the key sign certificates.
-    PathLengthWithoutSigning = 52,
+    PathLengthWithoutSigning = 56,
     /// `cA` FALSE is encoded, though it is the default.
-    AuthorityDefaultSpelled = 53,
+    AuthorityDefaultSpelled = 57,
     /// Name constraints aren't critical.
-    NameConstraintsNotCritical = 54,
+    NameConstraintsNotCritical = 58,
     /// Name constraints are there, but the subject isn't an authority.
-    NameConstraintsWithoutAuthority = 55,
+    NameConstraintsWithoutAuthority = 59,
     /// Policy constraints aren't critical.
-    PolicyConstraintsNotCritical = 56,
+    PolicyConstraintsNotCritical = 60,
     /// `extKeyUsage` has no purposes.
-    PurposesEmpty = 57,
+    PurposesEmpty = 61,
     /// `extKeyUsage` has `anyExtendedKeyUsage`, and is critical.
-    AnyPurposeCritical = 58,
+    AnyPurposeCritical = 62,
     /// `cRLDistributionPoints` is critical.
-    RevocationPointsCritical = 59,
+    RevocationPointsCritical = 63,
     /// `inhibitAnyPolicy` isn't critical.
-    AnyPolicyNotCritical = 60,
+    AnyPolicyNotCritical = 64,
     /// `freshestCRL` is critical.
-    FreshestListCritical = 61,
+    FreshestListCritical = 65,
     /// `authorityInfoAccess` is critical.
-    AuthorityAccessCritical = 62,
+    AuthorityAccessCritical = 66,
     /// `subjectInfoAccess` is critical.
-    SubjectAccessCritical = 63,
+    SubjectAccessCritical = 67,
 }
 
 impl Rule {
     /// Every rule, in the order of their numbers.
-    pub const ALL: [Rule; 63] = [
+    pub const ALL: [Rule; 67] = [
         Rule::SerialNotPositive,
         Rule::SerialTooLong,
         Rule::AlgorithmsDiffer,
+        Rule::SaltLengthSpelled,
         Rule::IssuerEmpty,
         Rule::IssuerSetEmpty,
+        Rule::IssuerSetOrder,
         Rule::IssuerTextEmpty,
         Rule::IssuerTextLong,
         Rule::IssuerCountry,
@@ -155,6 +165,7 @@ impl Rule {
         Rule::SubjectEmpty,
         Rule::AuthorityUnnamed,
         Rule::SubjectSetEmpty,
+        Rule::SubjectSetOrder,
         Rule::SubjectTextEmpty,
         Rule::SubjectTextLong,
         Rule::SubjectCountry,
@@ -167,6 +178,7 @@ impl Rule {
         Rule::ExponentEven,
         Rule::IssuerUniqueId,
         Rule::SubjectUniqueId,
+        Rule::ExtensionRepeated,
         Rule::CriticalUnknown,
         Rule::AuthorityKeyCritical,
         Rule::AuthorityKeyMissing,
@@ -224,8 +236,10 @@ impl Rule {
             Rule::SerialNotPositive => "serial-not-positive",
             Rule::SerialTooLong => "serial-too-long",
             Rule::AlgorithmsDiffer => "algorithms-differ",
+            Rule::SaltLengthSpelled => "salt-length-spelled",
             Rule::IssuerEmpty => "issuer-empty",
             Rule::IssuerSetEmpty => "issuer-set-empty",
+            Rule::IssuerSetOrder => "issuer-set-order",
             Rule::IssuerTextEmpty => "issuer-text-empty",
             Rule::IssuerTextLong => "issuer-text-long",
             Rule::IssuerCountry => "issuer-country",
@@ -236,6 +250,7 @@ impl Rule {
             Rule::SubjectEmpty => "subject-empty",
             Rule::AuthorityUnnamed => "authority-unnamed",
             Rule::SubjectSetEmpty => "subject-set-empty",
+            Rule::SubjectSetOrder => "subject-set-order",
             Rule::SubjectTextEmpty => "subject-text-empty",
             Rule::SubjectTextLong => "subject-text-long",
             Rule::SubjectCountry => "subject-country",
@@ -248,6 +263,7 @@ impl Rule {
             Rule::ExponentEven => "exponent-even",
             Rule::IssuerUniqueId => "issuer-unique-id",
             Rule::SubjectUniqueId => "subject-unique-id",
+            Rule::ExtensionRepeated => "extension-repeated",
             Rule::CriticalUnknown => "critical-unknown",
             Rule::AuthorityKeyCritical => "authority-key-critical",
             Rule::AuthorityKeyMissing => "authority-key-missing",
@@ -296,8 +312,10 @@ impl Rule {
             Rule::AlgorithmsDiffer => {
                 "the algorithm in the signed part isn't the one beside the signature"
             }
+            Rule::SaltLengthSpelled => "a salt length of 20 is encoded, though it is the default",
             Rule::IssuerEmpty => "issuer is empty",
             Rule::IssuerSetEmpty => "issuer has a set without attributes",
+            Rule::IssuerSetOrder => "issuer has a set whose attributes aren't in order",
             Rule::IssuerTextEmpty => "issuer has a text without characters",
             Rule::IssuerTextLong => "issuer has a text that is longer than its attribute may be",
             Rule::IssuerCountry => "countryName in issuer isn't a PrintableString of two letters",
@@ -308,6 +326,7 @@ impl Rule {
             Rule::SubjectEmpty => "subject is empty, and no critical subjectAltName names it",
             Rule::AuthorityUnnamed => "subject of an authority is empty",
             Rule::SubjectSetEmpty => "subject has a set without attributes",
+            Rule::SubjectSetOrder => "subject has a set whose attributes aren't in order",
             Rule::SubjectTextEmpty => "subject has a text without characters",
             Rule::SubjectTextLong => "subject has a text that is longer than its attribute may be",
             Rule::SubjectCountry => "countryName in subject isn't a PrintableString of two letters",
@@ -322,6 +341,7 @@ impl Rule {
             Rule::ExponentEven => "RSA exponent is even",
             Rule::IssuerUniqueId => "issuer has a unique identifier",
             Rule::SubjectUniqueId => "subject has a unique identifier",
+            Rule::ExtensionRepeated => "an extension stands twice",
             Rule::CriticalUnknown => "an extension is critical that RFC 5280 doesn't define",
             Rule::AuthorityKeyCritical => "authority key identifier is critical",
             Rule::AuthorityKeyMissing => {
@@ -385,8 +405,10 @@ impl Rule {
             Rule::SerialNotPositive => "RFC 5280, 4.1.2.2",
             Rule::SerialTooLong => "RFC 5280, 4.1.2.2",
             Rule::AlgorithmsDiffer => "RFC 5280, 4.1.1.2",
+            Rule::SaltLengthSpelled => "X.690, 11.5",
             Rule::IssuerEmpty => "RFC 5280, 4.1.2.4",
             Rule::IssuerSetEmpty => "RFC 5280, 4.1.2.4",
+            Rule::IssuerSetOrder => "X.690, 11.6",
             Rule::IssuerTextEmpty => "RFC 5280, A.1",
             Rule::IssuerTextLong => "RFC 5280, A.1",
             Rule::IssuerCountry => "RFC 5280, A.1",
@@ -397,6 +419,7 @@ impl Rule {
             Rule::SubjectEmpty => "RFC 5280, 4.1.2.6",
             Rule::AuthorityUnnamed => "RFC 5280, 4.1.2.6",
             Rule::SubjectSetEmpty => "RFC 5280, 4.1.2.4",
+            Rule::SubjectSetOrder => "X.690, 11.6",
             Rule::SubjectTextEmpty => "RFC 5280, A.1",
             Rule::SubjectTextLong => "RFC 5280, A.1",
             Rule::SubjectCountry => "RFC 5280, A.1",
@@ -409,6 +432,7 @@ impl Rule {
             Rule::ExponentEven => "RFC 8017, 3.1",
             Rule::IssuerUniqueId => "RFC 5280, 4.1.2.8",
             Rule::SubjectUniqueId => "RFC 5280, 4.1.2.8",
+            Rule::ExtensionRepeated => "RFC 5280, 4.2",
             Rule::CriticalUnknown => "RFC 5280, 4.2",
             Rule::AuthorityKeyCritical => "RFC 5280, 4.2.1.1",
             Rule::AuthorityKeyMissing => "RFC 5280, 4.2.1.1",

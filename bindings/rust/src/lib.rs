@@ -68,7 +68,8 @@ mod values;
 #[cfg(feature = "alloc")]
 pub use crate::allocated::{
     certificate, certificate_outline, check, crl, encode, extensions, findings, places,
-    private_key, private_key_outline, public_key, report, request, request_outline, signed_part,
+    private_key, private_key_outline, public_key, report, request, request_findings,
+    request_outline, signed_part,
 };
 pub use crate::error::{Error, Reason, Refused};
 pub use crate::field_path::FieldPath;

@@ -111,6 +111,22 @@ impl<'m> Reader<'m> {
         Ok(out.get(..count).unwrap_or_default())
     }
 
+    /// Writes which rules a request breaks to the front of `out`: as [`findings`](Self::findings), by
+    /// its subject, its key, the algorithm of its signature, and the extensions that it asks for.
+    ///
+    /// # Errors
+    /// [`Error::Refused`], [`Error::OutOfMemory`] and [`Error::BufferTooShort`].
+    pub fn request_findings<'o>(
+        &mut self,
+        der: &[u8],
+        out: &'o mut [Finding],
+    ) -> Result<&'o [Finding], Error> {
+        let mut count = 0;
+        let status = library::places::request_findings(self.memory, der, out, &mut count);
+        self.done(status, Kind::Request, der, count)?;
+        Ok(out.get(..count).unwrap_or_default())
+    }
+
     /// What the signature of a certificate or a request covers.
     ///
     /// # Errors

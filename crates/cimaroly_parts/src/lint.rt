@@ -1,4 +1,4 @@
-//! `cimaroly lint`: what is wrong with certificates by the rules.
+//! `cimaroly lint`: what is wrong with certificates and requests by the rules.
 
 use crate::asked::{colours_of, plain, time_of};
 use crate::cli::{FOLDERS, color_option, flag, paths};
@@ -25,8 +25,8 @@ pub(crate) fn lint_command<'a>(alloc: Global) -> Result<Command<'a>, AllocError>
         .value_name("NAMES")
         .help("Leave out these rules");
     Command::new(alloc, "lint")
-        .about("Says which rules of RFC 5280 and X.690 certificates break, and where")
-        .arg(flag(alloc, "json", "Print one JSON object for each certificate"))?
+        .about("Says which rules of RFC 5280 and X.690 certificates and requests break, and where")
+        .arg(flag(alloc, "json", "Print one JSON object for each structure"))?
         .arg(rule)?
         .arg(ignore)?
         .arg(flag(alloc, "list", "Print all rules, and why each matters"))?
@@ -132,7 +132,7 @@ pub(crate) struct Totals(pub(crate) Tally);
 impl Display for Totals {
     fn fmt<W: Write>(&self, f: &mut fmt::Formatter<W>) -> fmt::Result {
         let tally = &self.0;
-        write!(f, "{}: ", Count(tally.structures(), "certificate"))?;
+        write!(f, "{}: ", Count(tally.structures(), "structure"))?;
         write!(
             f,
             "{} without findings, {} with findings, ",

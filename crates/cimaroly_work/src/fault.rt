@@ -2,7 +2,7 @@
 
 use crate::lines::write_place;
 use std::alloc::{AllocError, Global};
-use std::fmt::Write;
+use std::fmt::{self, Display, Write};
 use x509_findings::{Finding, Severity};
 use x509_inspect::{Source, Standing};
 use x509_report_parts::{Colours, JsonSink, Mark, Span};
@@ -52,6 +52,13 @@ impl Fault {
     }
 }
 
+impl Display for Fault {
+    fn fmt<W: Write>(&self, f: &mut fmt::Formatter<W>) -> fmt::Result {
+        let Span { start, end } = self.at;
+        write!(f, "{} at {start}..{end} ({})", self.text, self.clause)
+    }
+}
+
 /// Writes the line of a finding.
 pub(crate) fn write_fault(
     out: &mut String,
@@ -65,15 +72,8 @@ pub(crate) fn write_fault(
         Severity::Warning => Mark::Deviation,
     };
     let (begin, end) = (colours.begin(mark), colours.end());
-    write!(
-        out,
-        ": {begin}{}{end}: {}",
-        fault.severity.name(),
-        fault.text
-    )?;
-    let Span { start, end: behind } = fault.at;
-    let Fault { clause, name, .. } = fault;
-    writeln!(out, " at {start}..{behind} ({clause}) [{name}]")
+    let (severity, name) = (fault.severity.name(), fault.name);
+    writeln!(out, ": {begin}{severity}{end}: {fault} [{name}]")
 }
 
 /// Writes the object of a finding.

@@ -17,6 +17,7 @@ mod settings;
 mod signed;
 mod status;
 mod stop;
+mod strict;
 mod structure;
 pub mod time;
 

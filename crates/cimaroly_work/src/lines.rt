@@ -1,5 +1,6 @@
 //! The lines that say what a structure comes to.
 
+use crate::fault;
 use cimaroly_outlines::OutlineNote;
 use std::alloc::{AllocError, Global};
 use std::fmt::{self, Display, Write};
@@ -88,9 +89,16 @@ pub(crate) fn write_named(
     write!(out, ": {name}: ")
 }
 
-/// The deviations on one line, as in `1 deviation: RSA parameters absent at 37..48`.
+/// The deviations on one line, as in `1 deviation: RSA parameters absent at 37..48`, and what else X.690 forbids.
 #[derive(Clone, Copy, Drop)]
-pub(crate) struct Deviations<'a>(pub(crate) &'a [Place]);
+pub(crate) struct Deviations<'a>(pub(crate) &'a [Place], pub(crate) &'a [fault::Fault]);
+
+impl Deviations<'_> {
+    /// Whether there are none, and nothing else.
+    pub(crate) fn is_ok(&self) -> bool {
+        self.0.is_empty() && self.1.is_empty()
+    }
+}
 
 /// Writes the deviations' names and places.
 fn write_places<W: Write>(f: &mut fmt::Formatter<W>, places: &[Place]) -> fmt::Result {
@@ -108,14 +116,31 @@ fn write_places<W: Write>(f: &mut fmt::Formatter<W>, places: &[Place]) -> fmt::R
     Ok(())
 }
 
+/// Writes what X.690 forbids, as in `not in DER: key usage has trailing zero bits at 94..170 (X.690, 11.2.2)`.
+fn write_loose<W: Write>(f: &mut fmt::Formatter<W>, faults: &[fault::Fault]) -> fmt::Result {
+    let mut between = "not in DER: ";
+    for fault in faults {
+        write!(f, "{between}{fault}")?;
+        between = ", ";
+    }
+    Ok(())
+}
+
 impl Display for Deviations<'_> {
     fn fmt<W: Write>(&self, f: &mut fmt::Formatter<W>) -> fmt::Result {
-        match self.0.len() {
-            0 => return f.write_str("ok"),
+        let Deviations(places, faults) = *self;
+        match places.len() {
+            0 if faults.is_empty() => return f.write_str("ok"),
+            0 => return write_loose(f, faults),
             1 => f.write_str("1 deviation")?,
             count => write!(f, "{count} deviations")?,
         }
-        write_places(f, self.0)
+        write_places(f, places)?;
+        if faults.is_empty() {
+            return Ok(());
+        }
+        f.write_str("; ")?;
+        write_loose(f, faults)
     }
 }
 
@@ -124,12 +149,11 @@ pub(crate) fn write_read(
     out: &mut String,
     source: Source<'_>,
     kind: Kind,
-    places: &[Place],
+    deviations: Deviations<'_>,
     colours: Colours,
 ) -> Result<(), AllocError> {
     write_structure(out, source, kind)?;
-    let deviations = Deviations(places);
-    if places.is_empty() {
+    if deviations.is_ok() {
         return writeln!(out, "{deviations}");
     }
     let begin = colours.begin(Mark::Deviation);
@@ -141,15 +165,14 @@ pub(crate) fn write_dated(
     out: &mut String,
     source: Source<'_>,
     kind: Kind,
-    (places, standing): (&[Place], Standing),
+    (deviations, standing): (Deviations<'_>, Standing),
     colours: Colours,
 ) -> Result<(), AllocError> {
     if standing == Standing::Valid {
-        return write_read(out, source, kind, places, colours);
+        return write_read(out, source, kind, deviations, colours);
     }
     write_structure(out, source, kind)?;
-    let begin = colours.begin(Mark::Deviation);
-    let (end, deviations) = (colours.end(), Deviations(places));
+    let (begin, end) = (colours.begin(Mark::Deviation), colours.end());
     writeln!(out, "{begin}{}; {deviations}{end}", standing.name())
 }
 
@@ -186,11 +209,16 @@ impl Display for FaultsLine<'_> {
 }
 
 /// In which colour a line stands of what was searched.
-fn mark_of(searched: &Searched<Global>, standing: Standing) -> Option<Mark> {
+fn mark_of(
+    searched: &Searched<Global>,
+    loose: &[fault::Fault],
+    standing: Standing,
+) -> Option<Mark> {
     if !searched.faults.malformed.is_empty() {
         return Some(Mark::Refusal);
     }
-    let is_well = searched.places.is_empty() && searched.faults.deviations == 0;
+    let deviations = Deviations(searched.places.as_slice(), loose);
+    let is_well = deviations.is_ok() && searched.faults.deviations == 0;
     if is_well && standing == Standing::Valid {
         return None;
     }
@@ -203,11 +231,11 @@ pub(crate) fn write_searched(
     out: &mut String,
     source: Source<'_>,
     name: &str,
-    (searched, standing): (&Searched<Global>, Standing),
+    (searched, loose, standing): (&Searched<Global>, &[fault::Fault], Standing),
     colours: Colours,
 ) -> Result<(), AllocError> {
     write_named(out, source, name)?;
-    let (begin, end) = match mark_of(searched, standing) {
+    let (begin, end) = match mark_of(searched, loose, standing) {
         Some(mark) => (colours.begin(mark), colours.end()),
         None => ("", ""),
     };
@@ -222,7 +250,7 @@ pub(crate) fn write_searched(
     writeln!(
         out,
         "{}{faults}{end}",
-        Deviations(searched.places.as_slice())
+        Deviations(searched.places.as_slice(), loose)
     )
 }
 

@@ -1,6 +1,7 @@
 //! What is done with outlines: of structures that are refused, and of revocation lists.
 
 use crate::cells::cells_of;
+use crate::fault::Fault;
 use crate::lines::{write_named, write_searched};
 use crate::session::Session;
 use crate::settings::{Action, Format, Settings};
@@ -199,7 +200,8 @@ impl<W: Write> Session<'_, W> {
                     return Ok(());
                 }
                 let colours = self.settings.layout.colours;
-                let come = (&searched, standing);
+                let none: &[Fault] = &[];
+                let come = (&searched, none, standing);
                 write_searched(&mut self.text, source, kind.name(), come, colours)?;
                 self.put_text()
             }

@@ -1,11 +1,14 @@
 //! What is done with one structure.
 
 use crate::cells::cells_of;
-use crate::lines::{write_dated, write_read, write_refused, write_searched, write_structure};
+use crate::lines::{
+    Deviations, write_dated, write_read, write_refused, write_searched, write_structure,
+};
 use crate::session::Session;
 use crate::settings::{Action, Format, Settings};
 use crate::status::Status;
 use crate::stop::Stop;
+use crate::strict::push_loose;
 use cimaroly_outlines::OutlineNote;
 use std::alloc::{AllocError, Global};
 use std::io::Write;
@@ -150,12 +153,14 @@ impl<W: Write> Session<'_, W> {
         }
         match check(self.alloc, kind, bytes) {
             Ok(places) => {
-                self.tally.add(places.len());
+                let loose = self.loose_in(kind, bytes)?;
+                self.tally.add(places.len() + loose.len());
                 if self.settings.format == Format::Quiet {
                     return Ok(());
                 }
                 let colours = self.settings.layout.colours;
-                write_read(&mut self.text, source, kind, places.as_slice(), colours)?;
+                let deviations = Deviations(places.as_slice(), loose.as_slice());
+                write_read(&mut self.text, source, kind, deviations, colours)?;
                 self.put_text()
             }
             Err(refused) => self.refuse_as(source, line_of(refused, kind, bytes)),
@@ -172,14 +177,15 @@ impl<W: Write> Session<'_, W> {
     ) -> Result<(), Stop> {
         match dated(self.alloc, kind, bytes) {
             Ok((places, validity)) => {
+                let loose = self.loose_in(kind, bytes)?;
                 let standing = standing_of(Some(at), validity);
-                self.tally.add(places.len());
+                self.tally.add(places.len() + loose.len());
                 self.tally.date(standing);
                 if self.settings.format == Format::Quiet {
                     return Ok(());
                 }
                 let colours = self.settings.layout.colours;
-                let come = (places.as_slice(), standing);
+                let come = (Deviations(places.as_slice(), loose.as_slice()), standing);
                 write_dated(&mut self.text, source, kind, come, colours)?;
                 self.put_text()
             }
@@ -191,13 +197,14 @@ impl<W: Write> Session<'_, W> {
     fn check_deep(&mut self, source: Source<'_>, kind: Kind, bytes: &[u8]) -> Result<(), Stop> {
         match searched(self.alloc, kind, bytes) {
             Ok(searched) => {
+                let loose = self.loose_in(kind, bytes)?;
                 let standing = self.tally_searched(&searched);
-                self.tally.add(searched.places.len());
+                self.tally.add(searched.places.len() + loose.len());
                 if self.settings.format == Format::Quiet {
                     return Ok(());
                 }
                 let colours = self.settings.layout.colours;
-                let come = (&searched, standing);
+                let come = (&searched, loose.as_slice(), standing);
                 write_searched(&mut self.text, source, kind.name(), come, colours)?;
                 self.put_text()
             }
@@ -305,11 +312,14 @@ impl<W: Write> Session<'_, W> {
             extent,
         };
         let (line, outcome) = push_json(self.alloc, line, head)?;
-        self.count(outcome)?;
-        let line = match outcome {
-            Ok(_deviations) => line,
-            Err(_refused) => self.with_outline(line, kind, bytes, extent)?,
+        let Ok(deviations) = outcome else {
+            self.count(outcome)?;
+            let line = self.with_outline(line, kind, bytes, extent)?;
+            return self.put_line(line);
         };
+        let loose = self.loose_in(kind, bytes)?;
+        self.tally.add(deviations.saturating_add(loose.len()));
+        let line = push_loose(self.alloc, line, loose.as_slice())?;
         self.put_line(line)
     }
 

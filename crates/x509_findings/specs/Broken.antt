@@ -11,6 +11,7 @@ use Rattle.x509_findings.specs.Conditions.{Holds}
 use Rattle.x509_findings.specs.declared.condition.Condition.{Condition}
 use Rattle.x509_findings.specs.declared.condition.Condition.TheVariants as condition
 use Rattle.x509_findings.specs.declared.condition.FieldFault.TheVariants as field
+use Rattle.x509_findings.specs.declared.condition.OrderFault.TheVariants as order
 
 -- what breaks each rule
 abbrev pub condition_of : Rule → Condition
@@ -19,10 +20,14 @@ condition_of rule.SerialNotPositive = condition.Field field.LowSerial
 condition_of rule.SerialTooLong = condition.Field field.LongSerial
 -- the same algorithm as in signatureAlgorithm (4.1.1.2, 4.1.2.3)
 condition_of rule.AlgorithmsDiffer = condition.Field field.OtherAlgorithm
+-- a salt length of 20 is the default (RFC 4055, 3.1), which is left out (X.690, 11.5)
+condition_of rule.SaltLengthSpelled = condition.Field field.SpelledSalt
 -- a non-empty distinguished name, of sets of one attribute at least, with texts of one character at least and as many as A.1 allows, in
 -- PrintableString or UTF8String (4.1.2.4)
 condition_of rule.IssuerEmpty = condition.Field field.NoIssuer
 condition_of rule.IssuerSetEmpty = condition.Field field.EmptyIssuerSet
+-- a SET OF is encoded in ascending order (X.690, 11.6)
+condition_of rule.IssuerSetOrder = condition.Order order.UnsortedIssuer
 condition_of rule.IssuerTextEmpty = condition.Issuer text.Empty
 condition_of rule.IssuerTextLong = condition.Issuer text.Long
 condition_of rule.IssuerCountry = condition.Issuer text.NoCountry
@@ -35,6 +40,7 @@ condition_of rule.NotAfterForm = condition.Field field.EarlyEnd
 condition_of rule.SubjectEmpty = condition.Field field.NoSubject
 condition_of rule.AuthorityUnnamed = condition.Field field.NoAuthority
 condition_of rule.SubjectSetEmpty = condition.Field field.EmptySubjectSet
+condition_of rule.SubjectSetOrder = condition.Order order.UnsortedSubject
 condition_of rule.SubjectTextEmpty = condition.Subject text.Empty
 condition_of rule.SubjectTextLong = condition.Subject text.Long
 condition_of rule.SubjectCountry = condition.Subject text.NoCountry
@@ -49,6 +55,8 @@ condition_of rule.ExponentEven = condition.Field field.EvenExponent
 -- no unique identifiers (RFC 5280, 4.1.2.8)
 condition_of rule.IssuerUniqueId = condition.Field field.IssuerId
 condition_of rule.SubjectUniqueId = condition.Field field.SubjectId
+-- an extension stands there once (4.2)
+condition_of rule.ExtensionRepeated = condition.Order order.RepeatedExtension
 -- an extension that isn't known isn't critical (4.2)
 condition_of rule.CriticalUnknown = condition.Has feature.CriticalUnknown
 -- key identifiers aren't critical; a certificate that isn't self-issued has the identifier of the key that signed, and an

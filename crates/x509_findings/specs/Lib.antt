@@ -3,3 +3,5 @@ pub mod Conditions
 pub mod Broken
 pub mod Places
 pub mod Findings
+pub mod Requests
+pub mod RequestFindings

@@ -1,31 +1,42 @@
 //! Which rules a certificate breaks.
 
-ghost use Rattle.std.specs.Prelude.{◌↔◌, IsTrue};
-ghost use Rattle.x509_findings.specs.Broken.{Broken, FirstBroken};
+ghost use Rattle.std.specs.Prelude.{◌≡◌, ◌↔◌, false, IfOk, IsOk, IsTrue};
+ghost use Rattle.x509_findings.specs.Broken.{Broken, FirstBroken, condition_of};
+ghost use Rattle.x509_findings.specs.Conditions.{takes_memory};
 
 use crate::condition::{condition_of, holds};
 use picky_asn1_x509::Certificate;
-use std::alloc::Allocator;
+use std::alloc::{AllocError, Allocator};
 use x509_rules::Rule;
 
-/// Whether a certificate breaks a rule. Takes no memory.
-pub fn is_broken<A: Allocator>(rule: Rule, certificate: &Certificate<A>) -> bool
-    ensures { IsTrue result ↔ Broken rule certificate.now }
+/// Whether a certificate breaks a rule. Takes memory for rules about the order of sets and about extensions that stand
+/// twice, and for no others.
+///
+/// # Errors
+/// `AllocError`, where memory is refused.
+pub fn is_broken<A: Allocator, B: Allocator + Copy>(
+    alloc: B,
+    rule: Rule,
+    certificate: &Certificate<A>,
+) -> Result<bool, AllocError>
+    ensures told { IfOk result (λ told. IsTrue told ↔ Broken rule certificate.now) }
+    ensures free { takes_memory (condition_of rule) ≡ false → IsOk result }
 {
-    holds(condition_of(rule), certificate)
+    holds(alloc, condition_of(rule), certificate)
 }
 
 /// How many of some rules stand before the first one that a certificate breaks.
-pub(crate) fn first_broken<A: Allocator>(
+pub(crate) fn first_broken<A: Allocator, B: Allocator + Copy>(
+    alloc: B,
     rules: &[Rule],
     certificate: &Certificate<A>,
-) -> Option<usize>
-    ensures { FirstBroken certificate.now rules.now result }
+) -> Result<Option<usize>, AllocError>
+    ensures { IfOk result (λ found. FirstBroken certificate.now rules.now found) }
 {
     for index in 0..rules.len() {
-        if is_broken(rules[index], certificate) {
-            return Some(index);
+        if is_broken(alloc, rules[index], certificate)? {
+            return Ok(Some(index));
         }
     }
-    None
+    Ok(None)
 }

@@ -1,16 +1,17 @@
 //! What rules ask of a certificate.
 
-ghost use Rattle.std.specs.Prelude.{◌≡◌, ◌↔◌, IsTrue};
+ghost use Rattle.std.specs.Prelude.{◌≡◌, ◌↔◌, false, IfOk, IsOk, IsTrue};
 ghost use Rattle.x509_findings.specs.Broken.{condition_of};
-ghost use Rattle.x509_findings.specs.Conditions.{BreaksField, Holds, LacksAuthorityKey};
+ghost use Rattle.x509_findings.specs.Conditions.{BreaksField, BreaksOrder, Holds, LacksAuthorityKey, takes_memory};
 
 use picky_asn1_x509::Certificate;
-use std::alloc::Allocator;
+use std::alloc::{AllocError, Allocator};
+use x509_findings_memory::{has_unsorted, repeats};
 use x509_findings_parts::{
     Feature, Known, NameFault, TextFault, are_other_names, differ, has_email, has_empty_set,
     has_even_exponent, has_even_modulus, has_low_exponent, has_low_modulus, has_short_modulus,
     have_without, is_before, is_below, is_early, is_longer, is_unnamed, name_has_text_fault,
-    some_have,
+    some_have, spells_salt,
 };
 use x509_rules::Rule;
 
@@ -23,6 +24,8 @@ pub enum FieldFault {
     LongSerial,
     /// The algorithm in the signed part isn't the one beside the signature.
     OtherAlgorithm,
+    /// The algorithm is RSASSA-PSS, with a salt length that is the default.
+    SpelledSalt,
     /// The issuer has no names.
     NoIssuer,
     /// A set of the issuer's attributes is empty.
@@ -61,6 +64,17 @@ pub enum FieldFault {
     NeedlessNames,
 }
 
+/// What is wrong with a certificate and takes memory to tell.
+#[derive(Clone, Copy)]
+pub enum OrderFault {
+    /// The attributes of a set of the issuer aren't in the order of DER.
+    UnsortedIssuer,
+    /// The attributes of a set of the subject aren't in the order of DER.
+    UnsortedSubject,
+    /// Two extensions have one identifier.
+    RepeatedExtension,
+}
+
 /// What a rule asks. It is broken where this holds.
 #[derive(Clone, Copy)]
 pub enum Condition {
@@ -74,6 +88,8 @@ pub enum Condition {
     Has(Feature),
     /// An extension has a feature, and none has another.
     HasWithout(Feature, Feature),
+    /// What stands there isn't in order, or stands there twice.
+    Order(OrderFault),
 }
 
 /// What a rule asks.
@@ -85,8 +101,10 @@ pub(crate) fn condition_of(rule: Rule) -> Condition
         Rule::SerialNotPositive => Condition::Field(FieldFault::LowSerial),
         Rule::SerialTooLong => Condition::Field(FieldFault::LongSerial),
         Rule::AlgorithmsDiffer => Condition::Field(FieldFault::OtherAlgorithm),
+        Rule::SaltLengthSpelled => Condition::Field(FieldFault::SpelledSalt),
         Rule::IssuerEmpty => Condition::Field(FieldFault::NoIssuer),
         Rule::IssuerSetEmpty => Condition::Field(FieldFault::EmptyIssuerSet),
+        Rule::IssuerSetOrder => Condition::Order(OrderFault::UnsortedIssuer),
         Rule::IssuerTextEmpty => Condition::Issuer(TextFault::Empty),
         Rule::IssuerTextLong => Condition::Issuer(TextFault::Long),
         Rule::IssuerCountry => Condition::Issuer(TextFault::NoCountry),
@@ -97,6 +115,7 @@ pub(crate) fn condition_of(rule: Rule) -> Condition
         Rule::SubjectEmpty => Condition::Field(FieldFault::NoSubject),
         Rule::AuthorityUnnamed => Condition::Field(FieldFault::NoAuthority),
         Rule::SubjectSetEmpty => Condition::Field(FieldFault::EmptySubjectSet),
+        Rule::SubjectSetOrder => Condition::Order(OrderFault::UnsortedSubject),
         Rule::SubjectTextEmpty => Condition::Subject(TextFault::Empty),
         Rule::SubjectTextLong => Condition::Subject(TextFault::Long),
         Rule::SubjectCountry => Condition::Subject(TextFault::NoCountry),
@@ -109,6 +128,7 @@ pub(crate) fn condition_of(rule: Rule) -> Condition
         Rule::ExponentEven => Condition::Field(FieldFault::EvenExponent),
         Rule::IssuerUniqueId => Condition::Field(FieldFault::IssuerId),
         Rule::SubjectUniqueId => Condition::Field(FieldFault::SubjectId),
+        Rule::ExtensionRepeated => Condition::Order(OrderFault::RepeatedExtension),
         Rule::CriticalUnknown => Condition::Has(Feature::CriticalUnknown),
         Rule::AuthorityKeyCritical => Condition::Has(Feature::CriticalAuthorityKey),
         Rule::AuthorityKeyMissing => Condition::Field(FieldFault::NoAuthorityKey),
@@ -193,6 +213,7 @@ fn breaks_field<A: Allocator>(fault: FieldFault, certificate: &Certificate<A>) -
         FieldFault::LowSerial => is_below(&signed.serial_number, 1),
         FieldFault::LongSerial => is_longer(&signed.serial_number, 20),
         FieldFault::OtherAlgorithm => differ(&signed.signature, &certificate.signature_algorithm),
+        FieldFault::SpelledSalt => spells_salt(&signed.signature),
         FieldFault::NoIssuer => is_unnamed(&signed.issuer),
         FieldFault::EmptyIssuerSet => has_empty_set(&signed.issuer),
         FieldFault::NoPeriod => is_before(&validity.not_after, &validity.not_before),
@@ -214,18 +235,40 @@ fn breaks_field<A: Allocator>(fault: FieldFault, certificate: &Certificate<A>) -
     }
 }
 
+/// Whether something isn't in order, or stands there twice.
+fn breaks_order<A: Allocator, B: Allocator + Copy>(
+    alloc: B,
+    fault: OrderFault,
+    certificate: &Certificate<A>,
+) -> Result<bool, AllocError>
+    ensures { IfOk result (λ told. IsTrue told ↔ BreaksOrder fault certificate.now) }
+{
+    let signed = &certificate.tbs_certificate;
+    match fault {
+        OrderFault::UnsortedIssuer => has_unsorted(alloc, &signed.issuer),
+        OrderFault::UnsortedSubject => has_unsorted(alloc, &signed.subject),
+        OrderFault::RepeatedExtension => repeats(alloc, certificate.extensions()),
+    }
+}
+
 /// Whether what a rule asks holds of a certificate.
-pub(crate) fn holds<A: Allocator>(condition: Condition, certificate: &Certificate<A>) -> bool
-    ensures { IsTrue result ↔ Holds condition certificate.now }
+pub(crate) fn holds<A: Allocator, B: Allocator + Copy>(
+    alloc: B,
+    condition: Condition,
+    certificate: &Certificate<A>,
+) -> Result<bool, AllocError>
+    ensures told { IfOk result (λ told. IsTrue told ↔ Holds condition certificate.now) }
+    ensures free { takes_memory condition ≡ false → IsOk result }
 {
     let signed = &certificate.tbs_certificate;
     match condition {
-        Condition::Field(fault) => breaks_field(fault, certificate),
-        Condition::Issuer(fault) => name_has_text_fault(&signed.issuer, fault),
-        Condition::Subject(fault) => name_has_text_fault(&signed.subject, fault),
-        Condition::Has(feature) => some_have(certificate.extensions(), feature),
+        Condition::Field(fault) => Ok(breaks_field(fault, certificate)),
+        Condition::Issuer(fault) => Ok(name_has_text_fault(&signed.issuer, fault)),
+        Condition::Subject(fault) => Ok(name_has_text_fault(&signed.subject, fault)),
+        Condition::Has(feature) => Ok(some_have(certificate.extensions(), feature)),
         Condition::HasWithout(feature, other) => {
-            have_without(certificate.extensions(), feature, other)
+            Ok(have_without(certificate.extensions(), feature, other))
         }
+        Condition::Order(fault) => breaks_order(alloc, fault, certificate),
     }
 }

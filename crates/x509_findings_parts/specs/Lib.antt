@@ -3,6 +3,7 @@ pub mod Numbers
 pub mod Times
 pub mod Usages
 pub mod Keys
+pub mod Algorithms
 pub mod Known
 pub mod Extensions
 pub mod AlternativeNames

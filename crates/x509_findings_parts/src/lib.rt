@@ -2,6 +2,7 @@
 //! call answers whether a rule is broken, and takes no memory.
 #![tactic(auto)]
 
+pub mod algorithm;
 pub mod alternative_name;
 pub mod extension;
 mod host;
@@ -14,6 +15,7 @@ pub mod text;
 pub mod time;
 mod usage;
 
+pub use crate::algorithm::spells_salt;
 pub use crate::alternative_name::NameFault;
 pub use crate::extension::{Feature, have_without, some_have};
 pub use crate::key::{

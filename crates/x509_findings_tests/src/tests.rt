@@ -1,12 +1,12 @@
-//! Certificates that were encoded by hand, each with one fault, and whose fields stand where OpenSSL's `asn1parse` says.
+//! Certificates and a request that were encoded by hand, and whose fields stand where OpenSSL's `asn1parse` says.
 
 mod memory;
 
-use picky_asn1_x509::{Certificate, from_bytes};
-use std::alloc::Global;
+use picky_asn1_x509::{Certificate, CertificationRequest, from_bytes};
+use std::alloc::{AllocError, Global};
 use std::process::Abort;
 use x509_fields::Span;
-use x509_findings::{Finding, Findings, Rule};
+use x509_findings::{Finding, Findings, RequestFindings, Rule};
 
 /// A certificate in hexadecimal, the one rule that it breaks, and where.
 #[derive(Clone, Copy, Drop)]
@@ -50,11 +50,14 @@ const ROWS: [Row; 4] = [
     },
 ];
 
+/// What is found next, if memory isn't refused.
+type Found = Result<Option<Finding>, AllocError>;
+
 /// What is found first in a certificate, and then.
-fn first_two(rt: &impl Abort, alloc: Global, digits: &str) -> (Option<Finding>, Option<Finding>) {
+fn first_two(rt: &impl Abort, alloc: Global, digits: &str) -> (Found, Found) {
     let bytes = hex::decode(alloc, digits).expect(rt, "hexadecimal");
     let certificate: Certificate = from_bytes(alloc, &bytes).expect(rt, "a certificate");
-    let mut findings = Findings::of(&certificate, &bytes);
+    let mut findings = Findings::of(alloc, &certificate, &bytes);
     let first = findings.next();
     let second = findings.next();
     drop(findings);
@@ -70,13 +73,48 @@ fn a_rule_is_told_where_it_is_broken(rt: HostRuntime) {
             rule: row.rule,
             at: row.at,
         };
-        assert!(rt; first == Some(wanted));
-        assert!(rt; second.is_none());
+        assert!(rt; first == Ok(Some(wanted)));
+        assert!(rt; second == Ok(None));
     }
 }
 
 #[test]
 fn nothing_is_found_where_all_rules_are_kept(rt: HostRuntime) {
     let (first, _second) = first_two(&rt, rt.alloc(), KEPT);
-    assert!(rt; first.is_none());
+    assert!(rt; first == Ok(None));
+}
+
+/// A request whose subject has two common names, b in front of a, in one set, and which asks for a usage of two bits, of which
+/// the last is unset.
+const REQUEST: &str =
+    "3081b6306a02010030163114300806035504030c0162300806035504030c0161302a300506032b6570032100000102030405060708090a0b0c0d0e0f101112131415161718191a1b1c1d1e1fa021301f06092a864886f70d01090e31123010300e0603551d0f0101ff040403020680300506032b657003410000000000000000000000000000000000000000000000000000000000000000000000000000000000000000000000000000000000000000000000000000000000";
+
+/// What is found first in a request, then, and at last.
+fn first_three(rt: &impl Abort, alloc: Global, digits: &str) -> (Found, Found, Found) {
+    let bytes = hex::decode(alloc, digits).expect(rt, "hexadecimal");
+    let request: CertificationRequest = from_bytes(alloc, &bytes).expect(rt, "a request");
+    let mut findings = RequestFindings::of(alloc, &request, &bytes);
+    let told = (findings.next(), findings.next(), findings.next());
+    drop(findings);
+    drop(request);
+    told
+}
+
+#[test]
+fn rules_are_told_where_a_request_breaks_them(rt: HostRuntime) {
+    let (first, second, third) = first_three(&rt, rt.alloc(), REQUEST);
+    let order = Finding {
+        rule: Rule::SubjectSetOrder,
+        at: Span { start: 8, end: 32 },
+    };
+    let usage = Finding {
+        rule: Rule::KeyUsagePadded,
+        at: Span {
+            start: 76,
+            end: 111,
+        },
+    };
+    assert!(rt; first == Ok(Some(order)));
+    assert!(rt; second == Ok(Some(usage)));
+    assert!(rt; third == Ok(None));
 }

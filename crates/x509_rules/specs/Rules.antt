@@ -10,8 +10,10 @@ abbrev pub rule_name : Rule → List ℕ
 rule_name rule.SerialNotPositive = codes "serial-not-positive"
 rule_name rule.SerialTooLong = codes "serial-too-long"
 rule_name rule.AlgorithmsDiffer = codes "algorithms-differ"
+rule_name rule.SaltLengthSpelled = codes "salt-length-spelled"
 rule_name rule.IssuerEmpty = codes "issuer-empty"
 rule_name rule.IssuerSetEmpty = codes "issuer-set-empty"
+rule_name rule.IssuerSetOrder = codes "issuer-set-order"
 rule_name rule.IssuerTextEmpty = codes "issuer-text-empty"
 rule_name rule.IssuerTextLong = codes "issuer-text-long"
 rule_name rule.IssuerCountry = codes "issuer-country"
@@ -22,6 +24,7 @@ rule_name rule.NotAfterForm = codes "not-after-form"
 rule_name rule.SubjectEmpty = codes "subject-empty"
 rule_name rule.AuthorityUnnamed = codes "authority-unnamed"
 rule_name rule.SubjectSetEmpty = codes "subject-set-empty"
+rule_name rule.SubjectSetOrder = codes "subject-set-order"
 rule_name rule.SubjectTextEmpty = codes "subject-text-empty"
 rule_name rule.SubjectTextLong = codes "subject-text-long"
 rule_name rule.SubjectCountry = codes "subject-country"
@@ -34,6 +37,7 @@ rule_name rule.ExponentLow = codes "exponent-low"
 rule_name rule.ExponentEven = codes "exponent-even"
 rule_name rule.IssuerUniqueId = codes "issuer-unique-id"
 rule_name rule.SubjectUniqueId = codes "subject-unique-id"
+rule_name rule.ExtensionRepeated = codes "extension-repeated"
 rule_name rule.CriticalUnknown = codes "critical-unknown"
 rule_name rule.AuthorityKeyCritical = codes "authority-key-critical"
 rule_name rule.AuthorityKeyMissing = codes "authority-key-missing"
@@ -76,8 +80,10 @@ abbrev pub part_of : Rule → Part
 part_of rule.SerialNotPositive = part.SerialNumber
 part_of rule.SerialTooLong = part.SerialNumber
 part_of rule.AlgorithmsDiffer = part.Signature
+part_of rule.SaltLengthSpelled = part.Signature
 part_of rule.IssuerEmpty = part.Issuer
 part_of rule.IssuerSetEmpty = part.Issuer
+part_of rule.IssuerSetOrder = part.Issuer
 part_of rule.IssuerTextEmpty = part.Issuer
 part_of rule.IssuerTextLong = part.Issuer
 part_of rule.IssuerCountry = part.Issuer
@@ -88,6 +94,7 @@ part_of rule.NotAfterForm = part.Validity
 part_of rule.SubjectEmpty = part.Subject
 part_of rule.AuthorityUnnamed = part.Subject
 part_of rule.SubjectSetEmpty = part.Subject
+part_of rule.SubjectSetOrder = part.Subject
 part_of rule.SubjectTextEmpty = part.Subject
 part_of rule.SubjectTextLong = part.Subject
 part_of rule.SubjectCountry = part.Subject
@@ -100,6 +107,7 @@ part_of rule.ExponentLow = part.SubjectPublicKeyInfo
 part_of rule.ExponentEven = part.SubjectPublicKeyInfo
 part_of rule.IssuerUniqueId = part.IssuerUniqueId
 part_of rule.SubjectUniqueId = part.SubjectUniqueId
+part_of rule.ExtensionRepeated = part.Extensions
 part_of rule.CriticalUnknown = part.Extensions
 part_of rule.AuthorityKeyCritical = part.Extensions
 part_of rule.AuthorityKeyMissing = part.Extensions
@@ -140,12 +148,13 @@ part_of rule.SubjectAccessCritical = part.Extensions
 -- all of them, in the order of the places
 abbrev pub all_rules : List Rule
 all_rules =
-    rule.SerialNotPositive ∷ rule.SerialTooLong ∷ rule.AlgorithmsDiffer ∷ rule.IssuerEmpty ∷ rule.IssuerSetEmpty
-    ∷ rule.IssuerTextEmpty ∷ rule.IssuerTextLong ∷ rule.IssuerCountry ∷ rule.IssuerStringType ∷ rule.ValidityReversed
-    ∷ rule.NotBeforeForm ∷ rule.NotAfterForm ∷ rule.SubjectEmpty ∷ rule.AuthorityUnnamed ∷ rule.SubjectSetEmpty
-    ∷ rule.SubjectTextEmpty ∷ rule.SubjectTextLong ∷ rule.SubjectCountry ∷ rule.SubjectStringType
-    ∷ rule.SubjectMailboxUnnamed ∷ rule.ModulusNotPositive ∷ rule.ModulusEven ∷ rule.ModulusShort ∷ rule.ExponentLow
-    ∷ rule.ExponentEven ∷ rule.IssuerUniqueId ∷ rule.SubjectUniqueId ∷ rule.CriticalUnknown
+    rule.SerialNotPositive ∷ rule.SerialTooLong ∷ rule.AlgorithmsDiffer ∷ rule.SaltLengthSpelled ∷ rule.IssuerEmpty
+    ∷ rule.IssuerSetEmpty ∷ rule.IssuerSetOrder ∷ rule.IssuerTextEmpty ∷ rule.IssuerTextLong ∷ rule.IssuerCountry
+    ∷ rule.IssuerStringType ∷ rule.ValidityReversed ∷ rule.NotBeforeForm ∷ rule.NotAfterForm ∷ rule.SubjectEmpty
+    ∷ rule.AuthorityUnnamed ∷ rule.SubjectSetEmpty ∷ rule.SubjectSetOrder ∷ rule.SubjectTextEmpty
+    ∷ rule.SubjectTextLong ∷ rule.SubjectCountry ∷ rule.SubjectStringType ∷ rule.SubjectMailboxUnnamed
+    ∷ rule.ModulusNotPositive ∷ rule.ModulusEven ∷ rule.ModulusShort ∷ rule.ExponentLow ∷ rule.ExponentEven
+    ∷ rule.IssuerUniqueId ∷ rule.SubjectUniqueId ∷ rule.ExtensionRepeated ∷ rule.CriticalUnknown
     ∷ rule.AuthorityKeyCritical ∷ rule.AuthorityKeyMissing ∷ rule.AuthorityKeyPartial ∷ rule.SubjectKeyCritical
     ∷ rule.SubjectKeyMissing ∷ rule.KeyUsageEmpty ∷ rule.KeyUsagePadded ∷ rule.KeyUsageNotCritical
     ∷ rule.SigningWithoutAuthority ∷ rule.AuthorityWithoutSigning ∷ rule.PolicyMappingsNotCritical

@@ -10,10 +10,16 @@ pub(crate) const SERIAL_TOO_LONG: &str =
 pub(crate) const ALGORITHMS_DIFFER: &str =
     "The one beside the signature isn't signed, so anybody can change it.";
 
+pub(crate) const SALT_LENGTH_SPELLED: &str =
+    "One value has two encodings, so that the certificate isn't in DER.";
+
 pub(crate) const ISSUER_EMPTY: &str = "The issuer's own certificate is looked for by this name.";
 
 pub(crate) const ISSUER_SET_EMPTY: &str =
     "A set has at least one, and some programs refuse an empty one.";
+
+pub(crate) const ISSUER_SET_ORDER: &str =
+    "Such a name has several encodings, so that the certificate isn't in DER.";
 
 pub(crate) const ISSUER_TEXT_EMPTY: &str =
     "A text has at least one, and programs compare such names in different ways.";
@@ -41,6 +47,9 @@ pub(crate) const AUTHORITY_UNNAMED: &str = "Certificates that it issues name it 
 
 pub(crate) const SUBJECT_SET_EMPTY: &str =
     "A set has at least one, and some programs refuse an empty one.";
+
+pub(crate) const SUBJECT_SET_ORDER: &str =
+    "Such a name has several encodings, so that the certificate isn't in DER.";
 
 pub(crate) const SUBJECT_TEXT_EMPTY: &str =
     "A text has at least one, and programs compare such names in different ways.";
@@ -74,10 +83,13 @@ pub(crate) const ISSUER_UNIQUE_ID: &str =
 pub(crate) const SUBJECT_UNIQUE_ID: &str =
     "Authorities must not issue such certificates: names are not used again.";
 
+pub(crate) const EXTENSION_REPEATED: &str =
+    "Some programs go by the first one, others by the last.";
+
 pub(crate) const CRITICAL_UNKNOWN: &str = "Programs that don't know it refuse the certificate.";
 
 pub(crate) const AUTHORITY_KEY_CRITICAL: &str =
-    "Programs that don't know it refuse the certificate, though it only helps to find the issuer's key.";
+    "Programs that don't know it refuse the certificate, though they could do without it.";
 
 pub(crate) const AUTHORITY_KEY_MISSING: &str =
     "Among several keys of the issuer the one that signed is found by it.";
@@ -85,7 +97,7 @@ pub(crate) const AUTHORITY_KEY_MISSING: &str =
 pub(crate) const AUTHORITY_KEY_PARTIAL: &str = "Only both together name the issuer's certificate.";
 
 pub(crate) const SUBJECT_KEY_CRITICAL: &str =
-    "Programs that don't know it refuse the certificate, though it only helps to find the key.";
+    "Programs that don't know it refuse the certificate, though they could do without it.";
 
 pub(crate) const SUBJECT_KEY_MISSING: &str =
     "Among several keys of an authority the right one is found by it.";
@@ -131,10 +143,10 @@ pub(crate) const ISSUER_NAMES_EMPTY: &str =
     "A list of names has at least one, and programs refuse an empty one.";
 
 pub(crate) const ISSUER_NAMES_CRITICAL: &str =
-    "Programs that don't know it refuse the certificate, though nothing depends on it.";
+    "Programs that don't know it refuse the certificate, though they could do without it.";
 
 pub(crate) const DIRECTORY_ATTRIBUTES_CRITICAL: &str =
-    "Programs that don't know it refuse the certificate, though it only describes the subject.";
+    "Programs that don't know it refuse the certificate, though they could do without it.";
 
 pub(crate) const AUTHORITY_NOT_CRITICAL: &str =
     "Programs that don't know the extension ignore the limits in it.";
@@ -170,12 +182,12 @@ pub(crate) const ANY_POLICY_NOT_CRITICAL: &str =
     "Programs that don't know the extension accept policies that the issuer forbids.";
 
 pub(crate) const FRESHEST_LIST_CRITICAL: &str =
-    "Programs that don't know it refuse the certificate, though it only helps to find newer lists.";
+    "Programs that don't know it refuse the certificate, though they could do without it.";
 
 pub(crate) const AUTHORITY_ACCESS_CRITICAL: &str =
-    "Programs that don't know it refuse the certificate, though it only helps to find the issuer's services.";
+    "Programs that don't know it refuse the certificate, though they could do without it.";
 
 pub(crate) const SUBJECT_ACCESS_CRITICAL: &str =
-    "Programs that don't know it refuse the certificate, though it only helps to find the subject's services.";
+    "Programs that don't know it refuse the certificate, though they could do without it.";
 
 // Until here.

@@ -14,10 +14,14 @@ pub enum Rule {
     SerialTooLong,
     /// RFC 5280, 4.1.1.2: the algorithm in the signed part isn't the one beside the signature.
     AlgorithmsDiffer,
+    /// X.690, 11.5: a salt length of 20 is encoded, though it is the default.
+    SaltLengthSpelled,
     /// RFC 5280, 4.1.2.4: issuer is empty.
     IssuerEmpty,
     /// RFC 5280, 4.1.2.4: issuer has a set without attributes.
     IssuerSetEmpty,
+    /// X.690, 11.6: issuer has a set whose attributes aren't in order.
+    IssuerSetOrder,
     /// RFC 5280, A.1: issuer has a text without characters.
     IssuerTextEmpty,
     /// RFC 5280, A.1: issuer has a text that is longer than its attribute may be.
@@ -38,6 +42,8 @@ pub enum Rule {
     AuthorityUnnamed,
     /// RFC 5280, 4.1.2.4: subject has a set without attributes.
     SubjectSetEmpty,
+    /// X.690, 11.6: subject has a set whose attributes aren't in order.
+    SubjectSetOrder,
     /// RFC 5280, A.1: subject has a text without characters.
     SubjectTextEmpty,
     /// RFC 5280, A.1: subject has a text that is longer than its attribute may be.
@@ -62,6 +68,8 @@ pub enum Rule {
     IssuerUniqueId,
     /// RFC 5280, 4.1.2.8: subject has a unique identifier.
     SubjectUniqueId,
+    /// RFC 5280, 4.2: an extension stands twice.
+    ExtensionRepeated,
     /// RFC 5280, 4.2: an extension is critical that RFC 5280 doesn't define.
     CriticalUnknown,
     /// RFC 5280, 4.2.1.1: authority key identifier is critical.
@@ -139,12 +147,14 @@ pub enum Rule {
 
 impl Rule {
     /// All rules, in the order of the places that they name.
-    pub const ALL: [Rule; 63] = [
+    pub const ALL: [Rule; 67] = [
         Rule::SerialNotPositive,
         Rule::SerialTooLong,
         Rule::AlgorithmsDiffer,
+        Rule::SaltLengthSpelled,
         Rule::IssuerEmpty,
         Rule::IssuerSetEmpty,
+        Rule::IssuerSetOrder,
         Rule::IssuerTextEmpty,
         Rule::IssuerTextLong,
         Rule::IssuerCountry,
@@ -155,6 +165,7 @@ impl Rule {
         Rule::SubjectEmpty,
         Rule::AuthorityUnnamed,
         Rule::SubjectSetEmpty,
+        Rule::SubjectSetOrder,
         Rule::SubjectTextEmpty,
         Rule::SubjectTextLong,
         Rule::SubjectCountry,
@@ -167,6 +178,7 @@ impl Rule {
         Rule::ExponentEven,
         Rule::IssuerUniqueId,
         Rule::SubjectUniqueId,
+        Rule::ExtensionRepeated,
         Rule::CriticalUnknown,
         Rule::AuthorityKeyCritical,
         Rule::AuthorityKeyMissing,
@@ -213,8 +225,10 @@ impl Rule {
             Rule::SerialNotPositive => "serial-not-positive",
             Rule::SerialTooLong => "serial-too-long",
             Rule::AlgorithmsDiffer => "algorithms-differ",
+            Rule::SaltLengthSpelled => "salt-length-spelled",
             Rule::IssuerEmpty => "issuer-empty",
             Rule::IssuerSetEmpty => "issuer-set-empty",
+            Rule::IssuerSetOrder => "issuer-set-order",
             Rule::IssuerTextEmpty => "issuer-text-empty",
             Rule::IssuerTextLong => "issuer-text-long",
             Rule::IssuerCountry => "issuer-country",
@@ -225,6 +239,7 @@ impl Rule {
             Rule::SubjectEmpty => "subject-empty",
             Rule::AuthorityUnnamed => "authority-unnamed",
             Rule::SubjectSetEmpty => "subject-set-empty",
+            Rule::SubjectSetOrder => "subject-set-order",
             Rule::SubjectTextEmpty => "subject-text-empty",
             Rule::SubjectTextLong => "subject-text-long",
             Rule::SubjectCountry => "subject-country",
@@ -237,6 +252,7 @@ impl Rule {
             Rule::ExponentEven => "exponent-even",
             Rule::IssuerUniqueId => "issuer-unique-id",
             Rule::SubjectUniqueId => "subject-unique-id",
+            Rule::ExtensionRepeated => "extension-repeated",
             Rule::CriticalUnknown => "critical-unknown",
             Rule::AuthorityKeyCritical => "authority-key-critical",
             Rule::AuthorityKeyMissing => "authority-key-missing",
@@ -285,8 +301,10 @@ impl Rule {
             "serial-not-positive" => Some(Rule::SerialNotPositive),
             "serial-too-long" => Some(Rule::SerialTooLong),
             "algorithms-differ" => Some(Rule::AlgorithmsDiffer),
+            "salt-length-spelled" => Some(Rule::SaltLengthSpelled),
             "issuer-empty" => Some(Rule::IssuerEmpty),
             "issuer-set-empty" => Some(Rule::IssuerSetEmpty),
+            "issuer-set-order" => Some(Rule::IssuerSetOrder),
             "issuer-text-empty" => Some(Rule::IssuerTextEmpty),
             "issuer-text-long" => Some(Rule::IssuerTextLong),
             "issuer-country" => Some(Rule::IssuerCountry),
@@ -297,6 +315,7 @@ impl Rule {
             "subject-empty" => Some(Rule::SubjectEmpty),
             "authority-unnamed" => Some(Rule::AuthorityUnnamed),
             "subject-set-empty" => Some(Rule::SubjectSetEmpty),
+            "subject-set-order" => Some(Rule::SubjectSetOrder),
             "subject-text-empty" => Some(Rule::SubjectTextEmpty),
             "subject-text-long" => Some(Rule::SubjectTextLong),
             "subject-country" => Some(Rule::SubjectCountry),
@@ -309,6 +328,7 @@ impl Rule {
             "exponent-even" => Some(Rule::ExponentEven),
             "issuer-unique-id" => Some(Rule::IssuerUniqueId),
             "subject-unique-id" => Some(Rule::SubjectUniqueId),
+            "extension-repeated" => Some(Rule::ExtensionRepeated),
             "critical-unknown" => Some(Rule::CriticalUnknown),
             "authority-key-critical" => Some(Rule::AuthorityKeyCritical),
             "authority-key-missing" => Some(Rule::AuthorityKeyMissing),
@@ -357,8 +377,10 @@ impl Rule {
             Rule::SerialNotPositive => Part::SerialNumber,
             Rule::SerialTooLong => Part::SerialNumber,
             Rule::AlgorithmsDiffer => Part::Signature,
+            Rule::SaltLengthSpelled => Part::Signature,
             Rule::IssuerEmpty => Part::Issuer,
             Rule::IssuerSetEmpty => Part::Issuer,
+            Rule::IssuerSetOrder => Part::Issuer,
             Rule::IssuerTextEmpty => Part::Issuer,
             Rule::IssuerTextLong => Part::Issuer,
             Rule::IssuerCountry => Part::Issuer,
@@ -369,6 +391,7 @@ impl Rule {
             Rule::SubjectEmpty => Part::Subject,
             Rule::AuthorityUnnamed => Part::Subject,
             Rule::SubjectSetEmpty => Part::Subject,
+            Rule::SubjectSetOrder => Part::Subject,
             Rule::SubjectTextEmpty => Part::Subject,
             Rule::SubjectTextLong => Part::Subject,
             Rule::SubjectCountry => Part::Subject,
@@ -381,6 +404,7 @@ impl Rule {
             Rule::ExponentEven => Part::SubjectPublicKeyInfo,
             Rule::IssuerUniqueId => Part::IssuerUniqueId,
             Rule::SubjectUniqueId => Part::SubjectUniqueId,
+            Rule::ExtensionRepeated => Part::Extensions,
             Rule::CriticalUnknown => Part::Extensions,
             Rule::AuthorityKeyCritical => Part::Extensions,
             Rule::AuthorityKeyMissing => Part::Extensions,

@@ -8,9 +8,14 @@ pub(crate) const SERIAL_TOO_LONG: &str = "serial number has more than 20 octets"
 pub(crate) const ALGORITHMS_DIFFER: &str =
     "the algorithm in the signed part isn't the one beside the signature";
 
+pub(crate) const SALT_LENGTH_SPELLED: &str =
+    "a salt length of 20 is encoded, though it is the default";
+
 pub(crate) const ISSUER_EMPTY: &str = "issuer is empty";
 
 pub(crate) const ISSUER_SET_EMPTY: &str = "issuer has a set without attributes";
+
+pub(crate) const ISSUER_SET_ORDER: &str = "issuer has a set whose attributes aren't in order";
 
 pub(crate) const ISSUER_TEXT_EMPTY: &str = "issuer has a text without characters";
 
@@ -33,6 +38,8 @@ pub(crate) const SUBJECT_EMPTY: &str = "subject is empty, and no critical subjec
 pub(crate) const AUTHORITY_UNNAMED: &str = "subject of an authority is empty";
 
 pub(crate) const SUBJECT_SET_EMPTY: &str = "subject has a set without attributes";
+
+pub(crate) const SUBJECT_SET_ORDER: &str = "subject has a set whose attributes aren't in order";
 
 pub(crate) const SUBJECT_TEXT_EMPTY: &str = "subject has a text without characters";
 
@@ -60,6 +67,8 @@ pub(crate) const EXPONENT_EVEN: &str = "RSA exponent is even";
 pub(crate) const ISSUER_UNIQUE_ID: &str = "issuer has a unique identifier";
 
 pub(crate) const SUBJECT_UNIQUE_ID: &str = "subject has a unique identifier";
+
+pub(crate) const EXTENSION_REPEATED: &str = "an extension stands twice";
 
 pub(crate) const CRITICAL_UNKNOWN: &str = "an extension is critical that RFC 5280 doesn't define";
 

@@ -28,6 +28,14 @@ mod c {
             room: usize,
             count: *mut usize,
         ) -> u32;
+        pub(super) fn cimaroly_request_findings(
+            memory: *mut Memory,
+            der: *const u8,
+            der_size: usize,
+            findings: *mut Finding,
+            room: usize,
+            count: *mut usize,
+        ) -> u32;
     }
 }
 
@@ -55,4 +63,16 @@ pub(crate) fn findings(
     let (at, room) = (out.as_mut_ptr(), out.len());
     // SAFETY: as above.
     unsafe { c::cimaroly_findings(&mut memory, der.as_ptr(), der.len(), at, room, count) }
+}
+
+pub(crate) fn request_findings(
+    memory: &mut [Block],
+    der: &[u8],
+    out: &mut [Finding],
+    count: &mut usize,
+) -> u32 {
+    let mut memory = Memory::of(memory);
+    let (at, room) = (out.as_mut_ptr(), out.len());
+    // SAFETY: as above.
+    unsafe { c::cimaroly_request_findings(&mut memory, der.as_ptr(), der.len(), at, room, count) }
 }

@@ -6,12 +6,16 @@ returns-in-Ok g c =
     let read = c.in-Ok.ensures.read in
     let puts = c.put_findings-sized.ensures in
     record {
-      done = λ q. record { value = c.in-Ok.value; tally = read.0; whole = read.1; places = c.of-places.result; stand = c.of-places.ensures read.0 read.1.spelled; list = puts.list; all = puts.all; holds = puts.puts.done q };
-      short = λ q. record { value = c.in-Ok.value; tally = read.0; whole = read.1; places = c.of-places.result; stand = c.of-places.ensures read.0 read.1.spelled; list = puts.list; all = puts.all; holds = puts.puts.short q };
-      refused = λ q. absurd (puts.puts.refused q);
-      memory = λ q. absurd (puts.puts.memory q);
-      unknown = puts.puts.unknown;
-      long = puts.puts.long;
+      done = λ q.
+          let told = puts.done q in
+          record { value = c.in-Ok.value; tally = read.0; whole = read.1; places = c.of-places.result; stand = c.of-places.ensures read.0 read.1.spelled; list = told.list; all = told.all; holds = told.holds };
+      short = λ q.
+          let told = puts.short q in
+          record { value = c.in-Ok.value; tally = read.0; whole = read.1; places = c.of-places.result; stand = c.of-places.ensures read.0 read.1.spelled; list = told.list; all = told.all; holds = told.holds };
+      refused = λ q. absurd (puts.refused q);
+      memory = puts.memory;
+      unknown = puts.unknown;
+      long = puts.long;
     }
 
 pub returns-in-Err : goal.returns-in-Err
