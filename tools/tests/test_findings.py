@@ -60,15 +60,16 @@ IN_PYTHON = """
 import json, sys
 import cimaroly
 for path in sys.argv[1:]:
+    kind = "request" if "/request" in path else "certificate"
     with open(path, "rb") as file:
-        found = cimaroly.read(file.read()).findings
+        found = cimaroly.read(file.read(), kind).findings
     print(json.dumps([[it.rule, it.severity, it.text, it.clause, it.start, it.end, it.reason] for it in found]))
 """
 IN_JAVASCRIPT = """
 import { readFileSync } from "node:fs";
 import { read } from "./web/cimaroly.mjs";
 for (const path of process.argv.slice(2)) {
-  const { findings } = read(readFileSync(path));
+  const { findings } = read(readFileSync(path), path.includes("/request") ? "request" : "certificate");
   const told = findings.map((it) => [it.rule, it.severity, it.text, it.clause, it.start, it.end, it.reason]);
   console.log(JSON.stringify(told));
 }

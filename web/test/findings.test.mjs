@@ -1,4 +1,4 @@
-// The rules that certificates break, compared with what the program says of the same files.
+// The rules that certificates and requests break, compared with what the program says of the same files.
 
 import assert from "node:assert/strict";
 import { createRequire } from "node:module";
@@ -57,7 +57,7 @@ test("findings are those of the program", { skip: NOT_HERE }, () => {
     const [line] = run("lint", "--json", `${DATA}/${name}`).split("\n");
     const told = line === "" ? {} : JSON.parse(line);
     if (told.findings === undefined) continue;
-    const found = read(sample(name)).findings;
+    const found = read(sample(name), told.type).findings;
     const stated = told.findings.map(({ at: [start, end], ...it }) => ({ ...it, start, end }));
     assert.deepEqual(found.map(({ reason, ...it }) => it), stated, name);
     total += found.length;
@@ -65,10 +65,12 @@ test("findings are those of the program", { skip: NOT_HERE }, () => {
   assert.ok(total > 10, String(total));
 });
 
-test("the page has findings of certificates alone", () => {
+test("the page has findings of certificates and requests alone", () => {
   const entryOf = (bytes, kind) => new Entry(cimaroly, { file: "it", kind, bytes });
   assert.deepEqual(placed(entryOf(FAULTY, "certificate").findings), BROKEN);
   assert.deepEqual(entryOf(FAULTY, "certificate-outline").findings, []);
+  const [request] = structuresIn(sample("request_rsa.pem"));
+  assert.deepEqual(new Entry(cimaroly, request).findings.map((it) => it.rule), ["modulus-short", "key-usage-not-critical"]);
   const [refused] = structuresIn(sample("refused_month_13.pem"));
   assert.deepEqual(new Entry(cimaroly, refused).findings, []);
   assert.equal(headingOf(read(FAULTY).findings), "Findings: 6 errors and 1 warning");

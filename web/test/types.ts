@@ -82,9 +82,10 @@ export async function valuesOfEach(der: Uint8Array, kind: Kind): Promise<string[
     Same<typeof key.publicKey, PublicKey | null>,
     Same<typeof any.issuer, Name | undefined>,
     Same<typeof certificate.findings, Finding[]>,
-    Same<typeof request.findings, undefined>,
+    Same<typeof request.findings, Finding[]>,
+    Same<typeof key.findings, undefined>,
     Same<ReturnType<typeof certificate.validity>, "valid" | "not yet valid" | "expired">,
-  ] = [true, true, true, true, true, true, true, true, true, true, true, true, true, true, true];
+  ] = [true, true, true, true, true, true, true, true, true, true, true, true, true, true, true, true];
   // @ts-expect-error A certificate may have no such extension.
   certificate.alternativeNames.length;
   // @ts-expect-error There is no such usage.

@@ -1,4 +1,4 @@
-"""Tests the rules that certificates break, by certificates made by hand (RFC 5280, 4.1), and against the program."""
+"""Tests the rules that certificates and requests break, by some made by hand (RFC 5280, 4.1), and by the program."""
 
 from __future__ import annotations
 
@@ -70,8 +70,8 @@ class Findings(unittest.TestCase):
         self.assertEqual(again.findings, certificate.findings)
         self.assertEqual(pickle.loads(pickle.dumps(certificate.findings)), certificate.findings)
 
-    def test_only_certificates_have_them(self) -> None:
-        for kind in ("request", "public-key", "private-key"):
+    def test_only_certificates_and_requests_have_them(self) -> None:
+        for kind in ("public-key", "private-key"):
             for _, _, structure in contents(kind):  # type: ignore[arg-type]
                 self.assertFalse(hasattr(structure, "findings"), kind)
 
@@ -79,9 +79,9 @@ class Findings(unittest.TestCase):
     def test_as_the_program_tells(self) -> None:
         reasons = {it["rule"]: it["reason"] for it in printed("--list")}
         total = 0
-        for path, _, structure in contents("certificate"):
-            assert isinstance(structure, cimaroly.Certificate)
-            told = [it for it in printed(path) if it.get("type") == "certificate"][0]["findings"]
+        for path, _, structure in (*contents("certificate"), *contents("request")):
+            assert isinstance(structure, (cimaroly.Certificate, cimaroly.Request))
+            told = [it for it in printed(path) if it.get("type") == structure.kind][0]["findings"]
             members = ("rule", "severity", "text", "clause")
             wanted = [(*(it[key] for key in members), reasons[it["rule"]], *it["at"]) for it in told]
             self.assertEqual([tuple(it) for it in structure.findings], wanted, path)
