@@ -133,7 +133,9 @@ async function goToFindings(context) {
     const { nodes } = await page.send("Accessibility.getFullAXTree");
     const names = nodes.filter((it) => it.role?.value === "button" && !it.ignored).map((it) => it.name?.value);
     assert.ok(names.includes("issuer is empty: bytes 19 to 21, tbsCertificate › issuer"), names.join("; "));
-    for (const name of ["certificate_rsa.pem", "request_rsa.pem", "private_key_ec.pem", "refused_month_13.pem"]) {
+    await page.drop("request_rsa.pem", sample("request_rsa.pem"));
+    assert.deepEqual(await page.run(texts(".finding .place")), ["148..310", "310..374"]);
+    for (const name of ["certificate_rsa.pem", "request_ec.pem", "private_key_ec.pem", "refused_month_13.pem"]) {
       await page.drop(name, sample(name));
       assert.equal(await page.run(`document.getElementById("findings").checkVisibility()`), false, name);
       assert.equal(await page.run(count(".finding")), 0, name);
