@@ -10,7 +10,7 @@ import tempfile
 import unittest
 
 from cimaroly_program import DATA, NEEDS_PROGRAM, PROGRAM, ROOT, STORE, run
-from faulty_certificates import BOTH, BROKEN, KEPT, UNSORTED, algorithm, certificate, ed25519_key, place_of
+from faulty_certificates import BOTH, BROKEN, KEPT, UNSORTED, algorithm, certificate, ed25519_key, extension, name_of_sets, place_of, signed
 from faulty_requests import BROKEN_BY_REQUEST, KEPT_BY_REQUEST, PLACES, asking, request
 from faulty_requests import place_of as place_in_request
 
@@ -62,6 +62,26 @@ class Rules(unittest.TestCase):
                     self.assertEqual(found("--rule", name, data=data), ([it for it in found_in_all if it[0] == name], 3))
                     self.assertEqual(found("--rule", ",".join(names), "--ignore", name, data=data)[0], others)
                     self.assertEqual(found("--ignore", ",".join(names), data=data), ([], 0))
+
+
+@NEEDS_PROGRAM
+class Many(unittest.TestCase):
+    """Hostile certificates, which must not take time by pairs."""
+
+    def told(self, **changes):
+        out, _, status = run("lint", "--json", "-", data=certificate(**changes), timeout=60)
+        return [it["rule"] for it in json.loads(out)["findings"]], status
+
+    def test_extensions(self):
+        others = [extension(f"1.2.3.{it}", b"\x05\x00") for it in range(1, 100_000)]
+        self.assertEqual(self.told(**signed(*others)), ([], 0))
+        self.assertEqual(self.told(**signed(*others, others[0])), (["extension-repeated"], 3))
+
+    def test_names(self):
+        rows = [b"%06d" % it for it in range(100_000)]
+        self.assertEqual(self.told(issuer=name_of_sets(*([it] for it in rows))), ([], 0))
+        self.assertEqual(self.told(subject=name_of_sets(rows)), ([], 0))
+        self.assertEqual(self.told(subject=name_of_sets([*rows, rows[0]])), (["subject-set-order"], 3))
 
 
 def of_requests(rule):
@@ -162,7 +182,8 @@ class Check(unittest.TestCase):
         without_null = algorithm("1.2.840.113549.1.1.11")
         fields = {"subject": UNSORTED[0], "signature": without_null, "signatureAlgorithm": without_null}
         out, _, status = run("check", "-", data=certificate(**fields))
-        self.assertRegex(out.decode(), r"^-: certificate: 2 deviations: RSA parameters absent at .*; not in DER: subject has a set .* \(X.690, 11.6\)\n$")
+        wanted = r"^-: certificate: 2 deviations: RSA parameters absent at .*; not in DER: subject has a set .* \(X.690, 11.6\)\n$"
+        self.assertRegex(out.decode(), wanted)
         self.assertEqual(status, 3)
 
 

@@ -1,4 +1,4 @@
-"""Tests how rt_ci.py orders checks: what begins, with how many jobs and at which priority, and what another rt is run as."""
+"""Tests how run_rt.py has rt order checks and read crates: what begins, with how many jobs and at which priority; and what else is run."""
 
 import os
 import subprocess
@@ -10,7 +10,7 @@ import unittest
 ROOT = os.path.dirname(os.path.dirname(os.path.dirname(os.path.abspath(__file__))))
 sys.path.insert(0, f"{ROOT}/tools")
 
-import rt_ci  # noqa: E402
+import run_rt  # noqa: E402
 
 ANOTHER = """import sys
 
@@ -68,7 +68,7 @@ class Tasks:
         self.tasks[key] = ([*waits], lines, needs, call)
 
     def run(self, lanes=4, memory=100):
-        return rt_ci.in_lanes(rt_ci.Plan(self.tasks, lanes, memory))
+        return run_rt.in_lanes(run_rt.Plan(self.tasks, lanes, memory))
 
 
 class OrderTest(unittest.TestCase):
@@ -79,7 +79,7 @@ class OrderTest(unittest.TestCase):
         tasks.add("high", ["low"], lines=10)
         self.assertEqual(tasks.run(), {"low": "LOW", "aside": "ASIDE", "high": "HIGH"})
         told = {key: (jobs, nice) for key, jobs, nice, _ in tasks.begun}
-        self.assertEqual(told, {"low": (4, 0), "aside": (1, rt_ci.NICER), "high": (4, 0)})
+        self.assertEqual(told, {"low": (4, 0), "aside": (1, run_rt.NICER), "high": (4, 0)})
         self.assertIn("low", next(given for key, _, _, given in tasks.begun if key == "high"))
 
     def test_chains(self):
@@ -88,14 +88,14 @@ class OrderTest(unittest.TestCase):
         tasks.add("left", ["low"], lines=5)
         tasks.add("right", ["low"], lines=2)
         tasks.add("top", ["low", "right"], lines=4)
-        self.assertEqual(rt_ci.chains(tasks.tasks), {"low": 7, "left": 5, "right": 6, "top": 4})
+        self.assertEqual(run_rt.chains(tasks.tasks), {"low": 7, "left": 5, "right": 6, "top": 4})
 
     def test_beside_the_chain_stands_one_fewer_than_processors(self):
         tasks = Tasks()
         for key in "abcde":
             tasks.add(key, lines=5 if key == "a" else 1)
-        plan = rt_ci.Plan(tasks.tasks, 3, 100)
-        nicer = rt_ci.NICER
+        plan = run_rt.Plan(tasks.tasks, 3, 100)
+        nicer = run_rt.NICER
         begun = [("a", 3, 0), ("b", 1, nicer), ("c", 1, nicer), None]
         self.assertEqual([plan.next({}), plan.next({}), plan.next({}), plan.next({})], begun)
         plan.end("b")
@@ -107,15 +107,15 @@ class OrderTest(unittest.TestCase):
         tasks = Tasks()
         for key, lines in (("a", 100), ("b", 80), ("c", 10)):
             tasks.add(key, lines=lines)
-        plan = rt_ci.Plan(tasks.tasks, 4, 100)
-        self.assertEqual([plan.next({}), plan.next({}), plan.next({})], [("a", 4, 0), ("b", 2, 0), ("c", 1, rt_ci.NICER)])
+        plan = run_rt.Plan(tasks.tasks, 4, 100)
+        self.assertEqual([plan.next({}), plan.next({}), plan.next({})], [("a", 4, 0), ("b", 2, 0), ("c", 1, run_rt.NICER)])
 
     def test_memory(self):
         tasks = Tasks()
         tasks.add("first", lines=9, needs=60)
         tasks.add("second", lines=1, needs=60)
         tasks.add("small", lines=1, needs=10)
-        plan = rt_ci.Plan(tasks.tasks, 4, 100)
+        plan = run_rt.Plan(tasks.tasks, 4, 100)
         # One more job is 36 more.
         self.assertEqual(plan.next({}), ("first", 2, 0))
         self.assertIsNone(plan.next({}))
@@ -130,7 +130,7 @@ class OrderTest(unittest.TestCase):
         tasks.add("high", ["low"], lines=9, needs=80)
         tasks.add("aside", lines=1, needs=50)
         tasks.add("small", lines=1, needs=1)
-        plan = rt_ci.Plan(tasks.tasks, 2, 100)
+        plan = run_rt.Plan(tasks.tasks, 2, 100)
         self.assertEqual(plan.next({}), ("low", 2, 0))
         plan.end("low")
         plan.running["aside"] = 50
@@ -172,7 +172,7 @@ class SumTest(unittest.TestCase):
         class Remembered(Crate):
             pass
 
-        rt_ci.remember(Remembered)
+        run_rt.remember(Remembered)
         for kind, times in ((Crate, 8), (Remembered, 4)):
             low = kind("low", [])
             left, right = kind("left", [low]), kind("right", [low])
@@ -184,23 +184,26 @@ class SumTest(unittest.TestCase):
 
 
 class CommandTest(unittest.TestCase):
-    def ran(self, text):
-        with tempfile.TemporaryDirectory(prefix="rt-ci-") as room:
+    def ran(self, text, *words):
+        with tempfile.TemporaryDirectory(prefix="run-rt-") as room:
             if text:
                 with open(f"{room}/rt", "w", encoding="utf-8") as it:
                     it.write(f"#!{sys.executable}\n{text}")
                 os.chmod(f"{room}/rt", 0o755)
-            words = [sys.executable, f"{ROOT}/tools/rt_ci.py"]
-            return subprocess.run(words, env={"PATH": room}, capture_output=True, encoding="utf-8", check=False)
+            command = [sys.executable, f"{ROOT}/tools/run_rt.py", *words]
+            return subprocess.run(command, env={"PATH": room}, capture_output=True, encoding="utf-8", check=False)
 
     def test_rt_with_another_order(self):
         ended = self.ran(ORDERED)
         self.assertEqual((ended.returncode, ended.stdout), (0, "['ci'] 2 []\n['ci'] 2 ['low']\n"), ended.stderr)
+        ended = self.ran(ORDERED, "check", "--only", "it")
+        self.assertEqual(ended.stdout.splitlines()[0], "['check', '--only', 'it'] 2 []", ended.stderr)
 
     def test_another_rt_is_run_as_it_is(self):
         for text in (ANOTHER, ANOTHER.replace("def main", "def other"), "import sys\nprint('rt', *sys.argv[1:])\nsys.exit(7)\n"):
             ended = self.ran(text)
             self.assertEqual((ended.returncode, ended.stdout.splitlines()[-1]), (7, "rt ci"), ended.stderr)
+            self.assertEqual(self.ran(text, "check", "--test").stdout.splitlines()[-1], "rt check --test")
 
     def test_no_rt(self):
         ended = self.ran("")

@@ -1,18 +1,17 @@
 #!/usr/bin/env python3
-"""Runs rt ci, with the processors given to its checks in another order.
+"""Runs the toolchain's command rt, with two of its functions in another form, so that it takes less time.
 
-usage: tools/rt_ci.py
+usage: tools/run_rt.py [COMMAND ..]   'ci', or as in 'check --only PATH' in a crate's folder
 
 rt ci gives each check one processor while others wait for one, so the longest chain of crates, one above the other, takes longer
 than all other work. Here the check that has most of that chain behind it gets as many jobs as there are processors, and one of a
 chain that is nearly as long half as many. The others are nicer. Beside the first run one fewer than there are processors, or than
 RT_JOBS says.
 
-rt also computes the checksum of all that a library is made of, twice for each, and that of a crate by those of each crate that it
-lists, which lists others: over this repository's crates that is 90,000 crates, in one thread. Here a crate is read once a question.
+rt also computes the checksum of all that a library is made of, and that of a crate by those of each crate that it lists, which
+list others: for the crates at the top that is many thousand crates, in one thread. Here a crate is read once a question.
 
-What is checked, and how, is rt's own: its command is run in this process, with these two functions of it in another form. Where a
-toolchain's rt has no such functions, it is run as it is.
+What is checked, and how, is rt's own. Where a toolchain's rt has no such functions, it is run as it is.
 """
 
 import importlib.machinery
@@ -162,7 +161,7 @@ def remember(crates):
     crates.stamp = stamp
 
 
-def main():
+def main(words):
     path = shutil.which("rt")
     if not path:
         sys.exit("the toolchain's command rt isn't on the PATH: README says what is needed")
@@ -171,11 +170,11 @@ def main():
         if not is_known(rt):
             raise ValueError
     except (Exception, SystemExit):  # (whatever another rt may be)
-        os.execv(path, [path, "ci"])
+        os.execv(path, [path, *words])
     order(rt)
     remember(rt.rtlib.Crate)
-    return rt.main(["ci"])
+    return rt.main(words)
 
 
 if __name__ == "__main__":
-    sys.exit(main())
+    sys.exit(main(sys.argv[1:] or ["ci"]))
